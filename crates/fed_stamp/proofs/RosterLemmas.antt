@@ -198,7 +198,7 @@ module _ (pairs : List (Bor (List ℕ) × ℕ)) (i : ℕ) (d : Bor (List ℕ) ×
   filled_more stored word m e f =
       let within : i < length stored = rw (f.len) (omega arith) in
       let here : slice_get (sites_of pairs) i ≡ Some (word, (get_or pairs i d).1) =
-          slice_get-get_or (sites_of pairs) i ([], 0) (rw (length_sites) h) ∙ ap Some (get_or-map (λ s. (s.0.now, s.1)) pairs i d ([], 0) h) ∙ ap (λ t. Some (t, (get_or pairs i d).1)) (sym e) in
+      slice_get-get_or (sites_of pairs) i ([], 0) (rw (length_sites) h) ∙ ap Some (get_or-map (λ s. (s.0.now, s.1)) pairs i d ([], 0) h) ∙ ap (λ t. Some (t, (get_or pairs i d).1)) (sym e) in
       record {
         len = length-set stored i _ ∙ f.len;
         front = λ k l. elim (cases_eq k i) [

@@ -60,9 +60,9 @@ is_misstaffed sites k = not (is_node_count (nodes_at sites k))
 unfoldable pub first_fault : List (List ℕ × ℕ) → Option RosterFault
 first_fault sites =
     if nat_le 1 (length sites) && nat_le (length sites) 16 then
-      option_or (option_map Name (least_index (is_misnamed sites) (length sites)))
-      (option_or (option_map Twice (least_index (is_repeated sites) (length sites)))
-      (option_map Nodes (least_index (is_misstaffed sites) (length sites))))
+    option_or (option_map Name (least_index (is_misnamed sites) (length sites)))
+    (option_or (option_map Twice (least_index (is_repeated sites) (length sites)))
+    (option_map Nodes (least_index (is_misstaffed sites) (length sites))))
     else Some Count
 
 abbrev pub number_of : RosterFault → ℕ
