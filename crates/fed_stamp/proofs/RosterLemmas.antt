@@ -177,6 +177,14 @@ module _ (sites : List (List ℕ × ℕ)) (i : ℕ) where
     | inr l ↦ l
   ]
 
+  -- its number of nodes
+  pub staffed_site : (s : List ℕ × ℕ) → IsRoster sites → slice_get sites i ≡ Some s → (1 ≤ s.1) × (s.1 ≤ 1_000_000)
+  staffed_site s r e =
+      let h : is_node_count (get_or sites i ([], 0)).1 ≡ true = r.staffed i ([], 0) (within_from_site s e) in
+      let p : is_node_count s.1 ≡ true = ap (λ (t : List ℕ × ℕ). is_node_count t.1) (sym (get_or_from_slice_get sites i s ([], 0) e)) ∙ h in
+      let q = and_parts _ _ p in
+      (leb-true 1 _ q.0, leb-true _ 1_000_000 q.1)
+
 -- ---- one more site in its place
 site_name_is_name : (text : List ℕ) → is_site_name text ≡ true → is_name text ≡ true
 unfolding is_site_name

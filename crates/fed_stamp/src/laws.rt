@@ -1,5 +1,5 @@
-//! The laws of stamps and versions. What a function of this module ensures is the law; the laws of
-//! versions are of all lists of counters, whatever their lengths, and their functions have no body.
+//! The laws of stamps and versions: what each function of this module ensures. The laws of versions
+//! hold of all lists of counters, whatever their lengths, and their functions do nothing.
 ghost use Rattle.std.specs.Prelude.{◌≡◌, ℕ, List, length, IsTrue, ◌≤◌, ◌||◌, ◌&&◌, ◌==◌, nat_lt};
 ghost use Rattle.fed_stamp.specs.Stamp.{StampValue};
 ghost use Rattle.fed_stamp.specs.Version.{covers, joined, met, is_below, greatest};

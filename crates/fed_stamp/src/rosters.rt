@@ -217,7 +217,8 @@ impl Roster {
     /// How many nodes a site has, from 1 to `MAX_NODES`, or `None` where the roster has no site of this
     /// number.
     pub fn nodes(&self, site: SiteId) -> Option<u64>
-        ensures { result ≡ option_map (λ s. s.1) (slice_get self.now site) }
+        ensures same { result ≡ option_map (λ s. s.1) (slice_get self.now site) }
+        ensures in_range { IfSome result (λ n. (1 ≤ n) × (n ≤ MAX_NODES)) }
     {
         match self.sites[site.get() as usize] {
             Some((_, nodes)) => Some(nodes),
