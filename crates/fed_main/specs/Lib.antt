@@ -1,0 +1,10 @@
+-- What the contracts of this crate cite.
+pub mod Decimals
+pub mod Fault
+pub mod Identifiers
+pub mod Lines
+pub mod Listing
+pub mod Reading
+pub mod Replay
+pub mod Rosters
+pub mod Session

@@ -1,0 +1,96 @@
+//! The text of identifiers and listings.
+ghost use Rattle.std.specs.Prelude.{◌≡◌, IfOk, string_bytes};
+ghost use Rattle.std.specs.List.{join_with_byte};
+ghost use Rattle.fed_main.specs.Listing.{granted_text as text_of_granted, identifier_text as text_of_identifier, line_of, names, numbers, site_text as text_of_site};
+
+use fed_stamp::{JobId, Roster, SiteId, Word};
+use std::alloc::{AllocError, Global};
+
+/// What a short listing shows of a job.
+#[derive(Clone, Copy, Drop)]
+pub struct ShownJob {
+    pub id: JobId,
+    pub name: Word,
+    pub owner: Word,
+    pub letter: char,
+    pub priority: i16,
+    pub nodes: u64,
+    /// In seconds.
+    pub limit: u64,
+    /// The site that the job is granted to.
+    pub granted: Option<SiteId>,
+}
+
+/// The name of a site, or `#` and its number where the roster has no such site.
+fn site_text(alloc: Global, roster: &Roster, site: SiteId) -> Result<String, AllocError>
+    ensures { IfOk result (λ text. string_bytes text ≡ text_of_site roster.now site) }
+{
+    match roster.name(site) {
+        Some(name) => String::from_str(alloc, name),
+        None => format!(in alloc; "#{}", site.get()),
+    }
+}
+
+/// The identifier of a job: its counter in decimal, a dot and its site.
+pub fn identifier_text(alloc: Global, roster: &Roster, id: JobId) -> Result<String, AllocError>
+    ensures { IfOk result (λ text. string_bytes text ≡ text_of_identifier roster.now id) }
+{
+    let site = site_text(alloc, roster, id.site())?;
+    let counter = id.counter();
+    format!(in alloc; "{counter}.{site}")
+}
+
+/// The site that a job is granted to, or `-` where there is none.
+fn granted_text(
+    alloc: Global,
+    roster: &Roster,
+    granted: Option<SiteId>,
+) -> Result<String, AllocError>
+    ensures { IfOk result (λ text. string_bytes text ≡ text_of_granted roster.now granted) }
+{
+    match granted {
+        Some(site) => site_text(alloc, roster, site),
+        None => String::from_str(alloc, "-"),
+    }
+}
+
+/// The fields of a job's line that are names, each left in its columns, and the letter.
+fn names_text(
+    alloc: Global,
+    identifier: &str,
+    name: &str,
+    owner: &str,
+    letter: char,
+) -> Result<String, AllocError>
+    ensures { IfOk result (λ text. string_bytes text ≡ join_with_byte 32 (names identifier.now name.now owner.now letter)) }
+{
+    format!(in alloc; "{identifier:<18} {name:<16} {owner:<16} {letter}")
+}
+
+/// The fields of a job's line that are numbers, each right in its columns, and the granted site.
+fn numbers_text(
+    alloc: Global,
+    priority: i16,
+    nodes: u64,
+    limit: u64,
+    granted: &str,
+) -> Result<String, AllocError>
+    ensures { IfOk result (λ text. string_bytes text ≡ join_with_byte 32 (numbers priority nodes limit granted.now)) }
+{
+    format!(in alloc; "{priority:>6} {nodes:>8} {limit:>9} {granted}")
+}
+
+/// The line of a short listing that shows a job. Its fields are parted by one space: the identifier left in 18 columns, the
+/// name left in 16, the owner left in 16, the letter, the priority right in 6, the nodes right in 8, the limit right in 9, and
+/// the granted site or `-`. A longer field isn't cut. A line feed ends the line.
+pub fn job_line(alloc: Global, roster: &Roster, job: &ShownJob) -> Result<String, AllocError>
+    ensures { IfOk result (λ text. string_bytes text ≡ line_of roster.now job.now) }
+{
+    let identifier = identifier_text(alloc, roster, job.id)?;
+    let granted = granted_text(alloc, roster, job.granted)?;
+    let (name, owner) = (job.name.as_str(), job.owner.as_str());
+    let names = names_text(alloc, identifier.as_str(), name, owner, job.letter)?;
+    let priority = job.priority;
+    let numbers = numbers_text(alloc, priority, job.nodes, job.limit, granted.as_str())?;
+    format!(in alloc; "{names} {numbers}\n")
+}
