@@ -3,6 +3,7 @@ pub mod DigitWords
 pub mod KnownBytes
 pub mod LineCuts
 pub mod ReadableLines
+pub mod Requests
 pub mod Runs
 pub mod SiteWords
 pub mod WordCuts

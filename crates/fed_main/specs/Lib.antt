@@ -4,6 +4,7 @@ pub mod Fault
 pub mod Identifiers
 pub mod Lines
 pub mod Listing
+pub mod Priorities
 pub mod Reading
 pub mod Replay
 pub mod Rosters

@@ -6,6 +6,7 @@ mod fault;
 mod identifiers;
 mod lines;
 mod listing;
+mod priorities;
 mod rosters;
 mod run;
 mod script;
