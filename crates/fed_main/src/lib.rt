@@ -14,3 +14,6 @@ mod session;
 
 pub use fault::RunFault;
 pub use run::replay;
+
+#[cfg(test)]
+mod tests;
