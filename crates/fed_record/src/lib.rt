@@ -1,0 +1,39 @@
+//! Operations on jobs and reservations, the values that they are made of, and what a set of them says of one job.
+#![tactic(auto)]
+
+pub mod accounts;
+pub mod askers;
+pub mod commands;
+pub mod grants;
+pub mod holds;
+pub mod letters;
+pub mod limits;
+pub mod moments;
+pub mod node_counts;
+pub mod operations;
+pub mod priorities;
+pub mod progress;
+pub mod refusals;
+pub mod replies;
+pub mod terms;
+pub mod values;
+pub mod windows;
+
+pub use accounts::Account;
+pub use askers::{Role, Who};
+pub use commands::Command;
+pub use grants::GrantStage;
+pub use holds::{HoldKind, HoldKinds};
+pub use letters::Letter;
+pub use limits::{Limit, MAX_LIMIT};
+pub use moments::{MAX_MOMENT, Moment};
+pub use node_counts::{MAX_NODES, Nodes};
+pub use operations::Operation;
+pub use priorities::{MAX_PRIORITY, MIN_PRIORITY, Priority};
+pub use progress::{Beginning, Ending};
+pub use refusals::Refusal;
+pub use replies::Reply;
+pub use terms::{MAX_TERM, Term};
+pub use values::{Changes, JobValues};
+pub use windows::Window;
+
