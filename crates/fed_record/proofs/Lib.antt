@@ -1,0 +1,4 @@
+-- What is read of a job, for callers too.
+pub mod FieldLaws
+pub mod PairLaws
+pub mod JobLaws

@@ -11,3 +11,4 @@ pub mod JobView
 pub mod Letter
 pub mod JobSteps
 pub mod Reservation
+pub mod GrantLaws
