@@ -1,0 +1,28 @@
+//! Laws of what is read of sets of operations, over every set. Each function does nothing: its contract is the law.
+ghost use Rattle.std.specs.Prelude.{◌≡◌, false, [], ◌∷◌, ◌++◌};
+ghost use Rattle.fed_stamp.specs.Stamp.{StampValue};
+ghost use Rattle.fed_stamp.specs.Version.{covers};
+ghost use Rattle.fed_lattice.specs.Sets.{IsSameSet};
+ghost use Rattle.fed_lattice.specs.History.{History, OneEach};
+ghost use Rattle.fed_lattice.specs.VersionOf.{version_of};
+ghost use Rattle.fed_record.specs.Body.{Body};
+ghost use Rattle.fed_board.specs.View.{view};
+ghost use Rattle.fed_board.specs.ViewSteps.{add_to_view, join_views};
+ghost use Rattle.fed_board.specs.Lawful.{IsLawful, AreKin};
+
+/// What is read of a set depends on its members alone, where different operations have different stamps: the order
+/// and the repeats in which they came don't matter.
+pub fn members_alone_are_read()
+    ensures { (ops others : History Body) → OneEach ops → IsSameSet ops others → view ops ≡ view others }
+{}
+
+/// One operation more, of a stamp that the set's version doesn't cover, is read by adding it to what was read before.
+pub fn additions_are_read()
+    ensures { (ops : History Body) (e : StampValue × Body) → IsLawful ops → covers (version_of ops) e.0 ≡ false →
+        view (ops ++ e ∷ []) ≡ add_to_view (view ops) e }
+{}
+
+/// The union of kin sets is read by joining what is read of each.
+pub fn kin_sets_join()
+    ensures { (ops others : History Body) → AreKin ops others → view (ops ++ others) ≡ join_views (view ops) (view others) }
+{}
