@@ -1,0 +1,13 @@
+use Rattle.std.proofs.Common.{not, ◌∙◌, ap, arith, below_more}
+use Rattle.fed_stamp.proofs.LeastIndex.{least_index_found, least_index_none}
+use Rattle.fed_stamp.proofs.RosterLemmas.{length_sites, misnamed_from_test}
+use Rattle.fed_stamp.proofs.rosters.first_misnamed.Goals as goal
+
+pub returns-then-not-is_site_name : goal.returns-then-not-is_site_name
+returns-then-not-is_site_name c = least_index_found _ _ _ (omega (arith, length_sites)) (misnamed_from_test _ _ _ c.loop-i-test.true _ c.is_site_name.ensures ∙ ap not c.if-not-is_site_name.true) c.loop-i.invariant
+
+pub loop-i-preserved : goal.loop-i-preserved
+loop-i-preserved c = below_more _ _ c.loop-i.invariant (misnamed_from_test _ _ _ c.loop-i-test.true _ c.is_site_name.ensures ∙ ap not c.if-not-is_site_name.false)
+
+pub returns : goal.returns
+returns c = least_index_none _ _ (λ k h. c.loop-i.invariant k (omega (arith, length_sites)))

@@ -1,0 +1,123 @@
+//! Examples of rosters, names, sets, stamps and versions.
+use crate::{
+    ClockFull, JobId, MAX_COUNTER, Roster, RosterFault, SiteId, SiteSet, Stamp, Version, Word,
+};
+use std::test::Fail;
+
+/// Each list, with the number and the value of its first fault.
+#[test]
+fn rosters_with_faults(rt: HostRuntime) -> Result<(), Fail> {
+    let cases: [(&[(&str, u64)], u8, RosterFault); 9] = [
+        (&[], 1, RosterFault::Count),
+        (&[("a", 1); 17], 1, RosterFault::Count),
+        (&[("a", 1), ("9", 1)], 2, RosterFault::Name { index: 1 }),
+        (&[("a_b", 1)], 2, RosterFault::Name { index: 0 }),
+        (&[("a", 1), ("a", 1)], 3, RosterFault::Twice { index: 1 }),
+        (&[("a", 0)], 4, RosterFault::Nodes { index: 0 }),
+        (
+            &[("a", 1), ("b", 1_000_001)],
+            4,
+            RosterFault::Nodes { index: 1 },
+        ),
+        (&[("a", 0), ("a", 1)], 3, RosterFault::Twice { index: 1 }),
+        (
+            &[("a", 0), ("a", 1), ("-", 1)],
+            2,
+            RosterFault::Name { index: 2 },
+        ),
+    ];
+    for (i, (sites, number, fault)) in cases.iter().enumerate() {
+        let found = Roster::new(*sites).err().ok_or("no fault")?;
+        assert_eq!(rt; found, *fault, "at {i}");
+        assert_eq!(rt; found.number(), *number, "at {i}");
+    }
+    Ok(())
+}
+
+#[test]
+fn roster_reads_back(rt: HostRuntime) -> Result<(), Fail> {
+    let roster = Roster::new(&[("argonne", 8), ("lemont", 4)])
+        .ok()
+        .ok_or("a fault")?;
+    let argonne = SiteId::new(0).ok_or("site")?;
+    let lemont = SiteId::new(1).ok_or("site")?;
+    let third = SiteId::new(2).ok_or("site")?;
+    assert_eq!(rt; roster.len(), 2);
+    assert_eq!(rt; roster.name(argonne), Some("argonne"));
+    assert_eq!(rt; roster.name(lemont), Some("lemont"));
+    assert_eq!(rt; roster.name(third), None);
+    assert_eq!(rt; roster.nodes(argonne), Some(8));
+    assert_eq!(rt; roster.nodes(lemont), Some(4));
+    assert_eq!(rt; roster.nodes(third), None);
+    assert_eq!(rt; roster.find("argonne"), Some(argonne));
+    assert_eq!(rt; roster.find("lemont"), Some(lemont));
+    assert_eq!(rt; roster.find("batavia"), None);
+    assert!(rt; Roster::new(&[("abcdefghijklmn1", 1_000_000)]).is_ok());
+    Ok(())
+}
+
+#[test]
+fn names(rt: HostRuntime) -> Result<(), Fail> {
+    for text in ["STDIN", "run.sh", "a_b-c.d", "abcdefghijklmno", "z"] {
+        let word = Word::new(text).ok_or("no name")?;
+        assert_eq!(rt; word.as_str(), text);
+    }
+    for text in [
+        "",
+        "9x",
+        "abcdefghijklmnop",
+        "a b",
+        "-a",
+        "ä",
+        "aä",
+        "_a",
+        ".a",
+        "a/b",
+    ] {
+        assert!(rt; Word::new(text).is_none(), "at {text}");
+    }
+    let short = Word::new("a").ok_or("no name")?;
+    let long = Word::new("a-").ok_or("no name")?;
+    let later = Word::new("b").ok_or("no name")?;
+    assert!(rt; short < long && long < later && short != later);
+    Ok(())
+}
+
+#[test]
+fn sets_of_sites(rt: HostRuntime) -> Result<(), Fail> {
+    let first = SiteId::new(0).ok_or("site")?;
+    let last = SiteId::new(15).ok_or("site")?;
+    let middle = SiteId::new(7).ok_or("site")?;
+    assert!(rt; SiteId::new(16).is_none());
+    assert!(rt; SiteSet::new(&[]).is_none());
+    let set = SiteSet::new(&[last, first, last]).ok_or("set")?;
+    assert!(rt; set.has(first) && set.has(last) && !set.has(middle));
+    assert!(rt; SiteSet::new(&[first, last]) == Some(set));
+    Ok(())
+}
+
+#[test]
+fn stamps_and_versions(rt: HostRuntime) -> Result<(), Fail> {
+    let a = SiteId::new(0).ok_or("site")?;
+    let b = SiteId::new(1).ok_or("site")?;
+    assert!(rt; Stamp::new(0, a).is_none());
+    assert!(rt; Stamp::new(MAX_COUNTER + 1, a).is_none());
+    let five: JobId = Stamp::new(5, b).ok_or("stamp")?;
+    let six = Stamp::new(6, a).ok_or("stamp")?;
+    let five_before = Stamp::new(5, a).ok_or("stamp")?;
+    assert!(rt; five_before < five && five < six);
+    let none = Version::new([0; 16]).ok_or("version")?;
+    let seen = none.with(five);
+    assert!(rt; seen.covers(five) && !seen.covers(six) && !seen.covers(five_before));
+    assert!(rt; seen.next(a) == Ok(six));
+    assert!(rt; none.le(&seen) && !seen.le(&none));
+    let both = none.with(six).join(&seen);
+    assert!(rt; both.get(a) == 6 && both.get(b) == 5);
+    assert!(rt; both.meet(&seen) == seen);
+    let full = none.with(Stamp::new(MAX_COUNTER, b).ok_or("stamp")?);
+    assert!(rt; full.next(a) == Err(ClockFull));
+    let mut counters = [0; 16];
+    counters[15] = MAX_COUNTER + 1;
+    assert!(rt; Version::new(counters).is_none());
+    Ok(())
+}
