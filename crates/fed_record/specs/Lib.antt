@@ -12,3 +12,5 @@ pub mod Letter
 pub mod JobSteps
 pub mod Reservation
 pub mod GrantLaws
+pub mod ValueLaws
+pub mod HoldLaws

@@ -3,7 +3,7 @@ use crate::holds::HoldKinds;
 use crate::moments::Moment;
 use crate::values::{Changes, JobValues};
 use crate::windows::Window;
-use fed_stamp::{SiteId, Stamp as JobId, Stamp};
+use fed_stamp::{JobId, SiteId, Stamp};
 
 /// What somebody, or a site's own scheduler, asks a site to do.
 #[derive(Clone, Copy, PartialEq, Eq, Debug)]

@@ -4,6 +4,7 @@
 pub mod accounts;
 pub mod askers;
 pub mod commands;
+pub mod exacts;
 pub mod grants;
 pub mod holds;
 pub mod letters;
@@ -27,7 +28,7 @@ pub use holds::{HoldKind, HoldKinds};
 pub use letters::Letter;
 pub use limits::{Limit, MAX_LIMIT};
 pub use moments::{MAX_MOMENT, Moment};
-pub use node_counts::{MAX_NODES, Nodes};
+pub use node_counts::Nodes;
 pub use operations::Operation;
 pub use priorities::{MAX_PRIORITY, MIN_PRIORITY, Priority};
 pub use progress::{Beginning, Ending};
@@ -37,3 +38,5 @@ pub use terms::{MAX_TERM, Term};
 pub use values::{Changes, JobValues};
 pub use windows::Window;
 
+#[cfg(test)]
+mod tests;

@@ -1,10 +1,8 @@
 //! Numbers of nodes.
 ghost use Rattle.std.specs.Prelude.{◌≡◌, ◌≤◌, ◌&&◌, if◌then◌else◌, nat_le};
 
+use fed_stamp::MAX_NODES;
 use std::marker::Model;
-
-/// The greatest number of nodes.
-pub const MAX_NODES: u64 = 1_000_000;
 
 /// How many nodes a job runs on, from 1 to 1,000,000.
 #[derive(Clone, Copy, PartialEq, Eq, PartialOrd, Ord, Debug)]

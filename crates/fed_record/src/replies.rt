@@ -1,5 +1,5 @@
 //! Replies.
-use fed_stamp::{Stamp as JobId, Stamp};
+use fed_stamp::{JobId, Stamp};
 
 /// What a site replies to a command that it doesn't refuse.
 #[derive(Clone, Copy, PartialEq, Eq, Debug)]
