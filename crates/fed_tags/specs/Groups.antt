@@ -2,7 +2,7 @@
 use Rattle.std.specs.Prelude.{◌≢◌, List, [], map, flat_map}
 use Rattle.std.specs.List.Sorted.{IsStrictlySortedBy}
 use Rattle.fed_stamp.specs.Stamp.{StampValue}
-use Rattle.fed_lattice.specs.Register.{stamp_cmp}
+use Rattle.fed_lattice.specs.Latest.{stamp_cmp}
 
 -- the pairs of one element with its stamps
 abbrev pub tagged : {T : Type 0} → T → List StampValue → List (T × StampValue)

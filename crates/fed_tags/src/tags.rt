@@ -3,7 +3,7 @@ ghost use Rattle.std.specs.Prelude.{◌≡◌, [], ◌∷◌, OnOk, OnErr, IfOk,
 ghost use Rattle.std.specs.Ordering.{is_eq, eq_by_cmp};
 ghost use Rattle.std.specs.List.{list_any};
 ghost use Rattle.std.specs.BTreeSet.{insert_key};
-ghost use Rattle.fed_lattice.specs.Register.{stamp_cmp};
+ghost use Rattle.fed_lattice.specs.Latest.{stamp_cmp};
 
 use fed_lattice::NoMemory;
 use fed_stamp::Stamp;
@@ -21,7 +21,7 @@ impl Model for Tags {
     ghost use Rattle.std.specs.Prelude.{List};
     ghost use Rattle.std.specs.List.Sorted.{IsStrictlySortedBy};
     ghost use Rattle.fed_stamp.specs.Stamp.{StampValue};
-    ghost use Rattle.fed_lattice.specs.Register.{stamp_cmp};
+    ghost use Rattle.fed_lattice.specs.Latest.{stamp_cmp};
 
     ghost Value = { List StampValue };
 

@@ -1,0 +1,3 @@
+-- The lemmas that proofs of the methods cite.
+pub mod StampLists
+pub mod GroupLaws
