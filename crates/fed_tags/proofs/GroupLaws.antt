@@ -1,28 +1,33 @@
 -- Pairs by element: that they ascend, which pairs there are, and what a change of one element's stamps does to them.
 use Rattle.std.specs.List.{list_any, AllByRecursion}
 use Rattle.std.specs.List.Sorted.{IsStrictlySortedBy}
-use Rattle.std.specs.Ordering.{is_eq, eq_by_cmp, ordering_then}
+use Rattle.std.specs.Ordering.{is_eq, eq_by_cmp, ordering_then, match_ordering}
 use Rattle.std.specs.BTreeMap.{insert_entry, is_at}
 use Rattle.std.specs.BTreeSet.{insert_key}
 use Rattle.std.specs.Map.{keys_of, values_of, lookup, remove_entry, set_value}
 use Rattle.std.specs.Cmp.{IsTotalOrder, IsEquivalence, eq_by_cmp_equiv, tied_then}
-use Rattle.std.proofs.Common.{◌≡◌, ◌≢◌, List, [], ◌∷◌, ◌++◌, Bool, true, false, cond, ◌||◌, ◌&&◌, not, Option, Some, None, unwrap_or, filter, All, Ordering, Less, Equal, Greater, refl, sym, ap, ap₂, subst, ◌∙◌}
+use Rattle.std.proofs.Common.{◌≡◌, ◌≢◌, ◌↔◌, List, [], ◌∷◌, ◌++◌, Bool, true, false, cond, ◌||◌, ◌&&◌, not, Option, Some, None, is_some, IfSome, unwrap_or, filter, map, length, append-nil, arith, All, Ordering, Less, Equal, Greater, refl, sym, ap, ap₂, subst, ◌∙◌}
 use Rattle.std.proofs.lemmas.Cmp.{tied_itself}
-use Rattle.std.proofs.lemmas.List.Elements.{All-head, All-tail}
+use Rattle.std.proofs.lemmas.List.Elements.{All-head, All-tail, filter-append}
+use Rattle.std.proofs.lemmas.List.{map-append}
 use Rattle.std.proofs.lemmas.List.Folds.{list_any-append}
 use Rattle.std.proofs.lemmas.Map.{lookup-none, lookup-remove_entry}
 use Rattle.std.proofs.lemmas.Map.Entries.{none_past_head}
 use Rattle.std.proofs.lemmas.Map.Keys.{IsDistinct-from_sorted, sorted_tail}
 use Rattle.std.proofs.lemmas.Map.Lookups.{CmpEqualImpliesEq}
-use Rattle.std.proofs.lemmas.Map.Views.{tells_apart}
+use Rattle.std.proofs.lemmas.Map.Views.{tells_apart, IfSome-lookup_from_All, All-map-remove_entry}
+use Rattle.std.proofs.lemmas.List.Kept.{IsStrictlySortedBy-filter}
+use Rattle.fed_lattice.specs.Sets.{Has}
+use Rattle.fed_lattice.specs.TableJoins.{well_formed_insert}
+use Rattle.fed_lattice.proofs.TableWrites.{set_value-insert, unchanged_present, value_well_formed_present}
 use Rattle.fed_stamp.specs.Stamp.{StampValue}
 use Rattle.fed_lattice.specs.Latest.{stamp_cmp}
 use Rattle.fed_lattice.specs.LatestLaws.{stamp_total}
 use Rattle.fed_lattice.specs.ExactLaws.{exact_stamp}
 use Rattle.fed_lattice.specs.Table.{IsTable, value_at}
 use Rattle.fed_lattice.specs.TableEntries.{lookup-insert_entry, sorted_insert}
-use Rattle.fed_tags.specs.Tags.{pair_cmp, has, without}
-use Rattle.fed_tags.specs.TagLaws.{pair_total, exact_pair, same_sets, any_filtered, sorted_insert_key, has_insert_key, has_without, sorted_without}
+use Rattle.fed_tags.specs.Tags.{pair_cmp, has, without, tags_of, IsElement}
+use Rattle.fed_tags.specs.TagLaws.{pair_total, exact_pair, same_sets, any_filtered, sorted_insert_key, has_insert_key, has_without, sorted_without, member, has_member}
 use Rattle.fed_tags.specs.Groups.{tagged, pairs, IsGroup}
 
 -- ---- tests
@@ -106,6 +111,33 @@ module _ {T : Type 0} (cmp : T → T → Ordering) (o : IsTotalOrder cmp) where
       ∙ ap₂ (λ a b. a || b) (has_tagged e.0 e.1 q) (has_pairs q es (sorted_tail cmp e.0 (keys_of es) s))
       ∙ has_step (is_eq (cmp q.0 e.0)) e.1 (lookup (is_at (cmp q.0)) es) q.1 (none_later q.0 e es s)
 
+  tagged_at : (b : Bool) (t k : T) (ss : List StampValue) → is_eq (cmp t k) ≡ b → filter (λ (p : T × StampValue). is_eq (cmp t p.0)) (tagged k ss) ≡ cond b (tagged k ss) []
+  tagged_at true t k [] e = refl
+  tagged_at false t k [] e = refl
+  tagged_at true t k (s ∷ ss) e = rw e (ap (λ (l : List (T × StampValue)). (k, s) ∷ l) (tagged_at true t k ss e))
+  tagged_at false t k (s ∷ ss) e = rw e (tagged_at false t k ss e)
+
+  stamps_tagged : (k : T) (ss : List StampValue) → map (λ (p : T × StampValue). p.1) (tagged k ss) ≡ ss
+  stamps_tagged k [] = refl
+  stamps_tagged k (s ∷ ss) = ap (λ l. s ∷ l) (stamps_tagged k ss)
+
+  tags_step : (b : Bool) (k : T) (ss : List StampValue) (rest : List (T × StampValue)) (r : Option (List StampValue)) → map (λ (p : T × StampValue). p.1) rest ≡ unwrap_or r [] → (b ≡ true → r ≡ None)
+      → map (λ (p : T × StampValue). p.1) (cond b (tagged k ss) [] ++ rest) ≡ unwrap_or (cond b (Some ss) r) []
+  tags_step true k ss rest r e n =
+      map-append (λ (p : T × StampValue). p.1) (tagged k ss) rest
+      ∙ ap₂ (λ a b. a ++ b) (stamps_tagged k ss) (e ∙ ap (λ x. unwrap_or x []) (n refl))
+      ∙ append-nil ss
+  tags_step false k ss rest r e n = e
+
+  -- what is read of the stamps of an element
+  pub tags_pairs : (es : List (T × List StampValue)) (t : T) → IsStrictlySortedBy cmp (keys_of es) → tags_of cmp (pairs es) t ≡ unwrap_or (lookup (is_at (cmp t)) es) []
+  tags_pairs [] t s = refl
+  tags_pairs (e ∷ es) t s =
+      ap (λ (l : List (T × StampValue)). map (λ (p : T × StampValue). p.1) l)
+      (filter-append (λ (p : T × StampValue). is_eq (cmp t p.0)) (tagged e.0 e.1) (pairs es)
+      ∙ ap (λ (l : List (T × StampValue)). l ++ filter (λ (p : T × StampValue). is_eq (cmp t p.0)) (pairs es)) (tagged_at (is_eq (cmp t e.0)) t e.0 e.1 refl))
+      ∙ tags_step (is_eq (cmp t e.0)) e.0 e.1 (filter (λ (p : T × StampValue). is_eq (cmp t p.0)) (pairs es)) (lookup (is_at (cmp t)) es) (tags_pairs es t (sorted_tail cmp e.0 (keys_of es) s)) (none_later t e es s)
+
   -- the stamps of the element that a pair has
   same_value : CmpEqualImpliesEq cmp → (q t : T) (es : List (T × List StampValue)) → is_eq (cmp q t) ≡ true → lookup (is_at (cmp q)) es ≡ lookup (is_at (cmp t)) es
   same_value exact q t es e = ap (λ (x : T). lookup (is_at (cmp x)) es) (tells_apart exact q t e)
@@ -179,3 +211,123 @@ module _ {T : Type 0} (cmp : T → T → Ordering) (o : IsTotalOrder cmp) where
       by_test : (b : Bool) → test e.0 ≡ b → remove_entry test (set_value test es w) ≡ remove_entry test es → remove_entry test (cond (test e.0) ((e.0, w) ∷ es) (e ∷ set_value test es w)) ≡ cond (test e.0) es (e ∷ remove_entry test es)
       by_test true i k = rw i (rw i refl)
       by_test false i k = rw i (rw i (ap (λ l. e ∷ l) k))
+
+    -- ---- what the entries are after a change
+    IsGroup-insert_key : (ss : List StampValue) (u : StampValue) → IsStrictlySortedBy stamp_cmp ss → IsGroup (insert_key stamp_cmp ss u)
+    IsGroup-insert_key ss u s = (sorted_insert_key stamp_cmp stamp_total ss u s, not_nil ss) where
+      not_one : (r : Ordering) (a b : StampValue) (xs ys zs : List StampValue) → match_ordering r (a ∷ xs) (b ∷ ys) (b ∷ zs) ≢ []
+      not_one Less a b xs ys zs = λ e. cc
+      not_one Equal a b xs ys zs = λ e. cc
+      not_one Greater a b xs ys zs = λ e. cc
+
+      not_nil : (xs : List StampValue) → insert_key stamp_cmp xs u ≢ []
+      not_nil [] = λ e. cc
+      not_nil (x ∷ xs) = not_one (stamp_cmp u x) u x (x ∷ xs) xs (insert_key stamp_cmp xs u)
+
+    sorted_value : (r : Option (List StampValue)) → IfSome r IsGroup → IsStrictlySortedBy stamp_cmp (unwrap_or r [])
+    unfolding IsStrictlySortedBy
+    sorted_value None i = tt
+    sorted_value (Some ss) i = i.0
+
+    pub inserted_table : (es fs : List (T × List StampValue)) (t : T) (u : StampValue) → IsTable cmp IsGroup es → fs ≡ insert_entry cmp es t (insert_key stamp_cmp (value_at cmp [] es t) u) → IsTable cmp IsGroup fs
+    inserted_table es fs t u g e = subst (IsTable cmp IsGroup) (sym e)
+        (well_formed_insert cmp o IsGroup es t _ g (IsGroup-insert_key _ u (sorted_value (lookup (is_at (cmp t)) es) (IfSome-lookup_from_All IsGroup (is_at (cmp t)) es g.1))))
+
+    pub inserted_view : (es fs : List (T × List StampValue)) (self : List (T × StampValue)) (t : T) (u : StampValue) → pairs es ≡ self → IsTable cmp IsGroup es → fs ≡ insert_entry cmp es t (insert_key stamp_cmp (value_at cmp [] es t) u) → pairs fs ≡ insert_key (pair_cmp cmp) self (t, u)
+    inserted_view es fs self t u v g e =
+        ap (λ l. pairs l) e ∙ inserted_pairs es t u g (inserted_table es _ t u g refl) ∙ ap (λ l. insert_key (pair_cmp cmp) l (t, u)) v
+
+    pub present_entries : (es fs : List (T × List StampValue)) (t : T) (ss w : List StampValue) (u : StampValue) → IsTable cmp IsGroup es → Some ss ≡ lookup (is_at (cmp t)) es → fs ≡ set_value (is_at (cmp t)) es w → w ≡ insert_key stamp_cmp ss u
+        → fs ≡ insert_entry cmp es t (insert_key stamp_cmp (value_at cmp [] es t) u)
+    present_entries es fs t ss w u g h e i =
+        e ∙ set_value-insert cmp o es t ss w g.0 h ∙ ap (insert_entry cmp es t) (i ∙ ap (λ (x : Option (List StampValue)). insert_key stamp_cmp (unwrap_or x []) u) h)
+
+    pub absent_entries : (es m fs : List (T × List StampValue)) (t : T) (w : List StampValue) (u : StampValue) → m ≡ es → None ≡ lookup (is_at (cmp t)) es → fs ≡ insert_entry cmp m t w → w ≡ u ∷ []
+        → fs ≡ insert_entry cmp es t (insert_key stamp_cmp (value_at cmp [] es t) u)
+    absent_entries es m fs t w u same h e i =
+        e ∙ ap₂ (λ l (x : List StampValue). insert_entry cmp l t x) same (i ∙ ap (λ (x : Option (List StampValue)). insert_key stamp_cmp (unwrap_or x []) u) h)
+
+    pub same_entries : (es fs : List (T × List StampValue)) (t : T) (ss w : List StampValue) → Some ss ≡ lookup (is_at (cmp t)) es → fs ≡ set_value (is_at (cmp t)) es w → w ≡ ss → fs ≡ es
+    same_entries es fs t ss w h e i = unchanged_present cmp o es es fs t ss w refl h e i
+
+    -- a pair that is not there
+    absent_pair : (es : List (T × List StampValue)) (t : T) (u : StampValue) → IsTable cmp IsGroup es → None ≡ lookup (is_at (cmp t)) es → pairs es ≡ without (pair_cmp cmp) (pairs es) ((t, u) ∷ [])
+    absent_pair es t u g h =
+        let R = pair_cmp cmp in
+        same_sets R (pair_total cmp o) (exact_pair cmp exact) _ _ (sorted_pairs es g) (sorted_without R (pair_total cmp o) (exact_pair cmp exact) (pairs es) ((t, u) ∷ []) (sorted_pairs es g)) (λ q.
+        sym (has_without R (pair_total cmp o) (exact_pair cmp exact) q (pairs es) ((t, u) ∷ [])
+        ∙ not_there (has R (pairs es) q) (is_eq (R q (t, u))) (λ i. ap (has R (pairs es)) (tells_apart (exact_pair cmp exact) q (t, u) i) ∙ has_pairs (t, u) es g.0 ∙ ap (λ r. holds r u) (sym h)))) where
+          not_there : (a b : Bool) → (b ≡ true → a ≡ false) → (a && not (b || false)) ≡ a
+          not_there true true f = sym (f refl)
+          not_there true false f = refl
+          not_there false b f = refl
+
+    pub absent_view : (es fs : List (T × List StampValue)) (self : List (T × StampValue)) (t : T) (u : StampValue) → pairs es ≡ self → IsTable cmp IsGroup es → None ≡ lookup (is_at (cmp t)) es → fs ≡ es → pairs fs ≡ without (pair_cmp cmp) self ((t, u) ∷ [])
+    absent_view es fs self t u v g h e = ap (λ l. pairs l) e ∙ absent_pair es t u g h ∙ ap (λ l. without (pair_cmp cmp) l ((t, u) ∷ [])) v
+
+    -- others are left of the element's stamps
+    IsGroup-others : (ss : List StampValue) (u : StampValue) → IsGroup ss → others u ss ≢ [] → IsGroup (others u ss)
+    IsGroup-others ss u g n = (IsStrictlySortedBy-filter stamp_cmp (λ (tag : StampValue). not (is_eq (stamp_cmp tag u))) ss g.0, n)
+
+    pub less_entries : (es fs : List (T × List StampValue)) (t : T) (ss w : List StampValue) (u : StampValue) → IsTable cmp IsGroup es → Some ss ≡ lookup (is_at (cmp t)) es → fs ≡ set_value (is_at (cmp t)) es w → w ≡ others u ss → fs ≡ insert_entry cmp es t (others u ss)
+    less_entries es fs t ss w u g h e i = e ∙ set_value-insert cmp o es t ss w g.0 h ∙ ap (insert_entry cmp es t) i
+
+    less_table : (es : List (T × List StampValue)) (t : T) (ss : List StampValue) (u : StampValue) → IsTable cmp IsGroup es → Some ss ≡ lookup (is_at (cmp t)) es → others u ss ≢ [] → IsTable cmp IsGroup (insert_entry cmp es t (others u ss))
+    less_table es t ss u g h n = well_formed_insert cmp o IsGroup es t (others u ss) g (IsGroup-others ss u (value_well_formed_present cmp o IsGroup es t ss g h) n)
+
+    pub removed_table : (es fs : List (T × List StampValue)) (t : T) (ss w : List StampValue) (u : StampValue) → IsTable cmp IsGroup es → Some ss ≡ lookup (is_at (cmp t)) es → fs ≡ set_value (is_at (cmp t)) es w → w ≡ others u ss → w ≢ [] → IsTable cmp IsGroup fs
+    removed_table es fs t ss w u g h e i n = subst (IsTable cmp IsGroup) (sym (less_entries es fs t ss w u g h e i)) (less_table es t ss u g h (subst (λ (l : List StampValue). l ≢ []) i n))
+
+    pub removed_view : (es fs : List (T × List StampValue)) (self : List (T × StampValue)) (t : T) (ss w : List StampValue) (u : StampValue) → pairs es ≡ self → IsTable cmp IsGroup es → Some ss ≡ lookup (is_at (cmp t)) es → fs ≡ set_value (is_at (cmp t)) es w → w ≡ others u ss → w ≢ []
+        → pairs fs ≡ without (pair_cmp cmp) self ((t, u) ∷ [])
+    removed_view es fs self t ss w u v g h e i n =
+        ap (λ l. pairs l) (less_entries es fs t ss w u g h e i)
+        ∙ dropped_pairs es t u ss g (sym h) (less_table es t ss u g h (subst (λ (l : List StampValue). l ≢ []) i n))
+        ∙ ap (λ l. without (pair_cmp cmp) l ((t, u) ∷ [])) v
+
+    -- none is left of the element's stamps
+    gone_entries : (es m fs : List (T × List StampValue)) (t : T) (w : List StampValue) → m ≡ set_value (is_at (cmp t)) es w → fs ≡ remove_entry (is_at (cmp t)) m → fs ≡ remove_entry (is_at (cmp t)) es
+    gone_entries es m fs t w e f = f ∙ ap (remove_entry (is_at (cmp t))) e ∙ remove_set es (is_at (cmp t)) w
+
+    pub gone_table : (es m fs : List (T × List StampValue)) (t : T) (w : List StampValue) → IsTable cmp IsGroup es → m ≡ set_value (is_at (cmp t)) es w → fs ≡ remove_entry (is_at (cmp t)) m → IsStrictlySortedBy cmp (keys_of fs) → IsTable cmp IsGroup fs
+    gone_table es m fs t w g e f s = (s, subst (λ (l : List (T × List StampValue)). All IsGroup (values_of l)) (sym (gone_entries es m fs t w e f)) (All-map-remove_entry (is_at (cmp t)) (λ (x : T × List StampValue). x.1) IsGroup es g.1))
+
+    pub gone_view : (es m fs : List (T × List StampValue)) (self : List (T × StampValue)) (t : T) (ss w : List StampValue) (u : StampValue) → pairs es ≡ self → IsTable cmp IsGroup es → Some ss ≡ lookup (is_at (cmp t)) es → m ≡ set_value (is_at (cmp t)) es w → w ≡ others u ss → w ≡ []
+        → fs ≡ remove_entry (is_at (cmp t)) m → IsStrictlySortedBy cmp (keys_of fs) → pairs fs ≡ without (pair_cmp cmp) self ((t, u) ∷ [])
+    gone_view es m fs self t ss w u v g h e i n f s =
+        dropped_group es fs t u ss g (sym h) (sym i ∙ n) (gone_entries es m fs t w e f) (gone_table es m fs t w g e f s)
+        ∙ ap (λ l. without (pair_cmp cmp) l ((t, u) ∷ [])) v
+
+    -- ---- what readers find
+    pub contains_pair : (es : List (T × List StampValue)) (self : List (T × StampValue)) (q : T × StampValue) (r : Bool) → pairs es ≡ self → IsTable cmp IsGroup es → r ≡ holds (lookup (is_at (cmp q.0)) es) q.1 → (r ≡ true) ↔ Has self q
+    contains_pair es self q r v g e =
+        let R = pair_cmp cmp in
+        let k : has R self q ≡ r = ap (λ l. has R l q) (sym v) ∙ has_pairs q es g.0 ∙ sym e in
+        (λ i. member R (pair_total cmp o) (exact_pair cmp exact) q self (k ∙ i), λ i. sym k ∙ has_member R (pair_total cmp o) (exact_pair cmp exact) q self i)
+
+    some_holds : (r : Option (List StampValue)) → IfSome r IsGroup → is_some r ≡ true → (s : StampValue) × (holds r s ≡ true)
+    some_holds None i e = cc
+    some_holds (Some []) i e = absurd (i.1 refl)
+    some_holds (Some (s ∷ ss)) i e = (s, ap (λ x. is_eq x || list_any (eq_by_cmp stamp_cmp s) ss) (tied_itself stamp_total s))
+
+    holds_some : (r : Option (List StampValue)) (s : StampValue) → holds r s ≡ true → is_some r ≡ true
+    holds_some None s e = cc
+    holds_some (Some ss) s e = refl
+
+    pub has_element : (es : List (T × List StampValue)) (self : List (T × StampValue)) (t : T) (r : Bool) → pairs es ≡ self → IsTable cmp IsGroup es → r ≡ is_some (lookup (is_at (cmp t)) es) → (r ≡ true) ↔ IsElement self t
+    has_element es self t r v g e = (
+      λ i.
+          let f = some_holds (lookup (is_at (cmp t)) es) (IfSome-lookup_from_All IsGroup (is_at (cmp t)) es g.1) (sym e ∙ i) in
+          (f.0, (contains_pair es self (t, f.0) _ v g refl).0 f.1),
+      λ i. e ∙ holds_some (lookup (is_at (cmp t)) es) i.0 ((contains_pair es self (t, i.0) _ v g refl).1 i.1),
+    )
+
+module _ {T : Type 0} (cmp : T → T → Ordering) where
+  first_pair : (e : T × List StampValue) (es : List (T × List StampValue)) → IsGroup e.1 → pairs (e ∷ es) ≢ []
+  first_pair (t, []) es g = absurd (g.1 refl)
+  first_pair (t, (s ∷ ss)) es g = λ e. cc
+
+  -- no pair is there exactly where no element is
+  pub empty_pairs : (es : List (T × List StampValue)) (self : List (T × StampValue)) (r : Bool) → pairs es ≡ self → IsTable cmp IsGroup es → ((r ≡ true) ↔ (length es ≡ 0)) → (r ≡ true) ↔ (self ≡ [])
+  empty_pairs [] self r v g e = (λ _. sym v, λ _. e.1 refl)
+  empty_pairs (x ∷ es) self r v g e = (λ i. absurd (omega (arith, e.0 i)), λ i. absurd (first_pair x es (All-head IsGroup x.1 (values_of es) g.1) (v ∙ i)))
