@@ -1,3 +1,4 @@
 -- The lemmas that proofs of the methods cite.
 pub mod StampLists
 pub mod GroupLaws
+pub mod TagLoops

@@ -1,17 +1,18 @@
 //! Sets of tagged elements.
-ghost use Rattle.std.specs.Prelude.{◌≡◌, ◌↔◌, [], ◌∷◌, IfOk, OnOk, OnErr, IsOk, IsTrue, length, take, drop, filter};
+ghost use Rattle.std.specs.Prelude.{◌≡◌, ◌↔◌, [], ◌∷◌, IfOk, OnOk, OnErr, IsOk, IsTrue};
 ghost use Rattle.std.specs.List.Sorted.{IsStrictlySortedBy};
 ghost use Rattle.std.specs.BTreeSet.{insert_key};
 ghost use Rattle.std.specs.Map.Iter.{ShowsInOrder, deref};
 ghost use Rattle.fed_lattice.specs.Sets.{Has};
-ghost use Rattle.fed_tags.specs.Tags.{pair_cmp, inserted, stamped, without, tags_of, IsElement, kept};
+ghost use Rattle.fed_tags.specs.Tags.{pair_cmp, inserted, stamped, without, tags_of, IsElement, lacking, kept, joined_tags};
 
+use crate::pairs::Pairs;
 use crate::tags::Tags;
 use fed_lattice::{Exact, NoMemory};
 use fed_stamp::{Stamp, Version};
-use smallvec::SmallVec;
 use std::alloc::Global;
 use std::collections::BTreeMap;
+use std::collections::btree_map::Keys;
 use std::marker::Model;
 
 /// A set of elements, each with the stamps of the operations that added it and are in effect. It is seen as the
@@ -101,7 +102,7 @@ impl<T: Exact> TagSet<T> {
         };
         tags.remove(stamp);
         if tags.is_empty() {
-            self.groups.remove(&element);
+            drop(self.groups.remove(&element));
         }
     }
 
@@ -112,5 +113,117 @@ impl<T: Exact> TagSet<T> {
         for (element, stamp) in pairs {
             self.remove_one(*element, *stamp);
         }
+    }
+
+    /// Removes the elements' tags with the stamp.
+    fn remove_stamped(&mut self, elements: &[T], at: Stamp)
+        ensures { self.new ≡ without (pair_cmp T.cmp) self.old (stamped at elements.now) }
+    {
+        for element in elements {
+            self.remove_one(*element, at);
+        }
+    }
+
+    /// The elements that do not have a tag with the stamp.
+    fn find_lacking(&self, elements: &[T], at: Stamp) -> Result<Vec<T>, NoMemory>
+        ensures found { IfOk result (λ r. r.items ≡ lacking (pair_cmp T.cmp) self.now at elements.now) }
+        ensures none { elements.now ≡ [] → IsOk result }
+        ensures ascending { IsStrictlySortedBy (pair_cmp T.cmp) self.now }
+    {
+        let mut found = Vec::new(self.alloc);
+        for element in elements {
+            if !self.contains(element, at) {
+                found.push(*element)?;
+            }
+        }
+        Ok(found)
+    }
+
+    /// Adds the elements with the stamp. On an error the set is as before.
+    pub fn add(&mut self, elements: &[T], at: Stamp) -> Result<(), NoMemory>
+        ensures added { OnOk result (self.new ≡ inserted (pair_cmp T.cmp) self.old (stamped at elements.now)) }
+        ensures unchanged { OnErr result (self.new ≡ self.old) }
+        ensures nothing { elements.now ≡ [] → IsOk result }
+    {
+        let fresh = self.find_lacking(elements, at)?;
+        for element in &fresh {
+            if self.insert(*element, at).is_err() {
+                self.remove_stamped(&fresh, at);
+                return Err(NoMemory);
+            }
+        }
+        Ok(())
+    }
+
+    /// The set of these pairs.
+    pub fn from_pairs(alloc: Global, pairs: &[(T, Stamp)]) -> Result<TagSet<T>, NoMemory>
+        requires { IsStrictlySortedBy (pair_cmp T.cmp) pairs.now }
+        ensures { IfOk result (λ r. r ≡ pairs.now) }
+    {
+        let mut set = TagSet::new(alloc);
+        for (element, stamp) in pairs {
+            set.insert(*element, *stamp)?;
+        }
+        Ok(set)
+    }
+
+    /// The elements, ascending.
+    pub fn elements(&self) -> Keys<'_, T, Tags>
+        ensures ascending { IsStrictlySortedBy T.cmp result }
+        ensures members { (t : T) → Has result t ↔ IsElement self.now t }
+        ensures runs { ShowsInOrder (deref {X = T}) }
+    {
+        self.groups.keys()
+    }
+
+    /// The live pairs, by element and then by stamp.
+    pub fn iter(&self) -> Pairs<'_, T>
+        ensures rest { result ≡ self.now }
+        ensures ascending { IsStrictlySortedBy (pair_cmp T.cmp) self.now }
+    {
+        Pairs::new(self.groups.iter())
+    }
+
+    pub(crate) fn copied(&self) -> Result<TagSet<T>, NoMemory>
+        ensures same { IfOk result (λ r. r ≡ self.now) }
+        ensures ascending { IsStrictlySortedBy (pair_cmp T.cmp) self.now }
+    {
+        let mut groups = BTreeMap::new(self.alloc);
+        for (element, tags) in &self.groups {
+            groups.insert(*element, tags.copy()?)?;
+        }
+        Ok(TagSet {
+            alloc: self.alloc,
+            groups,
+        })
+    }
+
+    /// Adds the pairs of one side of a join that stay beside the other side and its version.
+    fn keep(&mut self, side: &Self, other: &Self, theirs: &Version) -> Result<(), NoMemory>
+        ensures kept { OnOk result (self.new ≡ inserted (pair_cmp T.cmp) self.old (kept (pair_cmp T.cmp) other.now theirs.now side.now)) }
+        ensures ascending { IsStrictlySortedBy (pair_cmp T.cmp) side.now }
+    {
+        for (element, stamp) in side.iter() {
+            if other.contains(&element, stamp) || !theirs.covers(stamp) {
+                self.insert(element, stamp)?;
+            }
+        }
+        Ok(())
+    }
+
+    /// The join of two sets, each beside its version.
+    pub(crate) fn joined(
+        &self,
+        mine: &Version,
+        other: &Self,
+        theirs: &Version,
+    ) -> Result<TagSet<T>, NoMemory>
+        ensures joined { IfOk result (λ r. r ≡ joined_tags (pair_cmp T.cmp) self.now mine.now other.now theirs.now) }
+        ensures ascending { OnOk result (IsStrictlySortedBy (pair_cmp T.cmp) self.now × IsStrictlySortedBy (pair_cmp T.cmp) other.now) }
+    {
+        let mut joined = TagSet::new(self.alloc);
+        joined.keep(self, other, theirs)?;
+        joined.keep(other, self, mine)?;
+        Ok(joined)
     }
 }

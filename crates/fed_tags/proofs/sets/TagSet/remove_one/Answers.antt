@@ -13,11 +13,6 @@ invariant_of-self-then-is_empty g c =
     gone_table g.T.Ord.cmp g.met.T.Ord.total g.met.T.Exact.exact _ _ _ c.args.element _ c.self.invariant
     (c.get_mut.follows.holds c.remove.new.self).0 c.remove-then-is_empty.ensures.entries c.remove-then-is_empty.ensures.ordered
 
-pub invariant_of-self-then-is_empty-2 : goal.invariant_of-self-then-is_empty-2
-invariant_of-self-then-is_empty-2 g c =
-    gone_table g.T.Ord.cmp g.met.T.Ord.total g.met.T.Exact.exact _ _ _ c.args.element _ c.self.invariant
-    (c.get_mut.follows.holds c.remove.new.self).0 c.remove-then-is_empty.ensures.entries c.remove-then-is_empty.ensures.ordered
-
 pub invariant_of-self-else-is_empty : goal.invariant_of-self-else-is_empty
 invariant_of-self-else-is_empty g c =
     let left : c.remove.new.self ≢ [] = λ e. let t = c.is_empty.ensures.1 e in let f = c.if-is_empty.false in cc in
@@ -26,8 +21,8 @@ invariant_of-self-else-is_empty g c =
 
 pub returns-then-is_empty : goal.returns-then-is_empty
 returns-then-is_empty g c =
-    let k = gone_view g.T.Ord.cmp g.met.T.Ord.total g.met.T.Exact.exact _ _ _ _ c.args.element _ _ c.args.stamp c.self.view_is c.self.invariant c.in-Some.ensures.value
-    (c.get_mut.follows.holds c.remove.new.self).0 c.remove.ensures (c.is_empty.ensures.0 c.if-is_empty.true) c.remove-then-is_empty.ensures.entries c.remove-then-is_empty.ensures.ordered in ?
+    gone_view g.T.Ord.cmp g.met.T.Ord.total g.met.T.Exact.exact _ _ _ _ c.args.element _ _ c.args.stamp c.self.view_is c.self.invariant c.in-Some.ensures.value
+    (c.get_mut.follows.holds c.remove.new.self).0 c.remove.ensures (c.is_empty.ensures.0 c.if-is_empty.true) c.remove-then-is_empty.ensures.entries c.remove-then-is_empty.ensures.ordered
 
 pub returns-else-is_empty : goal.returns-else-is_empty
 returns-else-is_empty g c =
