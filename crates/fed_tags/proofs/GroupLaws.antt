@@ -18,6 +18,7 @@ use Rattle.std.proofs.lemmas.Map.Lookups.{CmpEqualImpliesEq}
 use Rattle.std.proofs.lemmas.Map.Views.{tells_apart, IfSome-lookup_from_All, All-map-remove_entry}
 use Rattle.std.proofs.lemmas.List.Kept.{IsStrictlySortedBy-filter}
 use Rattle.fed_lattice.specs.Sets.{Has}
+use Rattle.fed_lattice.specs.SetLaws.{found, any_from}
 use Rattle.fed_lattice.specs.TableJoins.{well_formed_insert}
 use Rattle.fed_lattice.proofs.TableWrites.{set_value-insert, unchanged_present, value_well_formed_present}
 use Rattle.fed_stamp.specs.Stamp.{StampValue}
@@ -89,6 +90,9 @@ module _ {T : Type 0} (cmp : T → T → Ordering) (o : IsTotalOrder cmp) where
 
   pub sorted_pairs : (es : List (T × List StampValue)) → IsTable cmp IsGroup es → IsStrictlySortedBy (pair_cmp cmp) (pairs es)
   sorted_pairs es g = sorted_pairs_from es g.0 g.1
+
+  pub sorted_view : (es : List (T × List StampValue)) (self : List (T × StampValue)) → pairs es ≡ self → IsTable cmp IsGroup es → IsStrictlySortedBy (pair_cmp cmp) self
+  sorted_view es self v g = subst (IsStrictlySortedBy (pair_cmp cmp)) v (sorted_pairs es g)
 
   -- ---- which pairs there are
   has_tagged : (k : T) (ss : List StampValue) (q : T × StampValue) → has (pair_cmp cmp) (tagged k ss) q ≡ (is_eq (cmp q.0 k) && list_any (eq_by_cmp stamp_cmp q.1) ss)
@@ -322,6 +326,15 @@ module _ {T : Type 0} (cmp : T → T → Ordering) (o : IsTotalOrder cmp) where
       λ i. e ∙ holds_some (lookup (is_at (cmp t)) es) i.0 ((contains_pair es self (t, i.0) _ v g refl).1 i.1),
     )
 
+    -- the elements, as the keys of the entries
+    pub has_key : (es : List (T × List StampValue)) (self : List (T × StampValue)) (ks : List T) (t : T) → pairs es ≡ self → IsTable cmp IsGroup es → is_some (lookup (is_at (cmp t)) es) ≡ list_any (eq_by_cmp cmp t) ks → Has ks t ↔ IsElement self t
+    has_key es self ks t v g e = (
+      λ i. (has_element es self t _ v g refl).0 (e ∙ any_from (eq_by_cmp cmp t) ks t i (ap is_eq (tied_itself o t))),
+      λ i.
+          let f = found (eq_by_cmp cmp t) ks (sym e ∙ (has_element es self t _ v g refl).1 i) in
+          subst (Has ks) (sym (tells_apart exact t f.0 f.2)) f.1,
+    )
+
 module _ {T : Type 0} (cmp : T → T → Ordering) where
   first_pair : (e : T × List StampValue) (es : List (T × List StampValue)) → IsGroup e.1 → pairs (e ∷ es) ≢ []
   first_pair (t, []) es g = absurd (g.1 refl)
@@ -331,3 +344,6 @@ module _ {T : Type 0} (cmp : T → T → Ordering) where
   pub empty_pairs : (es : List (T × List StampValue)) (self : List (T × StampValue)) (r : Bool) → pairs es ≡ self → IsTable cmp IsGroup es → ((r ≡ true) ↔ (length es ≡ 0)) → (r ≡ true) ↔ (self ≡ [])
   empty_pairs [] self r v g e = (λ _. sym v, λ _. e.1 refl)
   empty_pairs (x ∷ es) self r v g e = (λ i. absurd (omega (arith, e.0 i)), λ i. absurd (first_pair x es (All-head IsGroup x.1 (values_of es) g.1) (v ∙ i)))
+
+  pub groups_rest : (es fs : List (T × List StampValue)) (e : T × List StampValue) → es ≡ e ∷ fs → All IsGroup (values_of es) → All IsGroup (values_of fs)
+  groups_rest es fs e h g = All-tail IsGroup e.1 (values_of fs) (subst (λ (l : List (T × List StampValue)). All IsGroup (values_of l)) h g)

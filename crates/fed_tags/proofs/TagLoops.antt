@@ -3,7 +3,7 @@ use Rattle.std.specs.BTreeSet.{insert_key}
 use Rattle.std.specs.Cmp.{IsTotalOrder}
 use Rattle.std.specs.List.Sorted.{IsStrictlySortedBy}
 use Rattle.std.specs.Ordering.{is_eq}
-use Rattle.std.proofs.Common.{◌≡◌, ◌↔◌, ℕ, zero, suc, ◌+◌, ◌<◌, ◌≤◌, Ordering, List, [], ◌∷◌, ◌++◌, ◌⊎◌, Bool, true, false, cond, not, ◌||◌, ◌&&◌, length, get_or, take, drop, filter, refl, sym, ap, ap₂, subst, ◌∙◌, inl, inr}
+use Rattle.std.proofs.Common.{◌≡◌, ◌↔◌, ℕ, zero, suc, ◌+◌, ◌<◌, ◌≤◌, Ordering, List, [], ◌∷◌, ◌++◌, ◌⊎◌, Bool, true, false, cond, not, ◌||◌, ◌&&◌, length, get_or, take, drop, filter, append_assoc, append-nil, refl, sym, ap, ap₂, subst, ◌∙◌, inl, inr}
 use Rattle.std.proofs.lemmas.Bool.{cases_Bool}
 use Rattle.std.proofs.lemmas.List.{drop_more, drop_all}
 use Rattle.std.proofs.lemmas.Map.Lookups.{CmpEqualImpliesEq}
@@ -71,6 +71,18 @@ module _ {T : Type 0} (R : T × StampValue → T × StampValue → Ordering) (o 
   has_decided k xs false d = elim (cases_Bool (has R xs k)) [ inl t ↦ (let u : false ≡ true = d.1 (member R o exact k xs t) in cc) | inr f ↦ f ]
 
   -- ---- elements that lack a tag
+  pub lacking_push : (xs : List (T × StampValue)) (s : StampValue) (ts rest before after all : List T) (t : T) → before ++ lacking R xs s ts ≡ all → ts ≡ t ∷ rest → has R xs (t, s) ≡ false → after ≡ before ++ t ∷ [] → after ++ lacking R xs s rest ≡ all
+  lacking_push xs s ts rest before after all t inv e n h =
+      ap (λ l. l ++ lacking R xs s rest) h ∙ append_assoc before (t ∷ []) (lacking R xs s rest)
+      ∙ ap (λ l. before ++ l) (sym (ap (lacking R xs s) e ∙ ap (λ b. cond (not b) (t ∷ lacking R xs s rest) (lacking R xs s rest)) n)) ∙ inv
+
+  pub lacking_skip : (xs : List (T × StampValue)) (s : StampValue) (ts rest before all : List T) (t : T) → before ++ lacking R xs s ts ≡ all → ts ≡ t ∷ rest → has R xs (t, s) ≡ true → before ++ lacking R xs s rest ≡ all
+  lacking_skip xs s ts rest before all t inv e n =
+      ap (λ l. before ++ l) (sym (ap (lacking R xs s) e ∙ ap (λ b. cond (not b) (t ∷ lacking R xs s rest) (lacking R xs s rest)) n)) ∙ inv
+
+  pub lacking_all : (xs : List (T × StampValue)) (s : StampValue) (ts before all : List T) → before ++ lacking R xs s ts ≡ all → ts ≡ [] → before ≡ all
+  lacking_all xs s ts before all inv e = sym (append-nil before) ∙ ap (λ l. before ++ lacking R xs s l) (sym e) ∙ inv
+
   not_true : (b : Bool) → not b ≡ true → b ≡ false
   not_true true e = cc
   not_true false e = refl
@@ -130,7 +142,25 @@ module _ {T : Type 0} (R : T × StampValue → T × StampValue → Ordering) (o 
       (sym (has_inserted R o exact q self (stamped s (drop i fresh))) ∙ ap (λ l. has R l q) inv ∙ has_inserted R o exact q old (stamped s fresh))
       (has_drop s i fresh q) (lacking_apart old s ts q))
 
+  -- ---- sets from their pairs
+  pub inserted_none : (ps : List (T × StampValue)) → IsStrictlySortedBy R ps → inserted R [] ps ≡ ps
+  unfolding IsStrictlySortedBy
+  inserted_none ps s = same_sets R o exact _ _ (sorted_inserted R o exact [] ps tt) s (λ q. has_inserted R o exact q [] ps ∙ or_false (has R ps q)) where
+    or_false : (a : Bool) → (a || false) ≡ a
+    or_false true = refl
+    or_false false = refl
+
   -- ---- joins
+  pub kept_push : (ys : List (T × StampValue)) (w : List ℕ) (self new old it rest : List (T × StampValue)) (p : T × StampValue) → inserted R self (kept R ys w it) ≡ old → it ≡ p ∷ rest
+      → (has R ys p || not (covers w p.1)) ≡ true → new ≡ insert_key R self p → inserted R new (kept R ys w rest) ≡ old
+  kept_push ys w self new old it rest p inv e n h =
+      inserted_more R self new old (kept R ys w it) (kept R ys w rest) p inv (ap (kept R ys w) e ∙ ap (λ b. cond b (p ∷ kept R ys w rest) (kept R ys w rest)) n) h
+
+  pub kept_skip : (ys : List (T × StampValue)) (w : List ℕ) (self old it rest : List (T × StampValue)) (p : T × StampValue) → inserted R self (kept R ys w it) ≡ old → it ≡ p ∷ rest
+      → (has R ys p || not (covers w p.1)) ≡ false → inserted R self (kept R ys w rest) ≡ old
+  kept_skip ys w self old it rest p inv e n =
+      ap (inserted R self) (sym (ap (kept R ys w) e ∙ ap (λ b. cond b (p ∷ kept R ys w rest) (kept R ys w rest)) n)) ∙ inv
+
   keep_bits : (a c b d : Bool) → ((b && (a || not c)) || ((a && (b || not d)) || false)) ≡ ((a && (b || not d)) || (b && not c))
   keep_bits true c true true = refl
   keep_bits true c true false = refl

@@ -128,7 +128,7 @@ impl<T: Exact> TagSet<T> {
     fn find_lacking(&self, elements: &[T], at: Stamp) -> Result<Vec<T>, NoMemory>
         ensures found { IfOk result (λ r. r.items ≡ lacking (pair_cmp T.cmp) self.now at elements.now) }
         ensures none { elements.now ≡ [] → IsOk result }
-        ensures ascending { IsStrictlySortedBy (pair_cmp T.cmp) self.now }
+        ensures ascending { OnOk result (IsStrictlySortedBy (pair_cmp T.cmp) self.now) }
     {
         let mut found = Vec::new(self.alloc);
         for element in elements {
@@ -147,9 +147,9 @@ impl<T: Exact> TagSet<T> {
     {
         let fresh = self.find_lacking(elements, at)?;
         for element in &fresh {
-            if self.insert(*element, at).is_err() {
+            if let Err(refused) = self.insert(*element, at) {
                 self.remove_stamped(&fresh, at);
-                return Err(NoMemory);
+                return Err(refused);
             }
         }
         Ok(())
@@ -186,7 +186,7 @@ impl<T: Exact> TagSet<T> {
 
     pub(crate) fn copied(&self) -> Result<TagSet<T>, NoMemory>
         ensures same { IfOk result (λ r. r ≡ self.now) }
-        ensures ascending { IsStrictlySortedBy (pair_cmp T.cmp) self.now }
+        ensures ascending { OnOk result (IsStrictlySortedBy (pair_cmp T.cmp) self.now) }
     {
         let mut groups = BTreeMap::new(self.alloc);
         for (element, tags) in &self.groups {
@@ -201,7 +201,7 @@ impl<T: Exact> TagSet<T> {
     /// Adds the pairs of one side of a join that stay beside the other side and its version.
     fn keep(&mut self, side: &Self, other: &Self, theirs: &Version) -> Result<(), NoMemory>
         ensures kept { OnOk result (self.new ≡ inserted (pair_cmp T.cmp) self.old (kept (pair_cmp T.cmp) other.now theirs.now side.now)) }
-        ensures ascending { IsStrictlySortedBy (pair_cmp T.cmp) side.now }
+        ensures ascending { OnOk result (IsStrictlySortedBy (pair_cmp T.cmp) side.now) }
     {
         for (element, stamp) in side.iter() {
             if other.contains(&element, stamp) || !theirs.covers(stamp) {
