@@ -345,5 +345,6 @@ module _ {T : Type 0} (cmp : T → T → Ordering) where
   empty_pairs [] self r v g e = (λ _. sym v, λ _. e.1 refl)
   empty_pairs (x ∷ es) self r v g e = (λ i. absurd (omega (arith, e.0 i)), λ i. absurd (first_pair x es (All-head IsGroup x.1 (values_of es) g.1) (v ∙ i)))
 
+module _ {T : Type 0} where
   pub groups_rest : (es fs : List (T × List StampValue)) (e : T × List StampValue) → es ≡ e ∷ fs → All IsGroup (values_of es) → All IsGroup (values_of fs)
   groups_rest es fs e h g = All-tail IsGroup e.1 (values_of fs) (subst (λ (l : List (T × List StampValue)). All IsGroup (values_of l)) h g)

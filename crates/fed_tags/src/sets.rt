@@ -227,3 +227,21 @@ impl<T: Exact> TagSet<T> {
         Ok(joined)
     }
 }
+
+/// Sets are equal where they have the same live pairs.
+impl<T: Exact> PartialEq for TagSet<T> {
+    ghost use Rattle.std.specs.Prelude.{◌&&◌};
+    ghost use Rattle.std.specs.Cmp.{on_per, and_per};
+    ghost use Rattle.std.specs.Cmp.Lexicographic.{pointwise, lists_per};
+
+    ghost eq = { pointwise (λ p q. T.eq p.0 q.0 && ⟦<Stamp as PartialEq>⟧.eq p.1 q.1) };
+
+    ghost laws = { lists_per (and_per (on_per (λ p. p.0) T.PartialEq.laws) (on_per (λ p. p.1) ⟦<Stamp as PartialEq>⟧.laws)) };
+
+    fn eq(&self, other: &Self) -> bool
+        ensures computed { result ≡ pointwise (λ p q. T.eq p.0 q.0 && ⟦<Stamp as PartialEq>⟧.eq p.1 q.1) self.now other.now }
+        ensures same { IsTrue result ↔ (self.now ≡ other.now) }
+    {
+        self.iter().eq(other.iter())
+    }
+}
