@@ -2,3 +2,4 @@
 pub mod StampLists
 pub mod GroupLaws
 pub mod TagLoops
+pub mod Equality

@@ -11,3 +11,6 @@ pub use changes::TagChange;
 pub use pairs::Pairs;
 pub use sets::TagSet;
 pub use tags::Tags;
+
+#[cfg(test)]
+mod tests;

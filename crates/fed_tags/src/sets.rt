@@ -230,18 +230,19 @@ impl<T: Exact> TagSet<T> {
 
 /// Sets are equal where they have the same live pairs.
 impl<T: Exact> PartialEq for TagSet<T> {
-    ghost use Rattle.std.specs.Prelude.{◌&&◌};
-    ghost use Rattle.std.specs.Cmp.{on_per, and_per};
+    ghost use Rattle.std.specs.Ordering.{eq_by_cmp};
     ghost use Rattle.std.specs.Cmp.Lexicographic.{pointwise, lists_per};
+    ghost use Rattle.std.specs.Cmp.{eq_by_cmp_equiv, partial_equiv_from_equiv};
+    ghost use Rattle.fed_tags.specs.TagLaws.{pair_total};
 
-    ghost eq = { pointwise (λ p q. T.eq p.0 q.0 && ⟦<Stamp as PartialEq>⟧.eq p.1 q.1) };
+    ghost eq = { pointwise (eq_by_cmp (pair_cmp T.cmp)) };
 
-    ghost laws = { lists_per (and_per (on_per (λ p. p.0) T.PartialEq.laws) (on_per (λ p. p.1) ⟦<Stamp as PartialEq>⟧.laws)) };
+    ghost laws = { lists_per (partial_equiv_from_equiv (eq_by_cmp_equiv (pair_total T.cmp T.total))) };
 
     fn eq(&self, other: &Self) -> bool
-        ensures computed { result ≡ pointwise (λ p q. T.eq p.0 q.0 && ⟦<Stamp as PartialEq>⟧.eq p.1 q.1) self.now other.now }
+        ensures by_pairs { result ≡ pointwise (eq_by_cmp (pair_cmp T.cmp)) self.now other.now }
         ensures same { IsTrue result ↔ (self.now ≡ other.now) }
     {
-        self.iter().eq(other.iter())
+        self.groups == other.groups
     }
 }

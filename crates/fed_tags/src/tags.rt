@@ -86,3 +86,17 @@ impl Tags {
         self.stamps.retain(|tag| (*tag).cmp(&stamp).is_ne());
     }
 }
+
+/// Tags are equal where they have the same stamps.
+impl PartialEq for Tags {
+    ghost use Rattle.std.specs.Cmp.Lexicographic.{pointwise};
+    ghost use Rattle.fed_tags.specs.TagLaws.{stamp_eq, stamp_lists_eq};
+
+    ghost eq = { pointwise stamp_eq };
+
+    ghost laws = { stamp_lists_eq };
+
+    fn eq(&self, other: &Self) -> bool {
+        self.stamps.as_slice() == other.stamps.as_slice()
+    }
+}
