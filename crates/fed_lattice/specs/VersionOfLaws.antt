@@ -19,7 +19,7 @@ set_cases (x ∷ v) (suc i) m zero = inl refl
 set_cases (x ∷ v) (suc i) m (suc j) = elim (set_cases v i m j) [ inl e ↦ inl e | inr p ↦ inr (ap suc p.0, p.1) ]
 
 -- each counter is as before, or that of the stamp and at its site
-raised_cases : (v : List ℕ) (s : StampValue) (i : ℕ) → (counter_of (raised v s) i ≡ counter_of v i) ⊎ ((s.site ≡ i) × (counter_of (raised v s) i ≡ max (counter_of v i) s.counter))
+pub raised_cases : (v : List ℕ) (s : StampValue) (i : ℕ) → (counter_of (raised v s) i ≡ counter_of v i) ⊎ ((s.site ≡ i) × (counter_of (raised v s) i ≡ max (counter_of v i) s.counter))
 raised_cases v s i = elim (set_cases v s.site (max (counter_of v s.site) s.counter) i) [
   | inl e ↦ inl e
   | inr p ↦ inr (p.0, p.1 ∙ ap (λ j. max (counter_of v j) s.counter) p.0)
@@ -38,7 +38,7 @@ set_joined (x ∷ v) [] i c e = absurd (omega arith)
 set_joined (x ∷ v) (y ∷ w) zero c e = let m : max (max x y) c ≡ max (max x c) y = omega arith in ap (λ n. n ∷ joined v w) m
 set_joined (x ∷ v) (y ∷ w) (suc i) c e = ap (λ l. max x y ∷ l) (set_joined v w i c (omega arith))
 
-joined_zeros : (n : ℕ) (w : List ℕ) → length w ≡ n → joined (replicate n 0) w ≡ w
+pub joined_zeros : (n : ℕ) (w : List ℕ) → length w ≡ n → joined (replicate n 0) w ≡ w
 unfolding joined
 joined_zeros zero w e = refl
 joined_zeros (suc n) [] e = absurd (omega arith)

@@ -14,3 +14,7 @@ pub mod Reservation
 pub mod GrantLaws
 pub mod ValueLaws
 pub mod HoldLaws
+pub mod Changes
+pub mod Record
+pub mod CoveredLaws
+pub mod RecordLaws

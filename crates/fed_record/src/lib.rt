@@ -3,6 +3,7 @@
 
 pub mod accounts;
 pub mod askers;
+pub mod changes;
 pub mod commands;
 pub mod exacts;
 pub mod grants;

@@ -1,0 +1,54 @@
+-- The laws of records of jobs.
+use Rattle.std.specs.List.Sorted.{IsStrictlySortedBy}
+use Rattle.std.specs.Ordering.{nat_cmp}
+use Rattle.std.specs.Cmp.{nat_cmp_total, IsTotalOrder}
+use Rattle.std.proofs.Common.{◌≡◌, ℕ, ◌<◌, ◌≤◌, List, [], ◌∷◌, ◌++◌, Bool, true, false, ◌||◌, Ordering, length, Option, Some, None, refl, sym, ap, subst, ◌∙◌, inl, inr, arith}
+use Rattle.std.proofs.lemmas.Bool.{cases_Bool, or_left, or_right}
+use Rattle.std.proofs.lemmas.Map.Lookups.{CmpEqualImpliesEq, exact_unsigned}
+use Rattle.fed_stamp.specs.Stamp.{StampValue}
+use Rattle.fed_stamp.specs.Version.{covers, joined, raised}
+use Rattle.fed_stamp.proofs.VersionLaws.{covers-joined}
+use Rattle.fed_lattice.specs.Sets.{Has, IsSameSet}
+use Rattle.fed_lattice.specs.History.{History, IsFresh, OneEach, IsCovered, Shares, Agree}
+use Rattle.fed_lattice.specs.Stamped.{stamped}
+use Rattle.fed_lattice.specs.StampedLaws.{stamped-append, stamped-Has, Has-stamped}
+use Rattle.fed_tags.specs.Tags.{pair_cmp, applied_tags, joined_tags}
+use Rattle.fed_tags.specs.TagLaws.{pair_total, exact_pair}
+use Rattle.fed_record.specs.declared.holds.HoldKind.{HoldKind}
+use Rattle.fed_record.specs.Hold.{kind_cmp}
+use Rattle.fed_record.specs.HoldLaws.{kind_total, exact_kind}
+use Rattle.fed_record.specs.Record.{AreCovered}
+
+-- ---- histories whose changes say their stamps
+module _ {C : Type 0} where
+  pub fresh_stamped : (s : StampValue) (h : History C) → IsFresh s h → IsFresh s (stamped h)
+  fresh_stamped s h f e k =
+      let i = Has-stamped h e k in
+      λ p. f e.1 i.0 (ap (λ (x : StampValue × (StampValue × C)). x.0) i.1 ∙ p)
+
+  covered_stamped : (v : List ℕ) (h : History C) → IsCovered v h → IsCovered v (stamped h)
+  covered_stamped v h c e k =
+      let i = Has-stamped h e k in
+      subst (λ (x : StampValue × (StampValue × C)). covers v x.0 ≡ true) i.1 (c e.1 i.0)
+
+  shares_stamped : (v : List ℕ) (g h : History C) → Shares v g h → Shares v (stamped g) (stamped h)
+  shares_stamped v g h s e k c =
+      let i = Has-stamped g e k in
+      subst (λ (x : StampValue × (StampValue × C)). Has (stamped h) x) i.1
+      (stamped-Has h e.1 (s e.1 i.0 (subst (λ (x : StampValue × (StampValue × C)). covers v x.0 ≡ true) (sym i.1) c)))
+
+  one_each_stamped : (h : History C) → OneEach h → OneEach (stamped h)
+  one_each_stamped h one e f i j same =
+      let a = Has-stamped h e i in
+      let b = Has-stamped h f j in
+      let p : e.1 ≡ f.1 = one e.1 f.1 a.0 b.0 (ap (λ (x : StampValue × (StampValue × C)). x.0) a.1 ∙ same ∙ sym (ap (λ (x : StampValue × (StampValue × C)). x.0) b.1)) in
+      sym a.1 ∙ ap (λ (y : StampValue × C). (y.0, y)) p ∙ b.1
+
+  pub agree_stamped : (v w : List ℕ) (g h : History C) → Agree v g w h → Agree v (stamped g) w (stamped h)
+  agree_stamped v w g h a = record {
+    left_covered = covered_stamped v g a.left_covered;
+    right_covered = covered_stamped w h a.right_covered;
+    left_shares = shares_stamped w g h a.left_shares;
+    right_shares = shares_stamped v h g a.right_shares;
+    one_each = subst OneEach (stamped-append g h) (one_each_stamped (g ++ h) a.one_each);
+  }
