@@ -10,6 +10,8 @@ use Rattle.fed_stamp.specs.Version.{covers, joined, raised}
 use Rattle.fed_stamp.proofs.VersionLaws.{covers-joined}
 use Rattle.fed_lattice.specs.Sets.{Has, IsSameSet}
 use Rattle.fed_lattice.specs.History.{History, IsFresh, OneEach, IsCovered, Shares, Agree}
+use Rattle.fed_lattice.specs.Part.{part}
+use Rattle.fed_lattice.specs.BothLaws.{part_joined_reads}
 use Rattle.fed_lattice.specs.Stamped.{stamped}
 use Rattle.fed_lattice.specs.StampedLaws.{stamped-append, stamped-Has, Has-stamped}
 use Rattle.fed_tags.specs.Tags.{pair_cmp, applied_tags, joined_tags}
@@ -17,7 +19,20 @@ use Rattle.fed_tags.specs.TagLaws.{pair_total, exact_pair}
 use Rattle.fed_record.specs.declared.holds.HoldKind.{HoldKind}
 use Rattle.fed_record.specs.Hold.{kind_cmp}
 use Rattle.fed_record.specs.HoldLaws.{kind_total, exact_kind}
-use Rattle.fed_record.specs.Record.{AreCovered}
+use Rattle.fed_record.specs.Changes.{always}
+
+-- ---- the orders of the pairs of holds and of sites
+pub hold_order : IsTotalOrder (pair_cmp kind_cmp)
+hold_order = pair_total kind_cmp kind_total
+
+pub hold_exact : CmpEqualImpliesEq (pair_cmp kind_cmp)
+hold_exact = exact_pair kind_cmp exact_kind
+
+pub site_order : IsTotalOrder (pair_cmp nat_cmp)
+site_order = pair_total nat_cmp nat_cmp_total
+
+pub site_exact : CmpEqualImpliesEq (pair_cmp nat_cmp)
+site_exact = exact_pair nat_cmp exact_unsigned
 
 -- ---- histories whose changes say their stamps
 module _ {C : Type 0} where
@@ -52,3 +67,13 @@ module _ {C : Type 0} where
     right_shares = shares_stamped v h g a.right_shares;
     one_each = subst OneEach (stamped-append g h) (one_each_stamped (g ++ h) a.one_each);
   }
+
+-- what joins the parts of two histories whose changes say their stamps
+module _ {X C D : Type 0} (f : StampValue × C → D) (reads : X → History D → Type 0) (is_history : History D → Type 0) where
+  pub stamped_joined_reads : (m : X) (v w : List ℕ) (g h : History C)
+      → (Agree v (part (always f) (stamped g)) w (part (always f) (stamped h)) → is_history (part (always f) (stamped g)) → is_history (part (always f) (stamped h))
+      → reads m (part (always f) (stamped g) ++ part (always f) (stamped h)))
+      → Agree v g w h → is_history (part (always f) (stamped g)) → is_history (part (always f) (stamped h)) → reads m (part (always f) (stamped (g ++ h)))
+  stamped_joined_reads m v w g h law a i j =
+      subst (λ l. reads m (part (always f) l)) (sym (stamped-append g h))
+      (part_joined_reads (always f) reads is_history m v w (stamped g) (stamped h) law (agree_stamped v w g h a) i j)

@@ -144,11 +144,13 @@ pub(crate) fn added_holds(alloc: Global, operation: &Operation) -> Result<Vec<Ho
     ensures { IfOk result (λ v. v.items ≡ filter (is_hold_added (body_of operation.now)) all_kinds) }
 {
     let kinds = [HoldKind::User, HoldKind::Operator, HoldKind::System];
-    Ok(kinds
-        .iter()
-        .copied()
-        .filter(|kind| adds_hold(operation, *kind))
-        .collect(alloc)?)
+    Ok(
+        kinds
+            .iter()
+            .copied()
+            .filter(|kind| adds_hold(operation, *kind))
+            .collect(alloc)?,
+    )
 }
 
 /// The sites that the operation adds. It takes no memory where there are none.
