@@ -23,6 +23,9 @@ old_or_new true b c e = inl refl
 old_or_new false true c e = inr refl
 old_or_new false false c e = cc
 
+pub covered_same : {T : Type 0} {u v : List ℕ} {xs ys : List (T × StampValue)} → u ≡ v → xs ≡ ys → AreCovered v ys → AreCovered u xs
+covered_same {T} {u} {v} {xs} {ys} e f p = subst (λ w. AreCovered w xs) (sym e) (subst (AreCovered v) (sym f) p)
+
 -- a version covers what it covered before it was raised
 pub covers-raised : (v : List ℕ) (s t : StampValue) → covers v t ≡ true → covers (raised v s) t ≡ true
 covers-raised v s t e =

@@ -11,7 +11,7 @@ ghost use Rattle.fed_lattice.specs.Stamped.{stamped};
 ghost use Rattle.fed_lattice.specs.StampedLaws.{same_stamped};
 ghost use Rattle.fed_lattice.specs.VersionOf.{version_of};
 ghost use Rattle.fed_lattice.specs.VersionOfLaws.{joined_zeros, version_of-append, version_of-same};
-ghost use Rattle.fed_tags.specs.Tags.{pair_cmp, applied_tags, joined_tags, IsTagHistory, tags_read};
+ghost use Rattle.fed_tags.specs.Tags.{pair_cmp, stamped as with_tag, inserted, applied_tags, joined_tags, IsTagHistory, tags_read};
 ghost use Rattle.fed_tags.specs.TagLaws.{sorted_empty, sorted_applied, sorted_joined, joined_tags_assoc, joined_tags_comm, joined_tags_itself, empty_tags_read, applied_tags_read, joined_tags_read, tags_read_same};
 ghost use Rattle.fed_record.specs.Hold.{kind_cmp};
 ghost use Rattle.fed_record.specs.RecordLaws.{hold_order, hold_exact, site_order, site_exact, fresh_stamped, stamped_joined_reads};
@@ -51,6 +51,32 @@ impl<F, G> Model for Record<F, G> {
     ghost invariant = { λ r. AreCovered r.touched r.holds × AreCovered r.touched r.sites };
 }
 
+/// Adds the elements with the stamp. On an error both sets are as before: the holds are copied where both sets grow.
+fn add_tags(
+    holds: &mut TagSet<HoldKind>,
+    sites: &mut TagSet<SiteId>,
+    at: Stamp,
+    kinds: &[HoldKind],
+    numbers: &[SiteId],
+) -> Result<(), NoMemory>
+    ensures holds { OnOk result (holds.new ≡ inserted (pair_cmp kind_cmp) holds.old (with_tag at kinds.now)) }
+    ensures sites { OnOk result (sites.new ≡ inserted (pair_cmp nat_cmp) sites.old (with_tag at numbers.now)) }
+    ensures holds_unchanged { OnErr result (holds.new ≡ holds.old) }
+    ensures sites_unchanged { OnErr result (sites.new ≡ sites.old) }
+{
+    if kinds.is_empty() {
+        return sites.add(numbers, at);
+    }
+    if numbers.is_empty() {
+        return holds.add(kinds, at);
+    }
+    let mut changed = holds.copy()?;
+    changed.add(kinds, at)?;
+    sites.add(numbers, at)?;
+    *holds = changed;
+    Ok(())
+}
+
 /// Adds the pairs that the operation adds, and takes out those that it removes. On an error both sets are as before.
 fn change_tags(
     alloc: Global,
@@ -66,16 +92,7 @@ fn change_tags(
 {
     let kinds = added_holds(alloc, operation)?;
     let numbers = added_sites(alloc, operation)?;
-    if kinds.is_empty() {
-        sites.add(&numbers, at)?;
-    } else if numbers.is_empty() {
-        holds.add(&kinds, at)?;
-    } else {
-        let mut changed = holds.copy()?;
-        changed.add(&kinds, at)?;
-        sites.add(&numbers, at)?;
-        *holds = changed;
-    }
+    add_tags(holds, sites, at, &kinds, &numbers)?;
     holds.remove(removed_holds(operation));
     sites.remove(removed_sites(operation));
     Ok(())
