@@ -1,4 +1,5 @@
 -- Lawful sets and what is read of sets, for callers too.
 pub mod LawfulLaws
 pub mod ViewLaws
-mod Scenes
+pub mod Scenes
+pub mod KinScene
