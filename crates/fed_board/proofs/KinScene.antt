@@ -1,18 +1,17 @@
 -- Two sites that submitted a job each hold kin sets.
-use Rattle.std.proofs.Common.{◌≡◌, ℕ, ◌<◌, [], ◌∷◌, ◌++◌, true, false, refl, sym, ap, subst, ◌∙◌, inl, inr, arith}
+use Rattle.std.proofs.Common.{◌≡◌, ℕ, ◌<◌, [], ◌∷◌, ◌++◌, true, false, refl, sym, ap, subst, inl, inr, arith}
 use Rattle.std.proofs.lemmas.Bool.{both_ways}
 use Rattle.fed_stamp.specs.Stamp.{StampValue}
 use Rattle.fed_stamp.specs.Version.{covers}
 use Rattle.fed_lattice.specs.Sets.{Has}
-use Rattle.fed_lattice.specs.SetLaws.{Has-cases}
-use Rattle.fed_lattice.specs.History.{History, OneEach, Shares}
+use Rattle.fed_lattice.specs.History.{History, OneEach}
 use Rattle.fed_lattice.specs.VersionOf.{version_of, HasSites}
 use Rattle.fed_record.specs.Body.{Body, Body.Submit}
 use Rattle.fed_board.specs.View.{view}
 use Rattle.fed_board.specs.ViewSteps.{join_views}
 use Rattle.fed_board.specs.Lawful.{IsGrounded, IsLawful, AreKin}
 use Rattle.fed_board.proofs.ViewLaws.{view_union}
-use Rattle.fed_board.proofs.Scenes.{job, here, there}
+use Rattle.fed_board.proofs.Scenes.{here, there}
 
 abbrev IsSubmit : Body → Type 0
 IsSubmit (Submit owner values held) = Unit {0}

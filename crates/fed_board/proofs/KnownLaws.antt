@@ -1,6 +1,6 @@
 -- What a set tells nothing new of, beside a kin set.
 use Rattle.std.specs.Prelude.{IfSome}
-use Rattle.std.proofs.Common.{◌≡◌, List, [], ◌∷◌, ◌++◌, true, Option, Some, None, refl, sym, ap, subst, ◌∙◌, inl, inr, append-nil, le_trans}
+use Rattle.std.proofs.Common.{◌≡◌, ◌++◌, true, Option, Some, None, ap, subst, ◌∙◌, inl, inr, append-nil, le_trans}
 use Rattle.std.proofs.lemmas.Bool.{le-leb}
 use Rattle.std.proofs.lemmas.Cmp.{upto}
 use Rattle.std.proofs.lemmas.List.Elements.{filter-append}
@@ -11,7 +11,7 @@ use Rattle.fed_lattice.specs.Sets.{Has, IsSameSet}
 use Rattle.fed_lattice.specs.SetLaws.{Has-left, Has-cases}
 use Rattle.fed_lattice.specs.History.{History, OneEach}
 use Rattle.fed_lattice.specs.FilterLaws.{Has-filter, filter-Has, one_each_filter}
-use Rattle.fed_lattice.specs.Latest.{stamp_cmp, latest, IsLatest}
+use Rattle.fed_lattice.specs.Latest.{latest, IsLatest}
 use Rattle.fed_lattice.specs.LatestLaws.{stamp_total, latest_reads, latest_from_reads}
 use Rattle.fed_lattice.specs.Part.{part}
 use Rattle.fed_lattice.specs.PartLaws.{part-append, source, Has-part, one_each_part}

@@ -1,15 +1,12 @@
 -- Worked scenes, each computed by the definitions.
 use Rattle.std.proofs.Common.{◌≡◌, ℕ, List, [], ◌∷◌, ◌++◌, Bool, true, false, refl}
-use Rattle.std.specs.Prelude.{pos, Option, Some, None, replicate}
+use Rattle.std.specs.Prelude.{pos, Some, None, replicate}
 use Rattle.fed_stamp.specs.Stamp.{StampValue}
 use Rattle.fed_stamp.specs.Version.{joined}
 use Rattle.fed_lattice.specs.History.{History}
 use Rattle.fed_record.specs.declared.grants.GrantStage.TheVariants.{Open, Returned}
 use Rattle.fed_record.specs.declared.holds.HoldKind.TheVariants.{User}
-use Rattle.fed_record.specs.declared.holds.HoldKinds.{HoldKinds}
 use Rattle.fed_record.specs.declared.letters.Letter.TheVariants.{Exiting, Running, Held, Granted, Queued}
-use Rattle.fed_record.specs.declared.progress.Beginning.{Beginning}
-use Rattle.fed_record.specs.declared.progress.Ending.{Ending}
 use Rattle.fed_record.specs.declared.values.Changes.{Changes}
 use Rattle.fed_record.specs.declared.values.JobValues.{JobValues}
 use Rattle.fed_record.specs.declared.windows.Window.{Window}

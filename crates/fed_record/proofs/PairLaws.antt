@@ -1,6 +1,6 @@
 -- Live pairs of unions, of one operation more, and of sets with the same members.
 use Rattle.std.specs.List.{list_any}
-use Rattle.std.proofs.Common.{◌≡◌, ℕ, List, [], ◌∷◌, ◌++◌, Bool, true, false, not, ◌&&◌, ◌||◌, ◌==◌, refl, ap, sym, subst, ◌∙◌, arith}
+use Rattle.std.proofs.Common.{◌≡◌, ℕ, List, [], ◌∷◌, ◌++◌, Bool, true, false, not, ◌&&◌, ◌||◌, refl, sym, subst, ◌∙◌, arith}
 use Rattle.std.proofs.lemmas.Bool.{and_parts}
 use Rattle.std.proofs.lemmas.List.Folds.{list_any-append}
 use Rattle.fed_stamp.specs.Stamp.{StampValue}
@@ -74,8 +74,8 @@ module _ {C E : Type 0} (adds : C → E → Bool) (removes : C → E → StampVa
       (λ i. a i && not (r i))
       ∙ add_bits (added h) (removed h) (adds_pair adds removes element tag e) (removes e.1 element tag)
       (λ gone new.
-        let x = removed_added h rests gone in
-        fresh (tag, x.0) x.1 (sym (same_stamp_is e.0 tag (and_parts (same_stamp e.0 tag) (adds e.1 element) new).0)))
+      let x = removed_added h rests gone in
+      fresh (tag, x.0) x.1 (sym (same_stamp_is e.0 tag (and_parts (same_stamp e.0 tag) (adds e.1 element) new).0)))
 
   pub live_same : (g h : History C) → IsSameSet g h → is_live adds removes g element tag ≡ is_live adds removes h element tag
   live_same g h same =

@@ -9,21 +9,43 @@ use fed_stamp::{JobId, SiteId, Stamp};
 #[derive(Clone, Copy, PartialEq, Eq, Debug)]
 pub enum Command {
     /// Submit a job, with a user hold if `held`.
-    Submit { values: JobValues, held: bool },
+    Submit {
+        values: JobValues,
+        held: bool,
+    },
     /// Set the values named.
-    Alter { job: JobId, changes: Changes },
+    Alter {
+        job: JobId,
+        changes: Changes,
+    },
     /// Add holds of these kinds.
-    Hold { job: JobId, kinds: HoldKinds },
+    Hold {
+        job: JobId,
+        kinds: HoldKinds,
+    },
     /// Remove the holds of these kinds that the site sees.
-    Release { job: JobId, kinds: HoldKinds },
+    Release {
+        job: JobId,
+        kinds: HoldKinds,
+    },
     /// Delete the job.
-    Delete { job: JobId },
+    Delete {
+        job: JobId,
+    },
     /// Grant the job to the site that asks.
-    Grant { job: JobId, asker: SiteId },
+    Grant {
+        job: JobId,
+        asker: SiteId,
+    },
     /// Hand back the open grant.
-    HandBack { job: JobId },
+    HandBack {
+        job: JobId,
+    },
     /// Begin the job.
-    Begin { job: JobId, moment: Moment },
+    Begin {
+        job: JobId,
+        moment: Moment,
+    },
     /// Finish the job, with a status.
     Finish {
         job: JobId,
@@ -31,7 +53,11 @@ pub enum Command {
         status: u8,
     },
     /// Make a reservation.
-    Reserve { window: Window },
+    Reserve {
+        window: Window,
+    },
     /// Cancel a reservation, named by the stamp of its `Reserve`.
-    Cancel { reservation: Stamp },
+    Cancel {
+        reservation: Stamp,
+    },
 }

@@ -20,7 +20,10 @@ pub enum GrantStage {
         site: SiteId,
     },
     /// The grant of the term is handed back, by the operation with the stamp.
-    Returned { term: Term, stamp: Stamp },
+    Returned {
+        term: Term,
+        stamp: Stamp,
+    },
 }
 
 impl GrantStage {

@@ -27,14 +27,19 @@ pub enum Operation {
         removed: Vec<(SiteId, Stamp)>,
     },
     /// Adds holds.
-    Hold { job: JobId, kinds: HoldKinds },
+    Hold {
+        job: JobId,
+        kinds: HoldKinds,
+    },
     /// Removes pairs of holds.
     Release {
         job: JobId,
         removed: Vec<(HoldKind, Stamp)>,
     },
     /// Deletes the job.
-    Delete { job: JobId },
+    Delete {
+        job: JobId,
+    },
     /// Grants the job to the site. Only the site that the job was submitted at does so.
     Grant {
         job: JobId,
@@ -42,15 +47,28 @@ pub enum Operation {
         term: Term,
     },
     /// Hands the grant of the term back.
-    HandBack { job: JobId, term: Term },
+    HandBack {
+        job: JobId,
+        term: Term,
+    },
     /// Begins the job.
-    Begin { job: JobId, beginning: Beginning },
+    Begin {
+        job: JobId,
+        beginning: Beginning,
+    },
     /// Finishes the job.
-    Finish { job: JobId, ending: Ending },
+    Finish {
+        job: JobId,
+        ending: Ending,
+    },
     /// Makes a reservation.
-    Reserve { window: Window },
+    Reserve {
+        window: Window,
+    },
     /// Cancels a reservation.
-    Cancel { reservation: Stamp },
+    Cancel {
+        reservation: Stamp,
+    },
 }
 
 impl Operation {

@@ -15,7 +15,9 @@ fn ends_of_ranges(rt: HostRuntime) -> Result<(), Fail> {
     assert!(rt; Limit::new(0).is_none() && Limit::new(1).is_some());
     assert!(rt; Limit::new(10_000_000).is_some() && Limit::new(10_000_001).is_none());
     assert!(rt; Moment::new(0).is_some());
-    assert!(rt; Moment::new(1_000_000_000_000).is_some() && Moment::new(1_000_000_000_001).is_none());
+    assert!(rt;
+        Moment::new(1_000_000_000_000).is_some() && Moment::new(1_000_000_000_001).is_none()
+    );
     assert!(rt; Term::new(0).is_none() && Term::new(1).is_some());
     assert!(rt; Term::new(1_000_000_000).is_some() && Term::new(1_000_000_001).is_none());
     Ok(())
