@@ -2,3 +2,4 @@
 pub mod FieldLaws
 pub mod PairLaws
 pub mod JobLaws
+pub mod PresenceLaws
