@@ -49,7 +49,10 @@ module _ {E : Type 0} (adds : Body → E → Bool) (removes : Body → E → Sta
       (f.0.1, subst (λ (s : StampValue). Has h (s, f.0.1)) (same_stamp_is f.0.0 tag (and_parts (same_stamp f.0.0 tag) (adds f.0.1 element) f.2).0) f.1)
 
   pub present_where_live : (any_covered (version_of h) (is_live adds removes h element) ≡ true) ↔ ((tag : StampValue) × (is_live adds removes h element tag ≡ true))
-  present_where_live = (any_covered_found (version_of h) (is_live adds removes h element), λ p.
-      let t = tagged p.0 p.1 in
-      let small = sites (p.0, t.0) t.1 in
-      any_covered_from (version_of h) (is_live adds removes h element) p.0 small (version_of-Has h (p.0, t.0) t.1 small) p.1)
+  present_where_live = (
+    any_covered_found (version_of h) (is_live adds removes h element),
+    λ p.
+        let t = tagged p.0 p.1 in
+        let small = sites (p.0, t.0) t.1 in
+        any_covered_from (version_of h) (is_live adds removes h element) p.0 small (version_of-Has h (p.0, t.0) t.1 small) p.1,
+  )
