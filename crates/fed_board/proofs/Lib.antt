@@ -1,4 +1,6 @@
 -- Lawful sets and what is read of sets, for callers too.
 pub mod LawfulLaws
 pub mod ViewLaws
-mod Scenes
+pub mod KnownLaws
+pub mod Scenes
+pub mod KinScene

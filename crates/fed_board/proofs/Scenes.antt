@@ -1,15 +1,12 @@
 -- Worked scenes, each computed by the definitions.
 use Rattle.std.proofs.Common.{◌≡◌, ℕ, List, [], ◌∷◌, ◌++◌, Bool, true, false, refl}
-use Rattle.std.specs.Prelude.{pos, Option, Some, None, replicate}
+use Rattle.std.specs.Prelude.{pos, Some, None, replicate}
 use Rattle.fed_stamp.specs.Stamp.{StampValue}
 use Rattle.fed_stamp.specs.Version.{joined}
 use Rattle.fed_lattice.specs.History.{History}
 use Rattle.fed_record.specs.declared.grants.GrantStage.TheVariants.{Open, Returned}
 use Rattle.fed_record.specs.declared.holds.HoldKind.TheVariants.{User}
-use Rattle.fed_record.specs.declared.holds.HoldKinds.{HoldKinds}
 use Rattle.fed_record.specs.declared.letters.Letter.TheVariants.{Exiting, Running, Held, Granted, Queued}
-use Rattle.fed_record.specs.declared.progress.Beginning.{Beginning}
-use Rattle.fed_record.specs.declared.progress.Ending.{Ending}
 use Rattle.fed_record.specs.declared.values.Changes.{Changes}
 use Rattle.fed_record.specs.declared.values.JobValues.{JobValues}
 use Rattle.fed_record.specs.declared.windows.Window.{Window}
@@ -20,37 +17,37 @@ use Rattle.fed_record.specs.Letter.{any_below, has_site, is_submitted, letter}
 use Rattle.fed_board.specs.View.{view}
 use Rattle.fed_board.specs.ViewSteps.{add_to_view, join_views}
 
-abbrev at : ℕ → ℕ → StampValue
+abbrev pub at : ℕ → ℕ → StampValue
 at counter site = record { counter = counter; site = site }
 
-abbrev ann : List ℕ
+abbrev pub ann : List ℕ
 ann = 97 ∷ 110 ∷ 110 ∷ []
 
 -- sites 0 and 1
-abbrev both_sites : List Bool
+abbrev pub both_sites : List Bool
 both_sites = true ∷ true ∷ replicate 14 false
 
 -- site 1
 abbrev second_site : List Bool
 second_site = false ∷ true ∷ replicate 14 false
 
-abbrev values : JobValues
+abbrev pub values : JobValues
 values = record { name = 74 ∷ []; priority = pos 0; nodes = 1; limit = 3600; account = None; sites = both_sites }
 
 abbrev nothing : Changes
 nothing = record { name = None; priority = None; nodes = None; limit = None; account = None; sites = None }
 
-abbrev submit : Bool → Body
+abbrev pub submit : Bool → Body
 submit held = Submit ann values held
 
-abbrev job : StampValue
+abbrev pub job : StampValue
 job = at 1 0
 
 -- ---- two sites submit a job each and exchange
-abbrev here : History Body
+abbrev pub here : History Body
 here = (job, submit false) ∷ []
 
-abbrev there : History Body
+abbrev pub there : History Body
 there = (at 1 1, submit false) ∷ []
 
 exchanged_version : (view (here ++ there)).version ≡ 1 ∷ 1 ∷ replicate 14 0

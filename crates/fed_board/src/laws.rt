@@ -1,7 +1,7 @@
 //! Laws of what is read of sets of operations, over every set. Each function does nothing: its contract is the law.
-ghost use Rattle.std.specs.Prelude.{◌≡◌, false, [], ◌∷◌, ◌++◌};
+ghost use Rattle.std.specs.Prelude.{◌≡◌, true, false, [], ◌∷◌, ◌++◌, IfSome};
 ghost use Rattle.fed_stamp.specs.Stamp.{StampValue};
-ghost use Rattle.fed_stamp.specs.Version.{covers};
+ghost use Rattle.fed_stamp.specs.Version.{covers, is_below};
 ghost use Rattle.fed_lattice.specs.Sets.{IsSameSet};
 ghost use Rattle.fed_lattice.specs.History.{History, OneEach};
 ghost use Rattle.fed_lattice.specs.VersionOf.{version_of};
@@ -25,4 +25,17 @@ pub fn additions_are_read()
 /// The union of kin sets is read by joining what is read of each.
 pub fn kin_sets_join()
     ensures { (ops others : History Body) → AreKin ops others → view (ops ++ others) ≡ join_views (view ops) (view others) }
+{}
+
+/// Beside a kin set, a job that the other set did not touch beyond this set's version is read as in this set alone: it need not be sent.
+pub fn untouched_jobs_are_known()
+    ensures { (ops others : History Body) (job : StampValue) → AreKin ops others →
+        is_below ((view others).job job).touched (version_of ops) ≡ true → (view (ops ++ others)).job job ≡ (view ops).job job }
+{}
+
+/// So is a reservation that the other set doesn't have, or whose greatest stamp there is covered by this set's version.
+pub fn covered_reservations_are_known()
+    ensures { (ops others : History Body) (name : StampValue) → AreKin ops others →
+        IfSome ((view others).reservation name) (λ greatest. covers (version_of ops) greatest.0 ≡ true) →
+        (view (ops ++ others)).reservation name ≡ (view ops).reservation name }
 {}

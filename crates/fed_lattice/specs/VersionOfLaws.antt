@@ -1,5 +1,5 @@
 -- The laws of the version of a history.
-use Rattle.std.proofs.Common.{◌≡◌, ◌⊎◌, ℕ, zero, suc, ◌≤◌, ◌<◌, true, max, List, [], ◌∷◌, ◌++◌, length, replicate, set, slice_index, get_or, get_or-set_same, length-set, refl, sym, ap, subst, ◌∙◌, inl, inr, arith}
+use Rattle.std.proofs.Common.{◌≡◌, ◌⊎◌, ℕ, zero, suc, ◌≤◌, ◌<◌, max, List, [], ◌∷◌, ◌++◌, length, replicate, set, slice_index, get_or, get_or-set_same, length-set, refl, sym, ap, subst, ◌∙◌, inl, inr, arith}
 use Rattle.std.proofs.lemmas.Bool.{le-leb, cases_lt}
 use Rattle.std.proofs.lemmas.List.{ext_get_or}
 use Rattle.fed_stamp.specs.Stamp.{StampValue}
@@ -119,6 +119,6 @@ module _ {C : Type 0} where
   version_of-same g h same =
       let l : length (version_of g) ≡ 16 = length-version_of g in
       ext_get_or 0 (version_of g) (version_of h) (length-version_of g ∙ sym (length-version_of h)) (λ i k.
-        let small : i < 16 = omega arith in
-        let a : counter_of (version_of g) i ≤ counter_of (version_of h) i = version_of-within g h same.1 i small in
-        let b : counter_of (version_of h) i ≤ counter_of (version_of g) i = version_of-within h g same.0 i small in omega arith)
+      let small : i < 16 = omega arith in
+      let a : counter_of (version_of g) i ≤ counter_of (version_of h) i = version_of-within g h same.1 i small in
+      let b : counter_of (version_of h) i ≤ counter_of (version_of g) i = version_of-within h g same.0 i small in omega arith)

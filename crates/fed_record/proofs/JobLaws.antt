@@ -1,14 +1,15 @@
 -- What is read of a job: of the union of two sets of its operations, of one operation more, and of sets with the same members.
-use Rattle.std.proofs.Common.{◌≡◌, ℕ, List, [], ◌∷◌, ◌++◌, refl}
+use Rattle.std.proofs.Common.{◌≡◌, ℕ, List, [], ◌∷◌, ◌++◌, ◌∙◌}
 use Rattle.fed_stamp.specs.Stamp.{StampValue}
 use Rattle.fed_lattice.specs.Sets.{IsSameSet}
+use Rattle.fed_lattice.specs.SetLaws.{same_union_comm}
+use Rattle.fed_lattice.specs.UnionLaws.{one_each_same}
 use Rattle.fed_lattice.specs.History.{History, IsFresh, OneEach, Agree}
 use Rattle.fed_lattice.specs.VersionOfLaws.{version_of-append, version_of-push, version_of-same}
-use Rattle.fed_record.specs.declared.holds.HoldKind.{HoldKind}
 use Rattle.fed_record.specs.Body.{Body}
 use Rattle.fed_record.specs.Field.{owner_in, name_in, priority_in, nodes_in, limit_in, account_in, begin_in, finish_in}
 use Rattle.fed_record.specs.Pairs.{adds_site, removes_site, adds_hold, removes_hold, IsJobHistory}
-use Rattle.fed_record.specs.JobView.{JobView, job_view}
+use Rattle.fed_record.specs.JobView.{job_view}
 use Rattle.fed_record.specs.JobSteps.{add_to_job, join_jobs}
 use Rattle.fed_record.proofs.FieldLaws.{field_union, field_push, field_same, grant_union, grant_push, grant_same, deleted_union, deleted_push, deleted_same}
 use Rattle.fed_record.proofs.PairLaws.{live_union, live_push, live_same}
@@ -105,3 +106,9 @@ job_same g h same one =
       finished = finished i;
       touched = touched i;
     })
+
+-- one operation more, written in front
+pub job_more : (h : History Body) (e : StampValue × Body) → OneEach (e ∷ h) → IsFresh e.0 h → IsJobHistory h → job_view (e ∷ h) ≡ add_to_job e.0 e.1 (job_view h)
+job_more h e one fresh rests =
+    let turned : IsSameSet (e ∷ h) (h ++ e ∷ []) = same_union_comm (e ∷ []) h in
+    job_same (e ∷ h) (h ++ e ∷ []) turned one ∙ job_push h e (one_each_same (e ∷ h) (h ++ e ∷ []) turned one) fresh rests

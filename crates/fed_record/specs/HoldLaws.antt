@@ -1,9 +1,8 @@
 -- That the order of the kinds of holds is total and tells them apart.
-use Rattle.std.specs.Prelude.{◌≡◌, refl}
+use Rattle.std.specs.Prelude.{refl}
 use Rattle.std.specs.Cmp.{IsTotalOrder, nat_cmp_total}
 use Rattle.std.proofs.lemmas.Cmp.{on_total}
 use Rattle.std.proofs.lemmas.Map.Lookups.{CmpEqualImpliesEq}
-use Rattle.fed_record.specs.declared.holds.HoldKind.{HoldKind}
 use Rattle.fed_record.specs.declared.holds.HoldKind.TheVariants.{User, Operator, System}
 use Rattle.fed_record.specs.Hold.{bit_of, kind_cmp}
 

@@ -1,12 +1,12 @@
 -- What is read of a job once one more operation is there, and of two sets of its operations together.
-use Rattle.std.specs.Prelude.{Bool, ◌||◌, List, ℕ, is_some}
+use Rattle.std.specs.Prelude.{◌||◌, List, ℕ, is_some}
 use Rattle.std.specs.Option.{option_cmp}
 use Rattle.std.specs.Ordering.{ord_max}
 use Rattle.fed_stamp.specs.Stamp.{StampValue}
 use Rattle.fed_stamp.specs.Version.{covers, joined, raised}
 use Rattle.fed_lattice.specs.Latest.{later}
 use Rattle.fed_lattice.specs.Stamped.{with_stamp}
-use Rattle.fed_record.specs.Body.{Body, same_stamp}
+use Rattle.fed_record.specs.Body.{Body}
 use Rattle.fed_record.specs.Field.{owner_in, name_in, priority_in, nodes_in, limit_in, account_in, deletion_in, begin_in, finish_in}
 use Rattle.fed_record.specs.Grant.{grant_cmp, grant_in}
 use Rattle.fed_record.specs.Pairs.{adds_site, removes_site, adds_hold, removes_hold, adds_pair, add_live, join_live}

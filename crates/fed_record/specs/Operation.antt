@@ -4,7 +4,6 @@ use Rattle.std.specs.List.{list_any}
 use Rattle.fed_stamp.specs.Stamp.{StampValue}
 use Rattle.fed_record.specs.declared.holds.HoldKind.{HoldKind}
 use Rattle.fed_record.specs.declared.operations.Operation.{Operation}
-use Rattle.fed_record.specs.declared.operations.Operation.TheVariants as Operation
 use Rattle.fed_record.specs.Hold.{same_kind}
 use Rattle.fed_record.specs.Body.{Body, Body.Submit, Body.Set, Body.Hold, Body.Release, Body.Delete, Body.Grant, Body.HandBack, Body.Begin, Body.Finish, Body.Reserve, Body.Cancel, same_stamp}
 

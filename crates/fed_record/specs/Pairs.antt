@@ -6,7 +6,7 @@ use Rattle.fed_stamp.specs.SiteSet.{has as has_site}
 use Rattle.fed_lattice.specs.Sets.{Has}
 use Rattle.fed_lattice.specs.History.{History}
 use Rattle.fed_record.specs.declared.holds.HoldKind.{HoldKind}
-use Rattle.fed_record.specs.declared.holds.HoldKind.TheVariants.{User, Operator, System}
+use Rattle.fed_record.specs.declared.holds.HoldKind.TheVariants.{User}
 use Rattle.fed_record.specs.Hold.{has_kind}
 use Rattle.fed_record.specs.Body.{Body, Body.Submit, Body.Set, Body.Hold, Body.Release, same_stamp}
 

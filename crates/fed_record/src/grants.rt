@@ -10,7 +10,7 @@ use fed_stamp::{SiteId, Stamp};
 use std::cmp::Ordering;
 
 /// How far the grants of a job have come. Stages are ordered by term; of one term a grant that is handed back is above the
-/// open one. (Stages of one term and kind are ordered by stamp, and then by site: no run has two of them.)
+/// open one. Stages of one term and kind, of which a job has one at most, are ordered by stamp and site.
 #[derive(Clone, Copy, Debug)]
 pub enum GrantStage {
     /// The job is granted to the site, by the operation with the stamp.

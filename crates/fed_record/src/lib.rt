@@ -8,6 +8,7 @@ pub mod commands;
 pub mod exacts;
 pub mod grants;
 pub mod holds;
+pub mod laws;
 pub mod letters;
 pub mod limits;
 pub mod moments;

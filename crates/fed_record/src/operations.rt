@@ -1,4 +1,8 @@
 //! Operations: what is done to jobs and reservations.
+ghost use Rattle.std.specs.Prelude.{◌≡◌};
+ghost use Rattle.fed_record.specs.Body.{job_of, reservation_of};
+ghost use Rattle.fed_record.specs.Operation.{body_of};
+
 use crate::holds::{HoldKind, HoldKinds};
 use crate::progress::{Beginning, Ending};
 use crate::terms::Term;
@@ -65,4 +69,35 @@ pub enum Operation {
     Cancel {
         reservation: Stamp,
     },
+}
+
+impl Operation {
+    /// The job that the operation is of, where its stamp is `at`, or `None` where it is of a reservation.
+    pub fn job(&self, at: Stamp) -> Option<JobId>
+        ensures { result ≡ job_of at (body_of self.now) }
+    {
+        match self {
+            Operation::Submit { .. } => Some(at),
+            Operation::Set { job, .. }
+            | Operation::Hold { job, .. }
+            | Operation::Release { job, .. }
+            | Operation::Delete { job }
+            | Operation::Grant { job, .. }
+            | Operation::HandBack { job, .. }
+            | Operation::Begin { job, .. }
+            | Operation::Finish { job, .. } => Some(*job),
+            Operation::Reserve { .. } | Operation::Cancel { .. } => None,
+        }
+    }
+
+    /// The reservation that the operation is of, where its stamp is `at`, or `None` where it is of a job.
+    pub fn reservation(&self, at: Stamp) -> Option<Stamp>
+        ensures { result ≡ reservation_of at (body_of self.now) }
+    {
+        match self {
+            Operation::Reserve { .. } => Some(at),
+            Operation::Cancel { reservation } => Some(*reservation),
+            _ => None,
+        }
+    }
 }

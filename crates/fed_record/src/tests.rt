@@ -1,6 +1,7 @@
 //! Examples of values.
 use crate::{
-    Account, GrantStage, HoldKind, HoldKinds, Limit, Moment, Nodes, Priority, Refusal, Term,
+    Account, GrantStage, HoldKind, HoldKinds, Limit, Moment, Nodes, Operation, Priority, Refusal,
+    Term,
 };
 use bitflags::Flags;
 use fed_stamp::{SiteId, Stamp};
@@ -73,5 +74,21 @@ fn numbers_of_refusals(rt: HostRuntime) -> Result<(), Fail> {
     assert_eq!(rt; Refusal::UnknownJob.number(), 1);
     assert_eq!(rt; Refusal::TakenBy(site).number(), 8);
     assert_eq!(rt; Refusal::NoMemory.number(), 16);
+    Ok(())
+}
+
+#[test]
+fn what_operations_are_of(rt: HostRuntime) -> Result<(), Fail> {
+    let site = SiteId::new(0).ok_or("site")?;
+    let job = Stamp::new(1, site).ok_or("job")?;
+    let at = Stamp::new(2, site).ok_or("at")?;
+    let mut removed = Vec::new(rt.alloc());
+    removed.push((HoldKind::User, job))?;
+    let release = Operation::Release { job, removed };
+    assert_eq!(rt; release.job(at), Some(job));
+    assert!(rt; release.reservation(at).is_none());
+    let cancel = Operation::Cancel { reservation: job };
+    assert_eq!(rt; cancel.reservation(at), Some(job));
+    assert!(rt; cancel.job(at).is_none());
     Ok(())
 }
