@@ -9,7 +9,6 @@ use Rattle.fed_stamp.specs.Version.{covers}
 use Rattle.fed_lattice.specs.Sets.{IsSameSet}
 use Rattle.fed_lattice.specs.SetLaws.{Has-push}
 use Rattle.fed_lattice.specs.History.{History, IsFresh, OneEach}
-use Rattle.fed_lattice.specs.Latest.{later}
 use Rattle.fed_lattice.specs.Stamped.{with_stamp}
 use Rattle.fed_lattice.specs.FilterLaws.{Has-filter, same_filter, one_each_filter, agree_filter}
 use Rattle.fed_lattice.specs.VersionOf.{version_of}
@@ -17,6 +16,9 @@ use Rattle.fed_lattice.specs.VersionOfLaws.{version_of-append, version_of-push, 
 use Rattle.fed_record.specs.Body.{Body, is_of_job, is_of_reservation, of_job, of_reservation}
 use Rattle.fed_record.specs.Field.{window_in}
 use Rattle.fed_record.specs.JobView.{job_view}
+use Rattle.fed_lattice.specs.Register.{joined_registers}
+use Rattle.fed_record.specs.ValueOrders.{option_window_cmp}
+use Rattle.fed_record.specs.ValueOrderLaws.{option_window_total}
 use Rattle.fed_record.specs.JobSteps.{add_to_job, join_jobs}
 use Rattle.fed_record.specs.Reservation.{reservation_view}
 use Rattle.fed_record.proofs.FieldLaws.{field_union, field_push, field_same}
@@ -72,11 +74,11 @@ module _ (ops : History Body) (e : StampValue × Body) (l : IsLawful ops) (new :
       go true = job_push (of_job job ops) e (one_of (is_of_job job)) (fresh_of (is_of_job job)) (job_history ops l job)
       go false = refl
 
-  reservation_pushed : (name : StampValue) → reservation_view (of_reservation name (ops ++ e ∷ [])) ≡ (if is_of_reservation name e then later (reservation_view (of_reservation name ops)) (with_stamp e.0 (window_in e.1)) else reservation_view (of_reservation name ops))
+  reservation_pushed : (name : StampValue) → reservation_view (of_reservation name (ops ++ e ∷ [])) ≡ (if is_of_reservation name e then joined_registers option_window_cmp (reservation_view (of_reservation name ops)) (with_stamp e.0 (window_in e.1)) else reservation_view (of_reservation name ops))
   reservation_pushed name = ap reservation_view (pushed (is_of_reservation name) ops e) ∙ go (is_of_reservation name e)
     where
-      go : (b : Bool) → reservation_view (if b then of_reservation name ops ++ e ∷ [] else of_reservation name ops) ≡ (if b then later (reservation_view (of_reservation name ops)) (with_stamp e.0 (window_in e.1)) else reservation_view (of_reservation name ops))
-      go true = field_push window_in (of_reservation name ops) e (one_of (is_of_reservation name))
+      go : (b : Bool) → reservation_view (if b then of_reservation name ops ++ e ∷ [] else of_reservation name ops) ≡ (if b then joined_registers option_window_cmp (reservation_view (of_reservation name ops)) (with_stamp e.0 (window_in e.1)) else reservation_view (of_reservation name ops))
+      go true = field_push option_window_cmp option_window_total window_in (of_reservation name ops) e (one_of (is_of_reservation name))
       go false = refl
 
   pub view_push : view (ops ++ e ∷ []) ≡ add_to_view (view ops) e
@@ -93,11 +95,11 @@ module _ (ops others : History Body) (kin : AreKin ops others) where
       (agree_filter (is_of_job job) (version_of ops) (version_of others) ops others (kin_agree ops others kin))
       (job_history ops kin.left job) (job_history others kin.right job)
 
-  reservation_joined : (name : StampValue) → reservation_view (of_reservation name (ops ++ others)) ≡ later (reservation_view (of_reservation name ops)) (reservation_view (of_reservation name others))
+  reservation_joined : (name : StampValue) → reservation_view (of_reservation name (ops ++ others)) ≡ joined_registers option_window_cmp (reservation_view (of_reservation name ops)) (reservation_view (of_reservation name others))
   reservation_joined name =
       let p = is_of_reservation name in
       ap reservation_view (filter-append p ops others)
-      ∙ field_union window_in (filter p ops) (filter p others) (subst OneEach (filter-append p ops others) (one_each_filter p (ops ++ others) kin.both.distinct))
+      ∙ field_union option_window_cmp option_window_total window_in (filter p ops) (filter p others) (subst OneEach (filter-append p ops others) (one_each_filter p (ops ++ others) kin.both.distinct))
 
   pub view_union : view (ops ++ others) ≡ join_views (view ops) (view others)
   unfolding join_views

@@ -8,7 +8,8 @@ use Rattle.fed_lattice.specs.Sets.{IsSameSet}
 use Rattle.fed_lattice.specs.History.{History, OneEach}
 use Rattle.fed_lattice.specs.Latest.{later, latest}
 use Rattle.fed_lattice.specs.LatestLaws.{later_reads, latest_reads, latest_from_reads}
-use Rattle.fed_lattice.specs.RegisterLaws.{register_reads_same}
+use Rattle.fed_lattice.specs.Register.{joined_registers}
+use Rattle.fed_lattice.specs.RegisterLaws.{register_joined_reads, register_reads_same}
 use Rattle.fed_lattice.specs.Stage.{greatest_value}
 use Rattle.fed_lattice.specs.StageLaws.{stage_joined_reads, stage_reads_same, stage_reads_greatest, stage_from_reads}
 use Rattle.fed_lattice.specs.Flag.{has_changes}
@@ -19,6 +20,9 @@ module _ {T : Type 0} where
 
   pub latest_union : (g h : History T) → OneEach (g ++ h) → latest (g ++ h) ≡ later (latest g) (latest h)
   latest_union g h one = latest_from_reads _ _ (g ++ h) one (latest_reads (g ++ h)) (later_reads (latest g) (latest h) g h (latest_reads g) (latest_reads h))
+
+  pub register_union : (cmp : T → T → Ordering) → IsTotalOrder cmp → (g h : History T) → OneEach (g ++ h) → latest (g ++ h) ≡ joined_registers cmp (latest g) (latest h)
+  register_union cmp o g h one = latest_from_reads _ _ (g ++ h) one (latest_reads (g ++ h)) (register_joined_reads cmp o (latest g) (latest h) g h (latest_reads g) (latest_reads h))
 
   pub latest_same : (g h : History T) → IsSameSet g h → OneEach g → latest g ≡ latest h
   latest_same g h same one = latest_from_reads _ _ h (one_each_same g h same one) (register_reads_same (latest g) g h same (latest_reads g)) (latest_reads h)

@@ -1,39 +1,42 @@
 -- Fields, stages and marks of unions, of one operation more, and of sets with the same members.
 use Rattle.std.specs.Option.{option_cmp}
 use Rattle.std.specs.Ordering.{ord_max}
+use Rattle.std.specs.Cmp.{IsTotalOrder}
 use Rattle.std.specs.List.{cons_option}
 use Rattle.std.specs.Prelude.{is_some}
-use Rattle.std.proofs.Common.{◌≡◌, [], ◌∷◌, ◌++◌, ◌||◌, Option, Some, None, refl, ap, subst, ◌∙◌}
+use Rattle.std.proofs.Common.{◌≡◌, [], ◌∷◌, ◌++◌, ◌||◌, Option, Some, None, Ordering, refl, ap, subst, ◌∙◌}
 use Rattle.fed_stamp.specs.Stamp.{StampValue}
 use Rattle.fed_lattice.specs.Sets.{IsSameSet}
 use Rattle.fed_lattice.specs.History.{History, OneEach}
 use Rattle.fed_lattice.specs.Part.{part}
 use Rattle.fed_lattice.specs.PartLaws.{part-append, one_each_part, same_part}
-use Rattle.fed_lattice.specs.Latest.{later, latest}
+use Rattle.fed_lattice.specs.Latest.{latest}
+use Rattle.fed_lattice.specs.Register.{joined_registers}
 use Rattle.fed_lattice.specs.Stage.{greatest_value}
 use Rattle.fed_lattice.specs.Flag.{has_changes}
 use Rattle.fed_lattice.specs.Stamped.{with_stamp, stamped}
 use Rattle.fed_lattice.specs.StampedLaws.{stamped-append, same_stamped}
-use Rattle.fed_lattice.specs.UnionLaws.{latest_union, latest_same, greatest_union, greatest_same, has_changes_union, has_changes_same}
+use Rattle.fed_lattice.specs.UnionLaws.{register_union, latest_same, greatest_union, greatest_same, has_changes_union, has_changes_same}
 use Rattle.fed_record.specs.declared.grants.GrantStage.{GrantStage}
 use Rattle.fed_record.specs.Body.{Body}
 use Rattle.fed_record.specs.Field.{deletion_in, field}
 use Rattle.fed_record.specs.Grant.{grant_cmp, grant_in, grant_stage}
 use Rattle.fed_record.specs.GrantLaws.{grant_total, exact_grant}
 
-module _ {T : Type 0} (says : Body → Option T) where
-  pub field_union : (g h : History Body) → OneEach (g ++ h) → field says (g ++ h) ≡ later (field says g) (field says h)
+module _ {T : Type 0} (cmp : T → T → Ordering) (o : IsTotalOrder cmp) (says : Body → Option T) where
+  pub field_union : (g h : History Body) → OneEach (g ++ h) → field says (g ++ h) ≡ joined_registers cmp (field says g) (field says h)
   field_union g h one =
       ap latest (part-append says g h)
-      ∙ latest_union (part says g) (part says h) (subst OneEach (part-append says g h) (one_each_part says (g ++ h) one))
+      ∙ register_union cmp o (part says g) (part says h) (subst OneEach (part-append says g h) (one_each_part says (g ++ h) one))
 
   only : (t : StampValue) (o : Option T) → latest (cons_option (with_stamp t o) []) ≡ with_stamp t o
   only t None = refl
   only t (Some a) = refl
 
-  pub field_push : (h : History Body) (e : StampValue × Body) → OneEach (h ++ e ∷ []) → field says (h ++ e ∷ []) ≡ later (field says h) (with_stamp e.0 (says e.1))
-  field_push h e one = field_union h (e ∷ []) one ∙ ap (later (field says h)) (only e.0 (says e.1))
+  pub field_push : (h : History Body) (e : StampValue × Body) → OneEach (h ++ e ∷ []) → field says (h ++ e ∷ []) ≡ joined_registers cmp (field says h) (with_stamp e.0 (says e.1))
+  field_push h e one = field_union h (e ∷ []) one ∙ ap (joined_registers cmp (field says h)) (only e.0 (says e.1))
 
+module _ {T : Type 0} (says : Body → Option T) where
   pub field_same : (g h : History Body) → IsSameSet g h → OneEach g → field says g ≡ field says h
   field_same g h same one = latest_same (part says g) (part says h) (same_part says g h same) (one_each_part says g one)
 

@@ -11,6 +11,9 @@ use Rattle.fed_record.specs.Field.{owner_in, name_in, priority_in, nodes_in, lim
 use Rattle.fed_record.specs.Pairs.{adds_site, removes_site, adds_hold, removes_hold, IsJobHistory}
 use Rattle.fed_record.specs.JobView.{job_view}
 use Rattle.fed_record.specs.JobSteps.{add_to_job, join_jobs}
+use Rattle.fed_record.specs.ValueOrders.{name_cmp, account_cmp, beginning_cmp, ending_cmp}
+use Rattle.fed_record.specs.ValueOrderLaws.{name_total, priority_total, number_total, account_total, beginning_total, ending_total}
+use Rattle.std.specs.Ordering.{nat_cmp, int_cmp}
 use Rattle.fed_record.proofs.FieldLaws.{field_union, field_push, field_same, grant_union, grant_push, grant_same, deleted_union, deleted_push, deleted_same}
 use Rattle.fed_record.proofs.PairLaws.{live_union, live_push, live_same}
 
@@ -19,16 +22,16 @@ pub job_union : (v w : List ℕ) (g h : History Body) → Agree v g w h → IsJo
 unfolding join_jobs
 job_union v w g h agree here there =
     let one = agree.one_each in
-    let owner = field_union owner_in g h one in
-    let name = field_union name_in g h one in
-    let priority = field_union priority_in g h one in
-    let nodes = field_union nodes_in g h one in
-    let limit = field_union limit_in g h one in
-    let account = field_union account_in g h one in
+    let owner = field_union name_cmp name_total owner_in g h one in
+    let name = field_union name_cmp name_total name_in g h one in
+    let priority = field_union int_cmp priority_total priority_in g h one in
+    let nodes = field_union nat_cmp number_total nodes_in g h one in
+    let limit = field_union nat_cmp number_total limit_in g h one in
+    let account = field_union account_cmp account_total account_in g h one in
     let deleted = deleted_union g h in
     let grant = grant_union g h in
-    let begun = field_union begin_in g h one in
-    let finished = field_union finish_in g h one in
+    let begun = field_union beginning_cmp beginning_total begin_in g h one in
+    let finished = field_union ending_cmp ending_total finish_in g h one in
     let touched = version_of-append g h in
     (λ i. record {
       owner = owner i;
@@ -50,16 +53,16 @@ job_union v w g h agree here there =
 pub job_push : (h : History Body) (e : StampValue × Body) → OneEach (h ++ e ∷ []) → IsFresh e.0 h → IsJobHistory h → job_view (h ++ e ∷ []) ≡ add_to_job e.0 e.1 (job_view h)
 unfolding add_to_job
 job_push h e one fresh rests =
-    let owner = field_push owner_in h e one in
-    let name = field_push name_in h e one in
-    let priority = field_push priority_in h e one in
-    let nodes = field_push nodes_in h e one in
-    let limit = field_push limit_in h e one in
-    let account = field_push account_in h e one in
+    let owner = field_push name_cmp name_total owner_in h e one in
+    let name = field_push name_cmp name_total name_in h e one in
+    let priority = field_push int_cmp priority_total priority_in h e one in
+    let nodes = field_push nat_cmp number_total nodes_in h e one in
+    let limit = field_push nat_cmp number_total limit_in h e one in
+    let account = field_push account_cmp account_total account_in h e one in
     let deleted = deleted_push h e in
     let grant = grant_push h e in
-    let begun = field_push begin_in h e one in
-    let finished = field_push finish_in h e one in
+    let begun = field_push beginning_cmp beginning_total begin_in h e one in
+    let finished = field_push ending_cmp ending_total finish_in h e one in
     let touched = version_of-push h e in
     (λ i. record {
       owner = owner i;

@@ -18,3 +18,5 @@ pub mod Changes
 pub mod Record
 pub mod CoveredLaws
 pub mod RecordLaws
+pub mod ValueOrders
+pub mod ValueOrderLaws
