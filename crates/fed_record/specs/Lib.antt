@@ -16,6 +16,7 @@ pub mod ValueLaws
 pub mod HoldLaws
 pub mod Changes
 pub mod Record
+pub mod JobRecord
 pub mod CoveredLaws
 pub mod RecordLaws
 pub mod ValueOrders
