@@ -155,6 +155,18 @@ impl<T: Exact> TagSet<T> {
         Ok(())
     }
 
+    /// Whether the pairs ascend, by element and then by stamp, with none twice, as `from_pairs` asks.
+    pub fn is_ascending(pairs: &[(T, Stamp)]) -> bool
+        ensures { IsTrue result ↔ IsStrictlySortedBy (pair_cmp T.cmp) pairs.now }
+    {
+        for i in 1..pairs.len() {
+            if pairs[i - 1].cmp(&pairs[i]).is_ge() {
+                return false;
+            }
+        }
+        true
+    }
+
     /// The set of these pairs.
     pub fn from_pairs(alloc: Global, pairs: &[(T, Stamp)]) -> Result<TagSet<T>, NoMemory>
         requires { IsStrictlySortedBy (pair_cmp T.cmp) pairs.now }
