@@ -1,4 +1,4 @@
-use Rattle.std.proofs.Common.{ap, sym, ◌∙◌, true, false, refl}
+use Rattle.std.proofs.Common.{ap, sym, ◌∙◌, refl}
 use Rattle.std.specs.Ordering.{is_ge}
 use Rattle.fed_tags.specs.Tags.{pair_cmp}
 use Rattle.fed_tags.specs.TagLaws.{pair_total}
@@ -9,7 +9,7 @@ pub returns-then-is_ge : goal.returns-then-is_ge
 returns-then-is_ge g c = (
   λ e. cc,
   λ s. absurd (ascends_not (pair_cmp g.T.Ord.cmp) c.args.pairs.now c.loop-i.i c.index-pairs-i.result c.index-pairs-i-in-loop-i.result c.loop-i.auto.i c.loop-i-test.true c.index-pairs-i.is c.index-pairs-i-in-loop-i.is
-  (ap is_ge (sym c.cmp.ensures) ∙ sym c.is_ge.ensures ∙ c.if-is_ge.true) s),
+      (ap is_ge (sym c.cmp.ensures) ∙ sym c.is_ge.ensures ∙ c.if-is_ge.true) s),
 )
 
 pub loop-i-preserved : goal.loop-i-preserved
