@@ -1,5 +1,5 @@
 //! Tag sets at work, alone and inside tables.
-ghost use Rattle.std.specs.Prelude.{◌≡◌, IfOk};
+ghost use Rattle.std.specs.Prelude.{◌≡◌, [], IfOk, IsOk};
 
 use crate::{TagChange, TagSet};
 use fed_lattice::{Both, Causal, Flag, NoMemory, Table};
@@ -40,7 +40,15 @@ fn rows_both_ways(
     join_both_ways(a, b, c, u, v, w)
 }
 
-/// A change of one element and the pairs given.
+/// A change that adds nothing is never refused.
+fn release(set: &mut TagSet<u8>, at: Stamp, change: &TagChange<u8>) -> Result<(), NoMemory>
+    requires { change.now.0 ≡ [] }
+    ensures { IsOk result }
+{
+    set.apply(at, change)
+}
+
+/// The change that adds these elements, and removes these pairs.
 fn change(
     alloc: Global,
     added: &[u8],
