@@ -26,7 +26,7 @@ use Rattle.fed_lattice.specs.Latest.{stamp_cmp}
 use Rattle.fed_lattice.specs.LatestLaws.{stamp_total}
 use Rattle.fed_lattice.specs.ExactLaws.{exact_stamp}
 use Rattle.fed_lattice.specs.Table.{IsTable, value_at}
-use Rattle.fed_lattice.specs.TableEntries.{lookup-insert_entry, sorted_insert}
+use Rattle.fed_lattice.specs.TableEntries.{lookup-insert_entry}
 use Rattle.fed_tags.specs.Tags.{pair_cmp, has, without, tags_of, IsElement}
 use Rattle.fed_tags.specs.TagLaws.{pair_total, exact_pair, same_sets, any_filtered, sorted_insert_key, has_insert_key, has_without, sorted_without, member, has_member}
 use Rattle.fed_tags.specs.Groups.{tagged, pairs, IsGroup}

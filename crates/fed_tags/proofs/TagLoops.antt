@@ -2,17 +2,18 @@
 use Rattle.std.specs.BTreeSet.{insert_key}
 use Rattle.std.specs.Cmp.{IsTotalOrder}
 use Rattle.std.specs.List.Sorted.{IsStrictlySortedBy}
-use Rattle.std.specs.Ordering.{is_eq}
-use Rattle.std.proofs.Common.{◌≡◌, ◌↔◌, ℕ, zero, suc, ◌+◌, ◌<◌, ◌≤◌, Ordering, List, [], ◌∷◌, ◌++◌, ◌⊎◌, Bool, true, false, cond, not, ◌||◌, ◌&&◌, length, get_or, take, drop, filter, append_assoc, append-nil, refl, sym, ap, ap₂, subst, ◌∙◌, inl, inr}
-use Rattle.std.proofs.lemmas.Bool.{cases_Bool}
-use Rattle.std.proofs.lemmas.List.{drop_more, drop_all}
+use Rattle.std.specs.Ordering.{is_eq, is_ge}
+use Rattle.std.proofs.Common.{◌≡◌, ◌↔◌, ℕ, zero, suc, ◌+◌, ◌-◌, ◌<◌, ◌≤◌, Ordering, Less, Equal, Greater, List, [], ◌∷◌, ◌++◌, Bool, true, false, cond, not, ◌||◌, ◌&&◌, length, get_or, drop, filter, append_assoc, append-nil, arith, refl, sym, ap, ap₂, subst, ◌∙◌, inl, inr}
+use Rattle.std.proofs.lemmas.Bool.{cases_Bool, cases_lt}
+use Rattle.std.proofs.lemmas.List.{drop_more, get_or_default}
+use Rattle.std.proofs.lemmas.Map.Keys.{Less-from_sorted, sorted_from_all_adjacent}
 use Rattle.std.proofs.lemmas.Map.Lookups.{CmpEqualImpliesEq}
 use Rattle.std.proofs.lemmas.Map.Views.{tells_apart}
 use Rattle.fed_stamp.specs.Stamp.{StampValue}
 use Rattle.fed_stamp.specs.Version.{covers}
 use Rattle.fed_lattice.specs.Sets.{Has}
 use Rattle.fed_tags.specs.Tags.{has, inserted, stamped, without, lacking, kept, joined_tags}
-use Rattle.fed_tags.specs.TagLaws.{same_sets, sorted_inserted, sorted_without, sorted_joined, has_inserted, has_without, has_filtered, has_joined, member, has_member, stamped_at}
+use Rattle.fed_tags.specs.TagLaws.{sorted_empty, same_sets, sorted_inserted, sorted_without, sorted_joined, has_inserted, has_without, has_filtered, has_joined, member, has_member, stamped_at}
 
 -- ---- lists
 module _ {X : Type 0} where
@@ -37,6 +38,38 @@ module _ {X : Type 0} where
   -- the element at an index, and what is left after it
   pub drop_item : (xs : List X) (i : ℕ) (x : X) → i < length xs → x ≡ get_or xs i x → drop i xs ≡ x ∷ drop (i + 1) xs
   drop_item xs i x l e = drop_more xs i x l ∙ ap (λ (y : X). y ∷ drop (i + 1) xs) (sym e)
+
+-- each element below the index is below the next
+abbrev pub AscendsBelow : {K : Type 0} → (K → K → Ordering) → List K → ℕ → Type 0
+AscendsBelow {K} R xs i = (k : ℕ) (d : K) → k + 1 < i → R (get_or xs k d) (get_or xs (k + 1) d) ≡ Less
+
+module _ {K : Type 0} (R : K → K → Ordering) where
+  less_from_not_ge : (r : Ordering) → is_ge r ≡ false → r ≡ Less
+  less_from_not_ge Less e = refl
+  less_from_not_ge Equal e = cc
+  less_from_not_ge Greater e = cc
+
+  -- the two neighbours that a turn of the loop compares, at any default
+  neighbours : (xs : List K) (i : ℕ) (d x y : K) → 1 ≤ i → i < length xs → x ≡ get_or xs (i - 1) x → y ≡ get_or xs i y → R (get_or xs (i - 1) d) (get_or xs i d) ≡ R x y
+  neighbours xs i d x y a l e f = ap₂ R (sym (e ∙ get_or_default xs (i - 1) x d (omega arith))) (sym (f ∙ get_or_default xs i y d l))
+
+  pub ascends_more : (xs : List K) (i : ℕ) (x y : K) → 1 ≤ i → i < length xs → x ≡ get_or xs (i - 1) x → y ≡ get_or xs i y → is_ge (R x y) ≡ false → AscendsBelow R xs i → AscendsBelow R xs (i + 1)
+  ascends_more xs i x y a l e f n inv k d b = elim (cases_lt (k + 1) i) [
+    | inl lt ↦ inv k d lt
+    | inr ge ↦
+        let p : k ≡ i - 1 = omega arith in
+        let q : k + 1 ≡ i = omega arith in
+        ap₂ (λ u v. R (get_or xs u d) (get_or xs v d)) p q ∙ neighbours xs i d x y a l e f ∙ less_from_not_ge (R x y) n
+  ]
+
+  pub ascends_not : (xs : List K) (i : ℕ) (x y : K) → 1 ≤ i → i < length xs → x ≡ get_or xs (i - 1) x → y ≡ get_or xs i y → is_ge (R x y) ≡ true → IsStrictlySortedBy R xs → ⊥
+  ascends_not xs i x y a l e f n s =
+      let h : R x y ≡ Less = sym (neighbours xs i x x y a l e f) ∙ Less-from_sorted R xs (i - 1) i x s (omega arith) l in
+      let k : false ≡ true = sym (ap is_ge h) ∙ n in cc
+
+  pub ascends_all : IsTotalOrder R → (xs : List K) (i : ℕ) → length xs ≤ i → AscendsBelow R xs i → IsStrictlySortedBy R xs
+  ascends_all o [] i l inv = sorted_empty R
+  ascends_all o (x ∷ xs) i l inv = sorted_from_all_adjacent o (x ∷ xs) x (λ k b. inv k x (omega arith))
 
 module _ {T : Type 0} (R : T × StampValue → T × StampValue → Ordering) where
   -- ---- loops that take pairs out

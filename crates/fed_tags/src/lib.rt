@@ -1,4 +1,6 @@
-//! Sets of tagged elements, without tombstones.
+//! Observed-remove sets without tombstones: each element has the stamps of the operations that added it, its tags,
+//! and an operation that removes an element removes the tags that it has seen. Only live pairs of an element and a
+//! tag are kept: a pair that one side of a join lacks was removed there if that side's version covers its stamp.
 #![tactic(auto)]
 
 pub mod changes;

@@ -35,6 +35,7 @@ impl<T: Exact> Causal for TagSet<T> {
         self.copied()
     }
 
+    /// Adds the elements with the stamp, and then removes the pairs. On an error the set is as before.
     fn apply(&mut self, at: Stamp, change: &TagChange<T>) -> Result<(), NoMemory>
         ensures applied { OnOk result (self.new ≡ applied_tags (pair_cmp T.cmp) self.old at change.now) }
         ensures unchanged { OnErr result (self.new ≡ self.old) }

@@ -17,6 +17,8 @@ use std::marker::Model;
 
 /// A set of elements, each with the stamps of the operations that added it and are in effect. It is seen as the
 /// list of these live pairs of an element and a stamp, by element and then by stamp.
+///
+/// A change of one element finds it in time logarithmic in the number of elements, and moves that element's tags alone.
 #[derive(Drop)]
 pub struct TagSet<T: Exact> {
     alloc: Global,
@@ -139,7 +141,8 @@ impl<T: Exact> TagSet<T> {
         Ok(found)
     }
 
-    /// Adds the elements with the stamp. On an error the set is as before.
+    /// Adds the elements with the stamp. On an error, which is want of memory, the set is as before. Where there is
+    /// nothing to add there is none.
     pub fn add(&mut self, elements: &[T], at: Stamp) -> Result<(), NoMemory>
         ensures added { OnOk result (self.new ≡ inserted (pair_cmp T.cmp) self.old (stamped at elements.now)) }
         ensures unchanged { OnErr result (self.new ≡ self.old) }
@@ -155,7 +158,19 @@ impl<T: Exact> TagSet<T> {
         Ok(())
     }
 
-    /// The set of these pairs.
+    /// Whether the pairs ascend, by element and then by stamp, with none twice, as `from_pairs` asks.
+    pub fn is_ascending(pairs: &[(T, Stamp)]) -> bool
+        ensures { IsTrue result ↔ IsStrictlySortedBy (pair_cmp T.cmp) pairs.now }
+    {
+        for i in 1..pairs.len() {
+            if pairs[i - 1].cmp(&pairs[i]).is_ge() {
+                return false;
+            }
+        }
+        true
+    }
+
+    /// The set of these pairs. The only error is want of memory.
     pub fn from_pairs(alloc: Global, pairs: &[(T, Stamp)]) -> Result<TagSet<T>, NoMemory>
         requires { IsStrictlySortedBy (pair_cmp T.cmp) pairs.now }
         ensures { IfOk result (λ r. r ≡ pairs.now) }
@@ -211,7 +226,8 @@ impl<T: Exact> TagSet<T> {
         Ok(())
     }
 
-    /// The join of two sets, each beside its version.
+    /// The join of two sets, each beside its version. Each live pair of either is looked up in the other, and each that
+    /// stays is inserted by itself.
     pub(crate) fn joined(
         &self,
         mine: &Version,

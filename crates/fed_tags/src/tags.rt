@@ -58,13 +58,13 @@ impl Tags {
     pub fn contains(&self, stamp: Stamp) -> bool
         ensures { result ≡ list_any (eq_by_cmp stamp_cmp stamp) self.now }
     {
-        self.stamps.as_slice().iter().any(|tag| stamp.cmp(tag).is_eq())
+        self.as_slice().iter().any(|tag| stamp.cmp(tag).is_eq())
     }
 
     pub(crate) fn copy(&self) -> Result<Tags, NoMemory>
         ensures { IfOk result (λ r. r ≡ self.now) }
     {
-        let stamps = SmallVec::from_slice(*self.stamps.allocator(), self.stamps.as_slice())?;
+        let stamps = SmallVec::from_slice(*self.stamps.allocator(), self.as_slice())?;
         Ok(Tags { stamps })
     }
 
@@ -97,6 +97,6 @@ impl PartialEq for Tags {
     ghost laws = { stamp_lists_eq };
 
     fn eq(&self, other: &Self) -> bool {
-        self.stamps.as_slice() == other.stamps.as_slice()
+        self.as_slice() == other.as_slice()
     }
 }

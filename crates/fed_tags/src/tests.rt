@@ -1,5 +1,5 @@
 //! Tag sets at work, alone and inside tables.
-ghost use Rattle.std.specs.Prelude.{◌≡◌, IfOk};
+ghost use Rattle.std.specs.Prelude.{◌≡◌, [], IfOk, IsOk};
 
 use crate::{TagChange, TagSet};
 use fed_lattice::{Both, Causal, Flag, NoMemory, Table};
@@ -40,7 +40,15 @@ fn rows_both_ways(
     join_both_ways(a, b, c, u, v, w)
 }
 
-/// A change of one element and the pairs given.
+/// A change that adds nothing is never refused.
+fn release(set: &mut TagSet<u8>, at: Stamp, change: &TagChange<u8>) -> Result<(), NoMemory>
+    requires { change.now.0 ≡ [] }
+    ensures { IsOk result }
+{
+    set.apply(at, change)
+}
+
+/// The change that adds these elements, and removes these pairs.
 fn change(
     alloc: Global,
     added: &[u8],
@@ -57,6 +65,14 @@ fn stamp(counter: u64, site: u8) -> Result<Stamp, Fail> {
     Ok(Stamp::new(counter, site).ok_or("stamp")?)
 }
 
+fn set_of(alloc: Global, pairs: &[(u8, Stamp)]) -> Result<TagSet<u8>, Fail> {
+    if TagSet::is_ascending(pairs) {
+        Ok(TagSet::from_pairs(alloc, pairs)?)
+    } else {
+        Err(Fail::from("order"))
+    }
+}
+
 #[test]
 fn leaves_no_tag_behind(rt: HostRuntime) -> Result<(), Fail> {
     let alloc = rt.alloc();
@@ -64,7 +80,7 @@ fn leaves_no_tag_behind(rt: HostRuntime) -> Result<(), Fail> {
     for turn in 0..1000u64 {
         let at = stamp(2 * turn + 1, 3)?;
         set.apply(at, &change(alloc, &[7], &[])?)?;
-        assert!(rt; set.tags(&7) == [at]);
+        assert!(rt; set.tags(&7) == [at].as_slice());
         set.apply(stamp(2 * turn + 2, 3)?, &change(alloc, &[], &[(7, at)])?)?;
         assert!(rt; set.is_empty());
     }
@@ -79,7 +95,7 @@ fn forgets_what_the_other_side_removed(rt: HostRuntime) -> Result<(), Fail> {
     let at = stamp(1, 3)?;
     let none = Version::new([0; 16]).ok_or("version")?;
     let one = none.with(at);
-    let set = TagSet::from_pairs(alloc, &[(7u8, at)])?;
+    let set = set_of(alloc, &[(7, at)])?;
     let bottom: TagSet<u8> = TagSet::bottom(alloc);
     assert!(rt; set.join(&one, &bottom, &one)?.is_empty());
     assert!(rt; bottom.join(&one, &set, &one)?.is_empty());
@@ -104,8 +120,8 @@ fn joins_inside_tables(rt: HostRuntime) -> Result<(), Fail> {
     let (left, right) = rows_both_ways(&a, &b, &a, &u, &v, &u)?;
     for joined in [&left, &right] {
         let row = joined.get(40).ok_or("no row")?;
-        assert!(rt; row.first.tags(&7) == [second]);
-        assert!(rt; row.first.tags(&8) == [first]);
+        assert!(rt; row.first.tags(&7) == [second].as_slice());
+        assert!(rt; row.first.tags(&8) == [first].as_slice());
         assert!(rt; row.second.get());
     }
     Ok(())
@@ -116,9 +132,11 @@ fn reads_a_small_set(rt: HostRuntime) -> Result<(), Fail> {
     let alloc = rt.alloc();
     let (first, second, third) = (stamp(1, 3)?, stamp(1, 4)?, stamp(2, 0)?);
     let pairs = [(7u8, first), (7, third), (9, second)];
-    let mut set = TagSet::from_pairs(alloc, &pairs)?;
+    let mut set = set_of(alloc, &pairs)?;
+    assert!(rt; !TagSet::is_ascending(&[(7u8, third), (7, first)]));
+    assert!(rt; !TagSet::is_ascending(&[(7u8, first), (7, first)]));
     assert!(rt; set.has(&7) && set.has(&9) && !set.has(&8));
-    assert!(rt; set.tags(&7) == [first, third]);
+    assert!(rt; set.tags(&7) == [first, third].as_slice());
     assert!(rt; set.tags(&8).is_empty());
     assert!(rt; set.contains(&9, second) && !set.contains(&9, first));
     assert!(rt; set.elements().copied().eq([7, 9]));

@@ -14,10 +14,10 @@ loop-element-preserved-in-loop-element g c =
     let exact = exact_pair g.T.Ord.cmp g.met.T.Exact.exact in
     let there = has_decided R o exact (c.in-Some.element, c.in-Some.stamp) _ _ c.contains.ensures in
     let stays : (has R c.args.other.now (c.in-Some.element, c.in-Some.stamp) || not (covers c.args.theirs.now c.in-Some.stamp)) ≡ true =
-        elim c.then-contains.branch [
-          | then-contains-via-then-contains w ↦ ap (λ b. b || not (covers c.args.theirs.now c.in-Some.stamp)) (there ∙ w.if-contains.true)
-          | then-contains-via-else-contains+then-not-covers w ↦ ap₂ (λ a b. a || not b) (there ∙ w.if-contains.false) (sym w.covers.ensures ∙ w.if-not-covers.true)
-        ] in
+    elim c.then-contains.branch [
+      | then-contains-via-then-contains w ↦ ap (λ b. b || not (covers c.args.theirs.now c.in-Some.stamp)) (there ∙ w.if-contains.true)
+      | then-contains-via-else-contains+then-not-covers w ↦ ap₂ (λ a b. a || not b) (there ∙ w.if-contains.false) (sym w.covers.ensures ∙ w.if-not-covers.true)
+    ] in
     kept_push R o exact _ _ _ _ _ _ _ _ c.loop-element.invariant (rest_more (λ x. x) _ _ _ _ c.in-Some.is c.next.ensures.steps) stays c.in_ok-insert.ensures.ok
 
 pub loop-element-preserved : goal.loop-element-preserved

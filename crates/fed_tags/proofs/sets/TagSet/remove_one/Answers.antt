@@ -1,4 +1,4 @@
-use Rattle.std.proofs.Common.{ap, sym, ◌∙◌, ◌≢◌, false, true, List, [], BTreeMap}
+use Rattle.std.proofs.Common.{ap, ◌≢◌, List, [], BTreeMap}
 use Rattle.fed_stamp.specs.Stamp.{StampValue}
 use Rattle.fed_tags.proofs.GroupLaws.{absent_view, removed_table, removed_view, gone_table, gone_view}
 use Rattle.fed_tags.proofs.sets.TagSet.remove_one.Goals as goal
