@@ -1,10 +1,10 @@
 -- A job that is granted, handed back and granted anew, or granted and begun: the sets of these operations are lawful.
-use Rattle.std.proofs.Common.{◌≡◌, ℕ, ◌<◌, ◌≤◌, [], ◌∷◌, ◌++◌, refl, ap, ◌∙◌, inl, inr, arith}
+use Rattle.std.proofs.Common.{◌≡◌, ℕ, ◌<◌, ◌≤◌, refl, ap, ◌∙◌, inl, inr, arith}
 use Rattle.fed_stamp.specs.Stamp.{StampValue}
 use Rattle.fed_lattice.specs.Sets.{Has}
-use Rattle.fed_lattice.specs.History.{History, IsFresh}
+use Rattle.fed_lattice.specs.History.{IsFresh}
 use Rattle.fed_record.specs.declared.progress.Beginning.{Beginning}
-use Rattle.fed_record.specs.Body.{Body, Body.Submit, Body.Grant, Body.HandBack, Body.Begin}
+use Rattle.fed_record.specs.Body.{Body, Body.Grant, Body.HandBack, Body.Begin}
 use Rattle.fed_board.specs.Lawful.{IsHolder, IsLawful}
 use Rattle.fed_board.proofs.GrowthLaws.{lawful_push}
 use Rattle.fed_board.proofs.KinScene.{exchange_kin}
