@@ -1,5 +1,5 @@
 -- On rosters.
-use Rattle.std.proofs.Common.{◌≡◌, ◌≢◌, ◌↔◌, ℕ, zero, suc, ◌+◌, ◌-◌, ◌<◌, ◌≤◌, Bool, true, false, not, ◌&&◌, nat_eq, nat_le, List, [], ◌∷◌, ◌++◌, length, get_or, slice_get, map, replicate, take, set, Option, Some, None, is_some, Bor, IsOk, if◌then◌else◌, refl, sym, ap, ap₂, inl, inr, ◌∙◌, arith}
+use Rattle.std.proofs.Common.{◌≡◌, ◌≢◌, ℕ, zero, suc, ◌+◌, ◌-◌, ◌<◌, ◌≤◌, Bool, true, false, not, ◌&&◌, nat_eq, nat_le, List, [], ◌∷◌, ◌++◌, length, get_or, slice_get, map, replicate, take, set, Option, Some, None, is_some, Bor, if◌then◌else◌, refl, sym, ap, ap₂, inl, inr, ◌∙◌, arith}
 use Rattle.std.specs.Option.{option_map, option_or}
 use Rattle.std.specs.List.{cons_option}
 use Rattle.std.specs.Cmp.Lexicographic.{pointwise, same_text, nat_list_eq_equiv}
@@ -8,11 +8,11 @@ use Rattle.std.proofs.lemmas.List.{length-replicate, length-set, get_or-set_same
 use Rattle.std.proofs.lemmas.Option.{get_or_from_slice_get, slice_get-get_or}
 use Rattle.std.proofs.lemmas.List.Elements.{filter_map-append}
 use Rattle.fed_stamp.proofs.LeastIndex.{least_index_none, none_below, none_from_not_some}
-use Rattle.fed_stamp.specs.Roster.{IsRoster, is_site_name, is_node_count, name_at, nodes_at, least_index, is_named, is_misnamed, is_repeated, is_misstaffed, first_fault, ok_unless, places, sites_in, sites_of}
+use Rattle.fed_stamp.specs.Roster.{IsRoster, is_site_name, is_node_count, name_at, nodes_at, least_index, is_named, is_misnamed, is_repeated, is_misstaffed, first_fault, places, sites_in, sites_of}
 use Rattle.fed_stamp.specs.Word.{is_name}
 use Rattle.fed_stamp.specs.declared.rosters.RosterFault.TheVariants.{Count, Name, Twice, Nodes}
 
--- ---- which lists are rosters
+-- ---- exactly the lists with no fault are rosters
 from_not_false : (b : Bool) → not b ≡ false → b ≡ true
 from_not_false true h = refl
 from_not_false false h = cc
@@ -20,9 +20,11 @@ from_not_false false h = cc
 same_names : (xs ys : List ℕ) → xs ≡ ys → pointwise nat_eq xs ys ≡ true
 same_names xs ys e = rw (e) (nat_list_eq_equiv.refl ys)
 
+-- the name of a site
 abbrev first : List ℕ × ℕ → List ℕ
 first s = s.0
 
+-- where no fault is found, each search found nothing
 chain_none : (b : Bool) (x y z : Option ℕ) → (if b then option_or (option_map Name x) (option_or (option_map Twice y) (option_map Nodes z)) else Some Count) ≡ None → (b ≡ true) × (x ≡ None) × (y ≡ None) × (z ≡ None)
 chain_none true None None None h = (refl, refl, refl, refl)
 chain_none true None None (Some k) h = cc
@@ -65,16 +67,6 @@ module _ (sites : List (List ℕ × ℕ)) where
       let y : None ≡ least_index (is_repeated sites) (length sites) = least_index_none (is_repeated sites) (length sites) (λ k l. not_some _ (least_index_none (is_named sites (name_at sites k)) k (λ j u. differ _ _ (r.apart j k ([], 0) u l)))) in
       let z : None ≡ least_index (is_misstaffed sites) (length sites) = least_index_none (is_misstaffed sites) (length sites) (λ k l. not_true _ (r.staffed k ([], 0) l)) in
       rw (b, ← x, ← y, ← z) refl
-
-ok_from_none : {T E : Type 0} (o : Option E) (x : T) → IsOk (ok_unless o x) ↔ (o ≡ None)
-ok_from_none None x = (λ _. refl, λ _. refl)
-ok_from_none (Some e) x = (λ h. absurd (cc), λ h. absurd (cc))
-
--- exactly a roster has no fault
-pub ok_iff_roster : {T : Type 0} (sites : List (List ℕ × ℕ)) (x : T) → IsOk (ok_unless (first_fault sites) x) ↔ IsRoster sites
-ok_iff_roster sites x =
-    let k = ok_from_none (first_fault sites) x in
-    (λ h. roster_from_no_fault sites (k.0 h), λ r. k.1 (no_fault_from_roster sites r))
 
 -- ---- what a slice of pairs lists
 pub length_sites : (pairs : List (Bor (List ℕ) × ℕ)) → length (sites_of pairs) ≡ length pairs
@@ -132,6 +124,7 @@ length_some (s ∷ sites) = ap suc (length_some sites)
 length_places : (sites : List (List ℕ × ℕ)) → length sites ≤ 16 → length (places sites) ≡ 16
 length_places sites h = let e : length (map Some sites) ≡ length sites = length_some sites in omega (arith, length-append (map Some sites) (replicate (16 - length sites) None), length-replicate {A = Option (List ℕ × ℕ)} (16 - length sites) None)
 
+-- past the end there is no site
 past : (sites : List (List ℕ × ℕ)) (k : ℕ) → length sites ≤ k → slice_get sites k ≡ None
 past [] k h = refl
 past (s ∷ sites) zero h = absurd (omega arith)
@@ -143,6 +136,7 @@ pub record IsFilledTo (sites : List (List ℕ × ℕ)) (stored : List (Option (L
   pub front : (k : ℕ) → k < i → get_or stored k None ≡ slice_get sites k
   pub rest : (k : ℕ) → i ≤ k → get_or stored k None ≡ None
 
+-- after the last site the places are filled
 pub filled_all : (sites : List (List ℕ × ℕ)) (stored : List (Option (List ℕ × ℕ))) (i : ℕ) → length sites ≤ 16 → length sites ≤ i → i ≤ length sites → IsFilledTo sites stored i → stored ≡ places sites
 filled_all sites stored i m l u f = ext_get_or None stored (places sites) (f.len ∙ sym (length_places sites m)) (λ k h.
     let p : get_or (places sites) k None ≡ slice_get sites k = place sites k None (rw (← f.len) h) in
@@ -166,9 +160,11 @@ module _ (sites : List (List ℕ × ℕ)) (i : ℕ) where
   pub site_read : (fields : List (Option (List ℕ × ℕ))) (d o : Option (List ℕ × ℕ)) → places sites ≡ fields → i < 16 → get_or fields i d ≡ o → slice_get sites i ≡ o
   site_read fields d o e h r = sym (place sites i d h) ∙ ap (λ (p : List (Option (List ℕ × ℕ))). get_or p i d) e ∙ r
 
+  -- the test of its name
   pub named_site : (s : List ℕ × ℕ) (name : List ℕ) → slice_get sites i ≡ Some s → is_named sites name i ≡ pointwise nat_eq s.0 name
   named_site s name e = ap (λ (t : List ℕ × ℕ). pointwise nat_eq t.0 name) (get_or_from_slice_get sites i s ([], 0) e)
 
+  -- where a site was read the index is within the roster, and else past it
   pub within_from_site : (s : List ℕ × ℕ) → slice_get sites i ≡ Some s → i < length sites
   within_from_site s e = elim (cases_lt i (length sites)) [
     | inl l ↦ l
@@ -180,6 +176,14 @@ module _ (sites : List (List ℕ × ℕ)) (i : ℕ) where
     | inl l ↦ absurd (let p : slice_get sites i ≡ Some (get_or sites i ([], 0)) = slice_get-get_or sites i ([], 0) l in cc)
     | inr l ↦ l
   ]
+
+  -- its number of nodes
+  pub staffed_site : (s : List ℕ × ℕ) → IsRoster sites → slice_get sites i ≡ Some s → (1 ≤ s.1) × (s.1 ≤ 1_000_000)
+  staffed_site s r e =
+      let h : is_node_count (get_or sites i ([], 0)).1 ≡ true = r.staffed i ([], 0) (within_from_site s e) in
+      let p : is_node_count s.1 ≡ true = ap (λ (t : List ℕ × ℕ). is_node_count t.1) (sym (get_or_from_slice_get sites i s ([], 0) e)) ∙ h in
+      let q = and_parts _ _ p in
+      (leb-true 1 _ q.0, leb-true _ 1_000_000 q.1)
 
 -- ---- one more site in its place
 site_name_is_name : (text : List ℕ) → is_site_name text ≡ true → is_name text ≡ true
@@ -194,6 +198,7 @@ module _ (pairs : List (Bor (List ℕ) × ℕ)) (i : ℕ) (d : Bor (List ℕ) ×
       let m : is_name (get_or pairs i d).0.now ≡ true = site_name_is_name _ (ap is_site_name (sym (name_at-sites_of pairs i d h)) ∙ n) in
       rw (m) at e
 
+  -- one more place is filled
   pub filled_more : (stored : List (Option (List ℕ × ℕ))) (word : List ℕ) → length pairs ≤ 16 → word ≡ (get_or pairs i d).0.now → IsFilledTo (sites_of pairs) stored i → IsFilledTo (sites_of pairs) (set stored i (Some (word, (get_or pairs i d).1))) (i + 1)
   filled_more stored word m e f =
       let within : i < length stored = rw (f.len) (omega arith) in

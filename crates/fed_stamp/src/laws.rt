@@ -1,8 +1,8 @@
-//! The laws of stamps and versions. What a function of this module ensures is the law; the laws of
-//! versions are of all lists of counters, whatever their lengths, and their functions have no body.
-ghost use Rattle.std.specs.Prelude.{◌≡◌, ℕ, List, length, IsTrue, ◌||◌, ◌&&◌, ◌==◌, nat_lt};
+//! The laws of stamps and versions: what each function of this module ensures. The laws of versions
+//! hold of all lists of counters, whatever their lengths, and their functions do nothing.
+ghost use Rattle.std.specs.Prelude.{◌≡◌, ℕ, List, length, IsTrue, ◌≤◌, ◌||◌, ◌&&◌, ◌==◌, nat_lt};
 ghost use Rattle.fed_stamp.specs.Stamp.{StampValue};
-ghost use Rattle.fed_stamp.specs.Version.{covers, joined, met, is_below};
+ghost use Rattle.fed_stamp.specs.Version.{covers, joined, met, is_below, greatest};
 
 use crate::stamps::Stamp;
 
@@ -61,4 +61,10 @@ pub fn meet_covers_what_both_cover()
 /// A version that is above another has seen all that the other has.
 pub fn greater_versions_cover_more()
     ensures { (v w : List ℕ) (s : StampValue) → IsTrue (is_below v w) → IsTrue (covers v s) → IsTrue (covers w s) }
+{}
+
+/// No stamp that a version has seen has a counter above the version's greatest, so that the next stamp
+/// of any site is above all that were seen.
+pub fn seen_counters_are_up_to_the_greatest()
+    ensures { (v : List ℕ) (s : StampValue) → IsTrue (covers v s) → s.counter ≤ greatest v }
 {}

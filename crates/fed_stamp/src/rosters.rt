@@ -19,7 +19,7 @@ pub enum RosterFault {
     Count,
     /// The name of a site is not 1 to 15 characters, of which the first is an ASCII letter, and each
     /// other one an ASCII letter, an ASCII digit or `-`.
-    #[error("the name of site {index} is not 1 to 15 letters, digits and hyphens that begin with a letter")]
+    #[error("the name of site {index} is not a letter and up to 14 letters, digits or hyphens")]
     Name { index: usize },
     /// A site has the name of an earlier one. The index is that of the later of the two.
     #[error("the name of site {index} is that of an earlier site")]
@@ -217,7 +217,8 @@ impl Roster {
     /// How many nodes a site has, from 1 to `MAX_NODES`, or `None` where the roster has no site of this
     /// number.
     pub fn nodes(&self, site: SiteId) -> Option<u64>
-        ensures { result ≡ option_map (λ s. s.1) (slice_get self.now site) }
+        ensures same { result ≡ option_map (λ s. s.1) (slice_get self.now site) }
+        ensures in_range { IfSome result (λ n. (1 ≤ n) × (n ≤ MAX_NODES)) }
     {
         match self.sites[site.get() as usize] {
             Some((_, nodes)) => Some(nodes),

@@ -6,7 +6,7 @@ ghost use Rattle.fed_stamp.specs.SiteSet.{has as is_member, set_of};
 use crate::sites::{SITES, SiteId};
 use std::marker::Model;
 
-/// A set of one site or more.
+/// A set of sites, made of one or more.
 #[derive(Clone, Copy, PartialEq, Eq, Debug)]
 pub struct SiteSet {
     // for each site, by its number, whether the set has it

@@ -24,7 +24,7 @@ pub struct Word {
 }
 
 impl Model for Word {
-    ghost use Rattle.std.specs.Prelude.{◌≡◌, ◌≤◌, length, IsTrue, ℕ, List, length, take};
+    ghost use Rattle.std.specs.Prelude.{◌≡◌, IsTrue, ℕ, List, length, take};
     ghost use Rattle.fed_stamp.specs.Word.{is_name, padded};
 
     ghost Value = { List ℕ };
