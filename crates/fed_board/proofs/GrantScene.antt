@@ -1,4 +1,5 @@
--- A job that is granted, handed back and granted anew, or granted and begun: the sets of these operations are lawful.
+-- A job that is granted, handed back and granted anew, or granted and begun: the sets of these operations are
+-- lawful.
 use Rattle.std.proofs.Common.{◌≡◌, ℕ, ◌<◌, ◌≤◌, refl, ap, ◌∙◌, inl, inr, arith}
 use Rattle.fed_stamp.specs.Stamp.{StampValue}
 use Rattle.fed_lattice.specs.Sets.{Has}
