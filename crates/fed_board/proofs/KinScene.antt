@@ -64,7 +64,7 @@ module _ (d e : StampValue × Body) (first : IsSubmit d.1) (second : IsSubmit e.
     right_shares = alone e (λ f. covers (version_of (d ∷ [])) f.0 ≡ true → Has (d ∷ []) f) (λ c. absurd (both_ways _ new_too c));
   }
 
-exchange_kin : AreKin here there
+pub exchange_kin : AreKin here there
 exchange_kin = pair_kin _ _ tt tt (omega arith) (omega arith) (λ s. let p : ◌≡◌ {A = ℕ} 0 1 = ap (λ (t : StampValue). t.site) s in absurd (omega arith)) refl refl
 
 exchange_joins : view (here ++ there) ≡ join_views (view here) (view there)

@@ -2,5 +2,7 @@
 pub mod LawfulLaws
 pub mod ViewLaws
 pub mod KnownLaws
+pub mod GrowthLaws
 pub mod Scenes
 pub mod KinScene
+pub mod GrantScene

@@ -118,13 +118,13 @@ unfolding any_below
 moved_to_second = refl
 
 -- ---- grants
-abbrev granted : History Body
+abbrev pub granted : History Body
 granted = here ++ (at 2 0, Grant job 1 1) ∷ []
 
-abbrev returned : History Body
+abbrev pub returned : History Body
 returned = granted ++ (at 3 1, HandBack job 1) ∷ []
 
-abbrev granted_anew : History Body
+abbrev pub granted_anew : History Body
 granted_anew = returned ++ (at 4 0, Grant job 0 2) ∷ []
 
 granted_letter : letter ((view granted).job job) ≡ Some Granted
@@ -152,7 +152,7 @@ unfolding joined join_jobs join_views
 anew_stage = refl
 
 -- ---- progress
-abbrev begun : History Body
+abbrev pub begun : History Body
 begun = granted ++ (at 3 1, Begin job (record { moment = 5; nodes = 1; end = 3605 })) ∷ []
 
 abbrev deletion : StampValue × Body

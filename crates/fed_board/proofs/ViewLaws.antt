@@ -48,7 +48,7 @@ pushed p ops e = filter-append p ops (e ∷ []) ∙ go (p e)
 fresh_from : (ops : History Body) (e : StampValue × Body) → IsLawful ops → covers (version_of ops) e.0 ≡ false → IsFresh e.0 ops
 fresh_from ops e l new d h same = both_ways (covers (version_of ops) e.0) new (subst (λ s. covers (version_of ops) s ≡ true) same (version_of-covers ops l.sites d h))
 
-one_each_push : (ops : History Body) (e : StampValue × Body) → OneEach ops → IsFresh e.0 ops → OneEach (ops ++ e ∷ [])
+pub one_each_push : (ops : History Body) (e : StampValue × Body) → OneEach ops → IsFresh e.0 ops → OneEach (ops ++ e ∷ [])
 one_each_push ops e one fresh c d h k same = elim (Has-push ops e c h) [
   | inl p ↦ elim (Has-push ops e d k) [
     | inl q ↦ one c d p q same

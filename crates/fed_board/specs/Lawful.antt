@@ -58,6 +58,9 @@ pub record IsHolder (ops : History Body) (job : StampValue) (site : ℕ) : Type 
   pub greatest : (s : StampValue) (other k : ℕ) → Has ops (s, Grant job other k) → k ≤ term
   pub kept : (s : StampValue) → Has ops (s, HandBack job term) → ⊥
 
+-- A set is lawful where each stamp is of one of the 16 sites and names one operation, each operation has in the
+-- set what it rests on, a job has at most one Begin, at most one Finish, and at most one Grant and one HandBack
+-- of each term, and a job begins at the site that holds its grant.
 pub record IsLawful (ops : History Body) : Type 0 where
   pub sites : HasSites ops
   pub distinct : OneEach ops
@@ -68,10 +71,20 @@ pub record IsLawful (ops : History Body) : Type 0 where
   pub one_return : (job s t : StampValue) (term : ℕ) → Has ops (s, HandBack job term) → Has ops (t, HandBack job term) → s ≡ t
   pub begun_held : (job s : StampValue) (a : Beginning) → Has ops (s, Begin job a) → IsHolder ops job s.site
 
--- Two sets are kin where both and their union are lawful and each operation of the one whose stamp the other's version covers is in the other.
+-- Two sets are kin where both and their union are lawful and each operation of the one whose stamp the other's
+-- version covers is in the other.
 pub record AreKin (ops others : History Body) : Type 0 where
   pub left : IsLawful ops
   pub right : IsLawful others
   pub both : IsLawful (ops ++ others)
   pub left_shares : Shares (version_of others) ops others
   pub right_shares : Shares (version_of ops) others ops
+
+-- what lets an operation be added to a lawful set, besides what it rests on: no such operation is there
+-- already, a job begins at the site that holds its grant, and no grant is handed back once the job has begun
+abbrev pub MayFollow : History Body → StampValue → Body → Type 0
+MayFollow ops t (Grant job site term) = (s : StampValue) (other : ℕ) → Has ops (s, Grant job other term) → ⊥
+MayFollow ops t (HandBack job term) = ((s : StampValue) → Has ops (s, HandBack job term) → ⊥) × ((s : StampValue) (a : Beginning) → Has ops (s, Begin job a) → ⊥)
+MayFollow ops t (Begin job beginning) = ((s : StampValue) (a : Beginning) → Has ops (s, Begin job a) → ⊥) × IsHolder ops job t.site
+MayFollow ops t (Finish job ending) = (s : StampValue) (a : Ending) → Has ops (s, Finish job a) → ⊥
+MayFollow ops t _ = Unit {0}

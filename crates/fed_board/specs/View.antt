@@ -7,8 +7,8 @@ use Rattle.fed_record.specs.Body.{Body, of_job, of_reservation}
 use Rattle.fed_record.specs.JobView.{JobView, job_view}
 use Rattle.fed_record.specs.Reservation.{ReservationView, reservation_view}
 
--- all that can be read of a set: its version, each job by the stamp of its Submit, and each reservation by the stamp of its Reserve.
--- A board stands for the set where it reads as this
+-- all that can be read of a set: its version, each job by the stamp of its Submit, and each reservation by the
+-- stamp of its Reserve. A board stands for the set where it reads as this
 pub record View : Type 0 where
   pub version : List ℕ
   pub job : StampValue → JobView

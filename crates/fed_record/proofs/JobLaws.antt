@@ -1,4 +1,5 @@
--- What is read of a job: of the union of two sets of its operations, of one operation more, and of sets with the same members.
+-- What is read of a job: of the union of two sets of its operations, of one operation more, and of sets with
+-- the same members.
 use Rattle.std.proofs.Common.{◌≡◌, ℕ, List, [], ◌∷◌, ◌++◌, ◌∙◌}
 use Rattle.fed_stamp.specs.Stamp.{StampValue}
 use Rattle.fed_lattice.specs.Sets.{IsSameSet}

@@ -1,4 +1,5 @@
--- Operations: what a site does, each time under a stamp of its own. A set of operations is a history of their bodies.
+-- Operations: what a site does, each time under a stamp of its own. A set of operations is a history of their
+-- bodies.
 use Rattle.std.specs.Prelude.{ℕ, Bool, false, ◌&&◌, ◌==◌, List, filter, Option, Some, None}
 use Rattle.fed_stamp.specs.Stamp.{StampValue}
 use Rattle.fed_lattice.specs.History.{History}

@@ -14,7 +14,8 @@ use Rattle.fed_record.specs.Field.{owner_in, name_in, priority_in, nodes_in, lim
 use Rattle.fed_record.specs.Grant.{grant_stage}
 use Rattle.fed_record.specs.Pairs.{is_live, adds_site, removes_site, adds_hold, removes_hold}
 
--- all that can be read of a job: its fields with their stamps, its live pairs, its stages, and the version of its operations
+-- all that can be read of a job: its fields with their stamps, its live pairs, its stages, and the version of
+-- its operations
 pub record JobView : Type 0 where
   pub owner : Option (StampValue × List ℕ)
   pub name : Option (StampValue × List ℕ)

@@ -30,8 +30,8 @@ module _ {C E : Type 0} (adds : C → E → Bool) (removes : C → E → StampVa
 abbrev pub add_live : Bool → Bool → Bool → Bool
 add_live live added removed = (live || added) && not removed
 
--- of a pair, on two sides each beside a version: a pair that is live on both stays, and one that is live on one side alone stays where the
--- other side's version does not cover its tag
+-- of a pair, on two sides each beside a version: a pair that is live on both stays, and one that is live on one
+-- side alone stays where the other side's version does not cover its tag
 abbrev pub join_live : Bool → Bool → Bool → Bool → Bool
 join_live here covered_here there covered_there = (here && (there || not covered_there)) || (there && not covered_here)
 

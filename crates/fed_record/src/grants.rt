@@ -9,8 +9,9 @@ use crate::terms::Term;
 use fed_stamp::{SiteId, Stamp};
 use std::cmp::Ordering;
 
-/// How far the grants of a job have come. Stages are ordered by term; of one term a grant that is handed back is above the
-/// open one. Stages of one term and kind, of which a job has one at most, are ordered by stamp and site.
+/// How far the grants of a job have come. Stages are ordered by term; of one term a grant that is handed back
+/// is above the open one. Stages of one term and kind, of which a job has one at most, are ordered by stamp and
+/// site.
 #[derive(Clone, Copy, Debug)]
 pub enum GrantStage {
     /// The job is granted to the site, by the operation with the stamp.

@@ -1,4 +1,5 @@
-//! Laws of what is read of the operations of one job, over every set of them. Each function does nothing: its contract is the law.
+//! Laws of what is read of the operations of one job, over every set of them. Each function does nothing: its
+//! contract is the law.
 ghost use Rattle.std.specs.Prelude.{◌≡◌, ◌↔◌, ℕ, List, true, [], ◌∷◌, ◌++◌};
 ghost use Rattle.fed_stamp.specs.Stamp.{StampValue};
 ghost use Rattle.fed_lattice.specs.Sets.{IsSameSet};
@@ -22,7 +23,8 @@ pub fn additions_are_read()
         job_view (e ∷ ops) ≡ add_to_job e.0 e.1 (job_view ops) }
 {}
 
-/// Where two sets agree beside their versions, and each removes only pairs that it added, their union is read by joining what is read of each.
+/// Where two sets agree beside their versions, and each removes only pairs that it added, their union is read
+/// by joining what is read of each.
 pub fn agreeing_sets_join()
     ensures { (v w : List ℕ) (ops others : History Body) → Agree v ops w others → IsJobHistory ops → IsJobHistory others →
         job_view (ops ++ others) ≡ join_jobs v (job_view ops) w (job_view others) }

@@ -1,4 +1,5 @@
-//! Operations on jobs and reservations, the values that they are made of, and what a set of them says of one job.
+//! Operations on jobs and reservations, the values that they are made of, and what a set of them says of one
+//! job.
 #![tactic(auto)]
 
 pub mod accounts;

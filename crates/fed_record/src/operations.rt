@@ -10,8 +10,9 @@ use crate::values::{Changes, JobValues};
 use crate::windows::Window;
 use fed_stamp::{JobId, SiteId, Stamp, Word};
 
-/// What is done, under a stamp, to a job or a reservation. A job is named by the stamp of its `Submit`, a reservation by that of its `Reserve`.
-/// A pair is an element, a site or a kind of hold, beside the stamp of the operation that added it.
+/// What is done, under a stamp, to a job or a reservation. A job is named by the stamp of its `Submit`, a
+/// reservation by that of its `Reserve`. A pair is an element, a site or a kind of hold, beside the stamp of
+/// the operation that added it.
 #[derive(Drop, Debug)]
 pub enum Operation {
     /// Submits a job with its sites and, if `held`, a user hold.

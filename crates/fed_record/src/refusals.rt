@@ -5,7 +5,8 @@ ghost use Rattle.fed_record.specs.Refusal.{number_of};
 use fed_stamp::SiteId;
 use thiserror::Error;
 
-/// Why a command is refused, in the order in which the reasons are looked for: the first that applies is answered, and nothing changes.
+/// Why a command is refused, in the order in which the reasons are looked for: the first that applies is
+/// answered, and nothing changes.
 #[derive(Clone, Copy, PartialEq, Eq, Debug, Drop, Error)]
 pub enum Refusal {
     /// 1: the site knows no such job.

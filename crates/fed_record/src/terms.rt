@@ -6,8 +6,8 @@ use std::marker::Model;
 /// The greatest term.
 pub const MAX_TERM: u64 = 1_000_000_000;
 
-/// The term of a grant, from 1 to 1,000,000,000. The grants of a job have the terms 1, 2 and so on, each handed back
-/// before the next.
+/// The term of a grant, from 1 to 1,000,000,000. The grants of a job have the terms 1, 2 and so on, each handed
+/// back before the next.
 #[derive(Clone, Copy, PartialEq, Eq, PartialOrd, Ord, Debug)]
 pub struct Term {
     number: u64,
