@@ -4,3 +4,4 @@ pub mod PairLaws
 pub mod JobLaws
 pub mod RangeLaws
 pub mod PresenceLaws
+pub mod RecordReads
