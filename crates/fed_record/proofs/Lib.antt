@@ -5,3 +5,4 @@ pub mod JobLaws
 pub mod RangeLaws
 pub mod PresenceLaws
 pub mod RecordReads
+pub mod PresentPairs

@@ -59,12 +59,12 @@ module _ {E : Type 0} (cmp : E → E → Ordering) (o : IsTotalOrder cmp) (exact
   pair_test : (e : E) (tag : StampValue) (p : E × StampValue) → eq_by_cmp (pair_cmp cmp) (e, tag) p ≡ (same p.0 e && same_stamp p.1 tag)
   pair_test e tag p = both_ways _ _
       (λ t.
-          let q : (e, tag) ≡ p = tells_apart (exact_pair cmp exact) (e, tag) p t in
-          and_both _ _ ((tells p.0 e).1 (sym (ap (λ (r : E × StampValue). r.0) q))) (ap (λ (u : StampValue). same_stamp u tag) (sym (ap (λ (r : E × StampValue). r.1) q)) ∙ same_stamp_itself tag))
+      let q : (e, tag) ≡ p = tells_apart (exact_pair cmp exact) (e, tag) p t in
+      and_both _ _ ((tells p.0 e).1 (sym (ap (λ (r : E × StampValue). r.0) q))) (ap (λ (u : StampValue). same_stamp u tag) (sym (ap (λ (r : E × StampValue). r.1) q)) ∙ same_stamp_itself tag))
       (λ t.
-          let b = and_parts (same p.0 e) (same_stamp p.1 tag) t in
-          let q : p ≡ (e, tag) = ap₂ (λ (x : E) (y : StampValue). (x, y)) ((tells p.0 e).0 b.0) (same_stamp_is p.1 tag b.1) in
-          ap (λ (r : E × StampValue). is_eq (pair_cmp cmp (e, tag) r)) q ∙ ap is_eq (tied_itself (pair_total cmp o) (e, tag)))
+      let b = and_parts (same p.0 e) (same_stamp p.1 tag) t in
+      let q : p ≡ (e, tag) = ap₂ (λ (x : E) (y : StampValue). (x, y)) ((tells p.0 e).0 b.0) (same_stamp_is p.1 tag b.1) in
+      ap (λ (r : E × StampValue). is_eq (pair_cmp cmp (e, tag) r)) q ∙ ap is_eq (tied_itself (pair_total cmp o) (e, tag)))
 
   -- whether a list has a pair
   pub has_test : (e : E) (tag : StampValue) (xs : List (E × StampValue)) → has (pair_cmp cmp) xs (e, tag) ≡ list_any (λ (p : E × StampValue). same p.0 e && same_stamp p.1 tag) xs
@@ -81,12 +81,12 @@ module _ {E : Type 0} (cmp : E → E → Ordering) (o : IsTotalOrder cmp) (exact
       → has (pair_cmp cmp) (stamped s (filter adds all)) (e, tag) ≡ (same_stamp s tag && adds e)
   added_test adds all each s e tag = both_ways _ _
       (λ t.
-          let m = stamped_at (pair_cmp cmp) (pair_total cmp o) (exact_pair cmp exact) s (filter adds all) (e, tag) (member (pair_cmp cmp) (pair_total cmp o) (exact_pair cmp exact) (e, tag) _ t) in
-          and_both _ _ (ap (λ (u : StampValue). same_stamp s u) m.1 ∙ same_stamp_itself s) (Has-filter adds all e m.0).1)
+      let m = stamped_at (pair_cmp cmp) (pair_total cmp o) (exact_pair cmp exact) s (filter adds all) (e, tag) (member (pair_cmp cmp) (pair_total cmp o) (exact_pair cmp exact) (e, tag) _ t) in
+      and_both _ _ (ap (λ (u : StampValue). same_stamp s u) m.1 ∙ same_stamp_itself s) (Has-filter adds all e m.0).1)
       (λ t.
-          let b = and_parts (same_stamp s tag) (adds e) t in
-          let m : Has (stamped s (filter adds all)) (e, s) = stamped-Has s (filter adds all) e (filter-Has adds all e (each e b.1) b.1) in
-          has_member (pair_cmp cmp) (pair_total cmp o) (exact_pair cmp exact) (e, tag) _ (subst (λ (u : StampValue). Has (stamped s (filter adds all)) (e, u)) (same_stamp_is s tag b.0) m))
+      let b = and_parts (same_stamp s tag) (adds e) t in
+      let m : Has (stamped s (filter adds all)) (e, s) = stamped-Has s (filter adds all) e (filter-Has adds all e (each e b.1) b.1) in
+      has_member (pair_cmp cmp) (pair_total cmp o) (exact_pair cmp exact) (e, tag) _ (subst (λ (u : StampValue). Has (stamped s (filter adds all)) (e, u)) (same_stamp_is s tag b.0) m))
 
   -- a pair, after elements are added and pairs are removed
   pub pair_applied : (adds : E → Bool) (all : List E) → ((x : E) → adds x ≡ true → Has all x) → (xs removed : List (E × StampValue)) (s : StampValue) (e : E) (tag : StampValue) (gone : Bool)
@@ -129,7 +129,7 @@ removed_hold (Operation.Cancel reservation) kind tag = refl
 
 pub hold_applied : (xs : List (HoldKind × StampValue)) (s : StampValue) (c : Operation) (kind : HoldKind) (tag : StampValue)
     → has (pair_cmp kind_cmp) (applied_tags (pair_cmp kind_cmp) xs s (hold_change c)) (kind, tag)
-      ≡ add_live (has (pair_cmp kind_cmp) xs (kind, tag)) (adds_pair adds_hold removes_hold kind tag (s, body_of c)) (removes_hold (body_of c) kind tag)
+    ≡ add_live (has (pair_cmp kind_cmp) xs (kind, tag)) (adds_pair adds_hold removes_hold kind tag (s, body_of c)) (removes_hold (body_of c) kind tag)
 hold_applied xs s c kind tag =
     pair_applied kind_cmp kind_total exact_kind same_kind tells_kinds (adds_hold (body_of c)) all_kinds (every_kind (adds_hold (body_of c))) xs (removed_holds c) s kind tag _ (removed_hold c kind tag)
 
@@ -166,6 +166,6 @@ removed_site (Operation.Cancel reservation) site tag = refl
 
 pub site_applied : (xs : List (ℕ × StampValue)) (s : StampValue) (c : Operation) (site : ℕ) (tag : StampValue)
     → has (pair_cmp nat_cmp) (applied_tags (pair_cmp nat_cmp) xs s (site_change c)) (site, tag)
-      ≡ add_live (has (pair_cmp nat_cmp) xs (site, tag)) (adds_pair adds_site removes_site site tag (s, body_of c)) (removes_site (body_of c) site tag)
+    ≡ add_live (has (pair_cmp nat_cmp) xs (site, tag)) (adds_pair adds_site removes_site site tag (s, body_of c)) (removes_site (body_of c) site tag)
 site_applied xs s c site tag =
     pair_applied nat_cmp nat_cmp_total exact_unsigned nat_eq tells_numbers (adds_site (body_of c)) (range_with_len 0 16) (every_site (body_of c)) xs (removed_sites c) s site tag _ (removed_site c site tag)
