@@ -1,10 +1,10 @@
 -- A set of sites is seen as the list that says of each site, by its number, whether the set has it.
-use Rattle.std.specs.Prelude.{ℕ, Bool, false, nat_eq, List, slice_index_or, map}
+use Rattle.std.specs.Prelude.{ℕ, Bool, false, ◌&&◌, nat_eq, nat_lt, List, slice_index_or, map}
 use Rattle.std.specs.List.{list_any, range_with_len}
 
--- the site is in the set
+-- the site, one of the 16, is in the set
 abbrev pub has : List Bool → ℕ → Bool
-has set site = slice_index_or set site false
+has set site = nat_lt site 16 && slice_index_or set site false
 
 -- the list contains the site
 abbrev pub is_listed : List ℕ → ℕ → Bool

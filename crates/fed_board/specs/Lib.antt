@@ -1,0 +1,4 @@
+-- What the contracts of this crate cite.
+pub mod View
+pub mod ViewSteps
+pub mod Lawful

@@ -1,0 +1,26 @@
+-- What is read of a set once one more operation is there, and of two sets together.
+use Rattle.std.specs.Prelude.{if◌then◌else◌}
+use Rattle.fed_stamp.specs.Stamp.{StampValue}
+use Rattle.fed_stamp.specs.Version.{joined, raised}
+use Rattle.fed_lattice.specs.Register.{joined_registers}
+use Rattle.fed_record.specs.ValueOrders.{option_window_cmp}
+use Rattle.fed_lattice.specs.Stamped.{with_stamp}
+use Rattle.fed_record.specs.Body.{Body, is_of_job, is_of_reservation}
+use Rattle.fed_record.specs.Field.{window_in}
+use Rattle.fed_record.specs.JobSteps.{add_to_job, join_jobs}
+use Rattle.fed_board.specs.View.{View}
+
+-- an operation of a stamp that is not covered
+unfoldable pub add_to_view : View → StampValue × Body → View
+add_to_view v e = record {
+  version = raised v.version e.0;
+  job = λ job. if is_of_job job e then add_to_job e.0 e.1 (v.job job) else v.job job;
+  reservation = λ name. if is_of_reservation name e then joined_registers option_window_cmp (v.reservation name) (with_stamp e.0 (window_in e.1)) else v.reservation name;
+}
+
+unfoldable pub join_views : View → View → View
+join_views v w = record {
+  version = joined v.version w.version;
+  job = λ job. join_jobs v.version (v.job job) w.version (w.job job);
+  reservation = λ name. joined_registers option_window_cmp (v.reservation name) (w.reservation name);
+}

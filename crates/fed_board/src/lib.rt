@@ -1,0 +1,4 @@
+//! What a set of operations says as a whole.
+#![tactic(auto)]
+
+pub mod laws;

@@ -1,0 +1,8 @@
+-- What is read of a job, for callers too.
+pub mod FieldLaws
+pub mod PairLaws
+pub mod JobLaws
+pub mod RangeLaws
+pub mod PresenceLaws
+pub mod RecordReads
+pub mod PresentPairs

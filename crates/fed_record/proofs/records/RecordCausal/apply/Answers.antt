@@ -1,0 +1,17 @@
+use Rattle.std.proofs.Common.{◌≡◌, true, subst}
+use Rattle.fed_stamp.specs.Version.{covers, raised}
+use Rattle.fed_record.specs.Changes.{hold_change, site_change}
+use Rattle.fed_record.specs.Record.{IsCoveredStamp}
+use Rattle.fed_record.specs.CoveredLaws.{covered_applied, covered_same}
+use Rattle.fed_record.specs.RecordLaws.{hold_order, hold_exact, site_order, site_exact}
+use Rattle.fed_record.proofs.records.RecordCausal.apply.Goals as goal
+
+pub invariant_of-self-2 : goal.invariant_of-self-2
+invariant_of-self-2 g c =
+    let own : IsCoveredStamp (raised c.self.inside.touched c.args.at) c.args.at =
+    (c.with-self-inside.ensures.site, subst (λ v. covers v c.args.at ≡ true) c.with-self-inside.ensures.raised c.with-self-inside.ensures.seen) in (
+      covered_same c.with-self-inside.ensures.raised c.in_ok-change_tags.ensures.holds
+          (covered_applied _ hold_order hold_exact _ _ _ (hold_change c.args.change.now) own c.self.invariant.0),
+      covered_same c.with-self-inside.ensures.raised c.in_ok-change_tags.ensures.sites
+          (covered_applied _ site_order site_exact _ _ _ (site_change c.args.change.now) own c.self.invariant.1),
+    )

@@ -1,0 +1,52 @@
+-- The letter of a job.
+use Rattle.std.specs.Prelude.{ℕ, zero, suc, Bool, false, ◌&&◌, ◌||◌, List, if◌then◌else◌, Option, Some, None, is_some, is_none}
+use Rattle.fed_stamp.specs.Stamp.{StampValue}
+use Rattle.fed_stamp.specs.Version.{counter_of}
+use Rattle.fed_record.specs.declared.grants.GrantStage.{GrantStage}
+use Rattle.fed_record.specs.declared.holds.HoldKind.{HoldKind}
+use Rattle.fed_record.specs.declared.holds.HoldKind.TheVariants.{User, Operator, System}
+use Rattle.fed_record.specs.declared.letters.Letter.{Letter}
+use Rattle.fed_record.specs.declared.letters.Letter.TheVariants.{Exiting, Running, Held, Granted, Queued}
+use Rattle.fed_record.specs.Grant.{holder_of}
+use Rattle.fed_record.specs.JobView.{JobView}
+
+-- whether a number below n passes the test
+unfoldable pub any_below : ℕ → (ℕ → Bool) → Bool
+any_below zero test = false
+any_below (suc n) test = test n || any_below n test
+
+-- whether a stamp that the version covers passes the test
+abbrev pub any_covered : List ℕ → (StampValue → Bool) → Bool
+any_covered v test = any_below 16 (λ site. any_below (suc (counter_of v site)) (λ counter. test (record { counter = counter; site = site })))
+
+-- an element is present where it has a live pair, whose tag is the stamp of an operation of the job
+abbrev pub has_site : JobView → ℕ → Bool
+has_site j site = any_covered j.touched (j.sites site)
+
+abbrev pub has_hold : JobView → HoldKind → Bool
+has_hold j kind = any_covered j.touched (j.holds kind)
+
+abbrev pub is_held : JobView → Bool
+is_held j = has_hold j User || (has_hold j Operator || has_hold j System)
+
+-- a job is there once it is submitted, which sets all its fields
+abbrev pub is_submitted : JobView → Bool
+is_submitted j = is_some j.owner && (is_some j.name && (is_some j.priority && (is_some j.nodes && (is_some j.limit && is_some j.account))))
+
+-- the site that a grant is to that is not handed back
+abbrev pub holder_in : Option GrantStage → Option ℕ
+holder_in None = None
+holder_in (Some g) = holder_of g
+
+abbrev pub is_granted : JobView → Bool
+is_granted j = is_some (holder_in j.grant)
+
+-- a job that is gone has none
+abbrev pub letter : JobView → Option Letter
+letter j =
+    if is_some j.finished || (j.deleted && is_none j.begun) then None
+    else if is_some j.begun && j.deleted then Some Exiting
+    else if is_some j.begun then Some Running
+    else if is_held j then Some Held
+    else if is_granted j then Some Granted
+    else Some Queued

@@ -1,0 +1,24 @@
+-- What the contracts of this crate cite.
+pub mod Account
+pub mod Hold
+pub mod Refusal
+pub mod Body
+pub mod Operation
+pub mod Field
+pub mod Grant
+pub mod Pairs
+pub mod JobView
+pub mod Letter
+pub mod JobSteps
+pub mod Reservation
+pub mod GrantLaws
+pub mod ValueLaws
+pub mod HoldLaws
+pub mod Changes
+pub mod Record
+pub mod JobRecord
+pub mod JobParts
+pub mod CoveredLaws
+pub mod RecordLaws
+pub mod ValueOrders
+pub mod ValueOrderLaws

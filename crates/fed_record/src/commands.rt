@@ -1,0 +1,63 @@
+//! Commands.
+use crate::holds::HoldKinds;
+use crate::moments::Moment;
+use crate::values::{Changes, JobValues};
+use crate::windows::Window;
+use fed_stamp::{JobId, SiteId, Stamp};
+
+/// What somebody, or a site's own scheduler, asks a site to do.
+#[derive(Clone, Copy, PartialEq, Eq, Debug)]
+pub enum Command {
+    /// Submit a job, with a user hold if `held`.
+    Submit {
+        values: JobValues,
+        held: bool,
+    },
+    /// Set the values named.
+    Alter {
+        job: JobId,
+        changes: Changes,
+    },
+    /// Add holds of these kinds.
+    Hold {
+        job: JobId,
+        kinds: HoldKinds,
+    },
+    /// Remove the holds of these kinds that the site sees.
+    Release {
+        job: JobId,
+        kinds: HoldKinds,
+    },
+    /// Delete the job.
+    Delete {
+        job: JobId,
+    },
+    /// Grant the job to the site that asks.
+    Grant {
+        job: JobId,
+        asker: SiteId,
+    },
+    /// Hand back the open grant.
+    HandBack {
+        job: JobId,
+    },
+    /// Begin the job.
+    Begin {
+        job: JobId,
+        moment: Moment,
+    },
+    /// Finish the job, with a status.
+    Finish {
+        job: JobId,
+        moment: Moment,
+        status: u8,
+    },
+    /// Make a reservation.
+    Reserve {
+        window: Window,
+    },
+    /// Cancel a reservation, named by the stamp of its `Reserve`.
+    Cancel {
+        reservation: Stamp,
+    },
+}

@@ -1,0 +1,44 @@
+//! The records of jobs, and what is read of them.
+ghost use Rattle.std.specs.Prelude.{◌≡◌, ℕ, List, ◌++◌, IfOk, OnOk};
+ghost use Rattle.fed_stamp.specs.Stamp.{StampValue};
+ghost use Rattle.fed_record.specs.Operation.{body_of};
+ghost use Rattle.fed_record.specs.JobRecord.{JobRecordValue, reads};
+ghost use Rattle.fed_record.specs.JobSteps.{add_to_job, join_jobs};
+ghost use Rattle.fed_record.specs.declared.operations.Operation.{Operation};
+
+use crate::accounts::Account;
+use crate::grants::GrantStage;
+use crate::limits::Limit;
+use crate::node_counts::Nodes;
+use crate::priorities::Priority;
+use crate::progress::{Beginning, Ending};
+use crate::records::Record;
+use fed_lattice::{Both, Causal, Flag, Register, Stage};
+use fed_stamp::Word;
+
+/// The registers of the owner, the name, the priority, the nodes, the limit and the account.
+pub type Fields = Both<
+    Register<Word>,
+    Both<
+        Register<Word>,
+        Both<Register<Priority>, Both<Register<Nodes>, Both<Register<Limit>, Register<Account>>>>,
+    >,
+>;
+
+/// The flag of deletion, the stage of grants, and the registers of Begin and Finish.
+pub type Stages = Both<Flag, Both<Stage<GrantStage>, Both<Register<Beginning>, Register<Ending>>>>;
+
+/// What is read of the operations of one job.
+pub type JobRecord = Record<Fields, Stages>;
+
+/// A record with one operation more reads as its view with the operation added.
+pub fn applied_records_read()
+    ensures { (r : JobRecordValue) (s : StampValue) (c : Operation) →
+        reads (⟦<JobRecord as Causal>⟧.applied r s c) ≡ add_to_job s (body_of c) (reads r) }
+{}
+
+/// Records that are joined read as their views joined.
+pub fn joined_records_read()
+    ensures { (r q : JobRecordValue) (v w : List ℕ) →
+        reads (⟦<JobRecord as Causal>⟧.joined r v q w) ≡ join_jobs v (reads r) w (reads q) }
+{}

@@ -1,0 +1,46 @@
+//! Moments.
+ghost use Rattle.std.specs.Prelude.{◌≡◌, ◌≤◌, if◌then◌else◌, nat_le};
+
+use std::marker::Model;
+
+/// The last moment, in seconds.
+pub const MAX_MOMENT: u64 = 1_000_000_000_000;
+
+/// A moment, from 0 to 1,000,000,000,000 in whole seconds. Moments are handed in: no clock is read.
+#[derive(Clone, Copy, PartialEq, Eq, PartialOrd, Ord, Debug)]
+pub struct Moment {
+    second: u64,
+}
+
+impl Model for Moment {
+    ghost use Rattle.std.specs.Prelude.{ℕ, ◌≤◌};
+
+    ghost Value = { ℕ };
+
+    ghost view = { λ m. m.second };
+
+    ghost invariant = { λ m. m.second ≤ 1_000_000_000_000 };
+
+    ghost inverse = { λ n. record { second = n } };
+}
+
+impl Moment {
+    /// The moment of this second, or `None` where the second is out of range.
+    pub fn new(second: u64) -> Option<Moment>
+        ensures { result ≡ (if nat_le second MAX_MOMENT then Some second else None) }
+    {
+        if second <= MAX_MOMENT {
+            Some(Moment { second })
+        } else {
+            None
+        }
+    }
+
+    /// The second of the moment.
+    pub fn get(self) -> u64
+        ensures same { result ≡ self }
+        ensures in_range { result ≤ MAX_MOMENT }
+    {
+        self.second
+    }
+}

@@ -1,0 +1,45 @@
+//! Numbers of nodes.
+ghost use Rattle.std.specs.Prelude.{◌≡◌, ◌≤◌, ◌&&◌, if◌then◌else◌, nat_le};
+
+use fed_stamp::MAX_NODES;
+use std::marker::Model;
+
+/// How many nodes a job runs on, from 1 to 1,000,000.
+#[derive(Clone, Copy, PartialEq, Eq, PartialOrd, Ord, Debug)]
+pub struct Nodes {
+    number: u64,
+}
+
+impl Model for Nodes {
+    ghost use Rattle.std.specs.Prelude.{ℕ, ◌≤◌};
+
+    ghost Value = { ℕ };
+
+    ghost view = { λ n. n.number };
+
+    ghost invariant = { λ n. (1 ≤ n.number) × (n.number ≤ 1_000_000) };
+
+    ghost inverse = { λ n. record { number = n } };
+}
+
+impl Nodes {
+    /// So many nodes, or `None` where the number is out of range.
+    pub fn new(number: u64) -> Option<Nodes>
+        ensures { result ≡ (if nat_le 1 number && nat_le number MAX_NODES then Some number else None) }
+    {
+        if 1 <= number && number <= MAX_NODES {
+            Some(Nodes { number })
+        } else {
+            None
+        }
+    }
+
+    /// How many nodes it is.
+    pub fn get(self) -> u64
+        ensures same { result ≡ self }
+        ensures at_least { 1 ≤ result }
+        ensures at_most { result ≤ MAX_NODES }
+    {
+        self.number
+    }
+}

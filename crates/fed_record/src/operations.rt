@@ -1,0 +1,104 @@
+//! Operations: what is done to jobs and reservations.
+ghost use Rattle.std.specs.Prelude.{◌≡◌};
+ghost use Rattle.fed_record.specs.Body.{job_of, reservation_of};
+ghost use Rattle.fed_record.specs.Operation.{body_of};
+
+use crate::holds::{HoldKind, HoldKinds};
+use crate::progress::{Beginning, Ending};
+use crate::terms::Term;
+use crate::values::{Changes, JobValues};
+use crate::windows::Window;
+use fed_stamp::{JobId, SiteId, Stamp, Word};
+
+/// What is done, under a stamp, to a job or a reservation. A job is named by the stamp of its `Submit`, a
+/// reservation by that of its `Reserve`. A pair is an element, a site or a kind of hold, beside the stamp of
+/// the operation that added it.
+#[derive(Drop, Debug)]
+pub enum Operation {
+    /// Submits a job with its sites and, if `held`, a user hold.
+    Submit {
+        owner: Word,
+        values: JobValues,
+        held: bool,
+    },
+    /// Sets the values named. Adds the sites named, and removes the pairs.
+    Set {
+        job: JobId,
+        changes: Changes,
+        removed: Vec<(SiteId, Stamp)>,
+    },
+    /// Adds holds.
+    Hold {
+        job: JobId,
+        kinds: HoldKinds,
+    },
+    /// Removes pairs of holds.
+    Release {
+        job: JobId,
+        removed: Vec<(HoldKind, Stamp)>,
+    },
+    /// Deletes the job.
+    Delete {
+        job: JobId,
+    },
+    /// Grants the job to the site. Only the site that the job was submitted at does so.
+    Grant {
+        job: JobId,
+        site: SiteId,
+        term: Term,
+    },
+    /// Hands the grant of the term back.
+    HandBack {
+        job: JobId,
+        term: Term,
+    },
+    /// Begins the job.
+    Begin {
+        job: JobId,
+        beginning: Beginning,
+    },
+    /// Finishes the job.
+    Finish {
+        job: JobId,
+        ending: Ending,
+    },
+    /// Makes a reservation.
+    Reserve {
+        window: Window,
+    },
+    /// Cancels a reservation.
+    Cancel {
+        reservation: Stamp,
+    },
+}
+
+impl Operation {
+    /// The job that the operation is of, where its stamp is `at`, or `None` where it is of a reservation.
+    pub fn job(&self, at: Stamp) -> Option<JobId>
+        ensures { result ≡ job_of at (body_of self.now) }
+    {
+        match self {
+            Operation::Submit { .. } => Some(at),
+            Operation::Set { job, .. }
+            | Operation::Hold { job, .. }
+            | Operation::Release { job, .. }
+            | Operation::Delete { job }
+            | Operation::Grant { job, .. }
+            | Operation::HandBack { job, .. }
+            | Operation::Begin { job, .. }
+            | Operation::Finish { job, .. } => Some(*job),
+            Operation::Reserve { .. } | Operation::Cancel { .. } => None,
+        }
+    }
+
+    /// The reservation that the operation is of, where its stamp is `at`, or `None` where it is of a job.
+    pub fn reservation(&self, at: Stamp) -> Option<Stamp>
+        ensures { result ≡ reservation_of at (body_of self.now) }
+    {
+        match self {
+            Operation::Reserve { .. } => Some(at),
+            Operation::Cancel { reservation } => Some(*reservation),
+            _ => None,
+        }
+    }
+}

@@ -1,0 +1,51 @@
+//! The priority of a job.
+ghost use Rattle.std.specs.Prelude.{◌≡◌, pos, negsuc, ◌≤ℤ◌, ◌&&◌, if◌then◌else◌, int_le};
+
+use std::marker::Model;
+
+/// The least priority.
+pub const MIN_PRIORITY: i16 = -1024;
+
+/// The greatest priority.
+pub const MAX_PRIORITY: i16 = 1023;
+
+/// How soon a job is wanted, from -1024 to 1023 (POSIX.1-2017, qsub): of two jobs the one with the greater
+/// priority comes first.
+#[derive(Clone, Copy, PartialEq, Eq, PartialOrd, Ord, Debug)]
+pub struct Priority {
+    number: i16,
+}
+
+impl Model for Priority {
+    ghost use Rattle.std.specs.Prelude.{ℤ, pos, negsuc, ◌≤ℤ◌};
+
+    ghost Value = { ℤ };
+
+    ghost view = { λ p. p.number };
+
+    ghost invariant = { λ p. (negsuc 1023 ≤ℤ p.number) × (p.number ≤ℤ pos 1023) };
+
+    ghost inverse = { λ n. record { number = n } };
+}
+
+impl Priority {
+    /// The priority with this number, or `None` where the number is out of range.
+    pub fn new(number: i16) -> Option<Priority>
+        ensures { result ≡ (if int_le MIN_PRIORITY number && int_le number MAX_PRIORITY then Some number else None) }
+    {
+        if MIN_PRIORITY <= number && number <= MAX_PRIORITY {
+            Some(Priority { number })
+        } else {
+            None
+        }
+    }
+
+    /// The number of the priority.
+    pub fn get(self) -> i16
+        ensures same { result ≡ self }
+        ensures at_least { MIN_PRIORITY ≤ℤ result }
+        ensures at_most { result ≤ℤ MAX_PRIORITY }
+    {
+        self.number
+    }
+}

@@ -1,0 +1,70 @@
+-- That sets are equal by their tests exactly where they have the same pairs.
+use Rattle.std.specs.Bool.{Decides}
+use Rattle.std.specs.BTreeMap.{is_at}
+use Rattle.std.specs.Cmp.{IsTotalOrder}
+use Rattle.std.specs.Cmp.Lexicographic.{pointwise}
+use Rattle.std.specs.Map.{lookup}
+use Rattle.std.specs.Ordering.{is_eq, eq_by_cmp}
+use Rattle.std.proofs.Common.{◌≡◌, List, [], Bool, true, false, ◌&&◌, nat_eq, Option, Some, None, IfSome, unwrap_or, Ordering, refl, sym, ap, ap₂, ◌∙◌}
+use Rattle.std.proofs.lemmas.Cmp.{tied_itself}
+use Rattle.std.proofs.lemmas.Map.Lookups.{CmpEqualImpliesEq}
+use Rattle.std.proofs.lemmas.Map.Views.{tells_apart, IfSome-lookup_from_All}
+use Rattle.std.proofs.lemmas.Bool.Decides.{Decides-eqb}
+use Rattle.std.proofs.lemmas.Slice.Eq.{slice_eq-Decides}
+use Rattle.fed_stamp.specs.Stamp.{StampValue}
+use Rattle.fed_lattice.specs.Table.{IsTable}
+use Rattle.fed_lattice.specs.TableEntries.{same_tables}
+use Rattle.fed_tags.specs.Tags.{pair_cmp, tags_of}
+use Rattle.fed_tags.specs.TagLaws.{stamp_eq, pair_total, exact_pair}
+use Rattle.fed_tags.specs.Groups.{pairs, IsGroup}
+use Rattle.fed_tags.proofs.GroupLaws.{tags_pairs}
+
+-- two tests of one fact answer alike
+same_answers : {P : Type 0} (a b : Bool) → Decides a P → Decides b P → a ≡ b
+same_answers true b p q = sym (q.1 (p.0 refl))
+same_answers false true p q = let k : false ≡ true = p.1 (q.0 refl) in k
+same_answers false false p q = refl
+
+both_decide : (a b : Bool) {P Q R : Type 0} → Decides a P → Decides b Q → (P → Q → R) → (R → P × Q) → Decides (a && b) R
+both_decide true true p q f g = (λ _. f (p.0 refl) (q.0 refl), λ _. refl)
+both_decide true false p q f g = (λ e. cc, λ r. q.1 (g r).1)
+both_decide false b p q f g = (λ e. cc, λ r. p.1 (g r).0)
+
+stamp_decides : (s t : StampValue) → Decides (stamp_eq s t) (s ≡ t)
+stamp_decides s t = both_decide (nat_eq s.counter t.counter) (nat_eq s.site t.site) (Decides-eqb s.counter t.counter) (Decides-eqb s.site t.site)
+    (λ a b. ap₂ (λ c d. let r : StampValue = record { counter = c; site = d } in r) a b)
+    (λ e. (ap (λ (x : StampValue). x.counter) e, ap (λ (x : StampValue). x.site) e))
+
+pub stamps_decide : (ss us : List StampValue) → Decides (pointwise stamp_eq ss us) (ss ≡ us)
+stamps_decide ss us = slice_eq-Decides stamp_decides ss us (pointwise stamp_eq ss us) refl
+
+module _ {K : Type 0} (R : K → K → Ordering) (o : IsTotalOrder R) (exact : CmpEqualImpliesEq R) where
+  order_decides : (a b : K) → Decides (eq_by_cmp R a b) (a ≡ b)
+  order_decides a b = (tells_apart exact a b, λ e. ap (λ x. is_eq (R a x)) (sym e) ∙ ap is_eq (tied_itself o a))
+
+  -- a test that answers as the order does
+  pub test_decides : (E : K → K → Bool) → ((a b : K) → E a b ≡ is_eq (R a b)) → (a b : K) → Decides (E a b) (a ≡ b)
+  test_decides E ties a b = (λ e. (order_decides a b).0 (sym (ties a b) ∙ e), λ e. ties a b ∙ (order_decides a b).1 e)
+
+module _ {T : Type 0} (cmp : T → T → Ordering) (o : IsTotalOrder cmp) (exact : CmpEqualImpliesEq cmp) where
+  same_groups : (a b : Option (List StampValue)) → IfSome a IsGroup → IfSome b IsGroup → unwrap_or a [] ≡ unwrap_or b [] → a ≡ b
+  same_groups None None i j e = refl
+  same_groups None (Some ss) i j e = absurd (j.1 (sym e))
+  same_groups (Some ss) None i j e = absurd (i.1 e)
+  same_groups (Some ss) (Some us) i j e = ap Some e
+
+  -- the pairs tell what the groups are
+  groups_from_pairs : (es fs : List (T × List StampValue)) → IsTable cmp IsGroup es → IsTable cmp IsGroup fs → pairs es ≡ pairs fs → es ≡ fs
+  groups_from_pairs es fs g h e = same_tables cmp o exact es fs g.0 h.0 (λ t.
+      same_groups (lookup (is_at (cmp t)) es) (lookup (is_at (cmp t)) fs) (IfSome-lookup_from_All IsGroup (is_at (cmp t)) es g.1) (IfSome-lookup_from_All IsGroup (is_at (cmp t)) fs h.1)
+      (sym (tags_pairs cmp o es t g.0) ∙ ap (λ xs. tags_of cmp xs t) e ∙ tags_pairs cmp o fs t h.0))
+
+  pub sets_decide : (es fs : List (T × List StampValue)) (xs ys : List (T × StampValue)) (r : Bool) → IsTable cmp IsGroup es → IsTable cmp IsGroup fs → pairs es ≡ xs → pairs fs ≡ ys → Decides r (es ≡ fs) → Decides r (xs ≡ ys)
+  sets_decide es fs xs ys r g h v w d = (
+    λ e. sym v ∙ ap (λ l. pairs l) (d.0 e) ∙ w,
+    λ e. d.1 (groups_from_pairs es fs g h (v ∙ e ∙ sym w)),
+  )
+
+  pub by_pairs : (xs ys : List (T × StampValue)) (r : Bool) → Decides r (xs ≡ ys) → r ≡ pointwise (eq_by_cmp (pair_cmp cmp)) xs ys
+  by_pairs xs ys r d = same_answers r (pointwise (eq_by_cmp (pair_cmp cmp)) xs ys) d
+      (slice_eq-Decides (order_decides (pair_cmp cmp) (pair_total cmp o) (exact_pair cmp exact)) xs ys (pointwise (eq_by_cmp (pair_cmp cmp)) xs ys) refl)

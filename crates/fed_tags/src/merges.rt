@@ -1,0 +1,77 @@
+//! Tag sets merge.
+ghost use Rattle.std.specs.Prelude.{◌≡◌, [], IfOk, OnOk, OnErr, IsOk, refl};
+ghost use Rattle.std.specs.List.Sorted.{IsStrictlySortedBy};
+ghost use Rattle.fed_tags.specs.Tags.{pair_cmp, joined_tags, applied_tags, IsTagHistory, tags_read};
+ghost use Rattle.fed_tags.specs.TagLaws.{pair_total, exact_pair, sorted_empty, sorted_applied, sorted_joined, joined_tags_assoc, joined_tags_comm, joined_tags_itself, empty_tags_read, applied_tags_read, joined_tags_read, tags_read_same};
+
+use crate::changes::TagChange;
+use crate::sets::TagSet;
+use fed_lattice::{Causal, Exact, NoMemory};
+use fed_stamp::{Stamp, Version};
+use std::alloc::Global;
+
+impl<T: Exact> Causal for TagSet<T> {
+    type Change = TagChange<T>;
+
+    ghost well_formed = { IsStrictlySortedBy (pair_cmp T.cmp) };
+
+    ghost bottom = { [] };
+
+    ghost applied = { applied_tags (pair_cmp T.cmp) };
+
+    ghost joined = { joined_tags (pair_cmp T.cmp) };
+
+    ghost is_history = { IsTagHistory };
+
+    ghost reads = { tags_read };
+
+    ghost is_inline = { ⊥ };
+
+    fn bottom(alloc: Global) -> Self {
+        TagSet::new(alloc)
+    }
+
+    fn copy(&self) -> Result<Self, NoMemory> {
+        self.copied()
+    }
+
+    /// Adds the elements with the stamp, and then removes the pairs. On an error the set is as before.
+    fn apply(&mut self, at: Stamp, change: &TagChange<T>) -> Result<(), NoMemory>
+        ensures applied { OnOk result (self.new ≡ applied_tags (pair_cmp T.cmp) self.old at change.now) }
+        ensures unchanged { OnErr result (self.new ≡ self.old) }
+        ensures ok { ⊥ → IsOk result }
+
+        // A change that adds nothing takes no memory.
+        ensures removes { change.now.0 ≡ [] → IsOk result }
+    {
+        self.add(change.added(), at)?;
+        self.remove(change.removed());
+        Ok(())
+    }
+
+    fn join(&self, mine: &Version, other: &Self, theirs: &Version) -> Result<Self, NoMemory> {
+        self.joined(mine, other, theirs)
+    }
+
+    ghost well_formed_bottom = { sorted_empty (pair_cmp T.cmp) };
+
+    ghost well_formed_applied = { sorted_applied (pair_cmp T.cmp) (pair_total T.cmp T.total) (exact_pair T.cmp T.exact) };
+
+    ghost well_formed_joined = { λ x y v w _ _. sorted_joined (pair_cmp T.cmp) (pair_total T.cmp T.total) (exact_pair T.cmp T.exact) x y v w };
+
+    ghost joined_assoc = { joined_tags_assoc (pair_cmp T.cmp) (pair_total T.cmp T.total) (exact_pair T.cmp T.exact) };
+
+    ghost joined_comm = { joined_tags_comm (pair_cmp T.cmp) (pair_total T.cmp T.total) (exact_pair T.cmp T.exact) };
+
+    ghost joined_itself = { joined_tags_itself (pair_cmp T.cmp) (pair_total T.cmp T.total) (exact_pair T.cmp T.exact) };
+
+    ghost joined_bottoms = { λ _ _. refl };
+
+    ghost bottom_reads = { empty_tags_read };
+
+    ghost applied_reads = { applied_tags_read (pair_cmp T.cmp) (pair_total T.cmp T.total) (exact_pair T.cmp T.exact) };
+
+    ghost joined_reads = { joined_tags_read (pair_cmp T.cmp) (pair_total T.cmp T.total) (exact_pair T.cmp T.exact) };
+
+    ghost reads_same = { tags_read_same };
+}

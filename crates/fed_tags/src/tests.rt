@@ -1,0 +1,151 @@
+//! Tag sets at work, alone and inside tables.
+ghost use Rattle.std.specs.Prelude.{◌≡◌, [], IfOk, IsOk};
+
+use crate::{TagChange, TagSet};
+use fed_lattice::{Both, Causal, Flag, NoMemory, Table};
+use fed_stamp::{SiteId, Stamp, Version};
+use std::alloc::{AllocError, Global};
+use std::test::Fail;
+
+/// Three values joined in both orders.
+fn join_both_ways<V: Causal + Drop>(
+    a: &V,
+    b: &V,
+    c: &V,
+    u: &Version,
+    v: &Version,
+    w: &Version,
+) -> Result<(V, V), NoMemory>
+    ensures same { IfOk result (λ p. p.0 ≡ p.1) }
+{
+    let left = a.join(u, b, v)?.join(&u.join(v), c, w)?;
+    let right = a.join(u, &b.join(v, c, w)?, &v.join(w))?;
+    Ok((left, right))
+}
+
+type Row = Both<TagSet<u8>, Flag>;
+
+type Rows = Table<u64, Row>;
+
+fn rows_both_ways(
+    a: &Rows,
+    b: &Rows,
+    c: &Rows,
+    u: &Version,
+    v: &Version,
+    w: &Version,
+) -> Result<(Rows, Rows), NoMemory>
+    ensures same { IfOk result (λ p. p.0 ≡ p.1) }
+{
+    join_both_ways(a, b, c, u, v, w)
+}
+
+/// A change that adds nothing is never refused.
+fn release(set: &mut TagSet<u8>, at: Stamp, change: &TagChange<u8>) -> Result<(), NoMemory>
+    requires { change.now.0 ≡ [] }
+    ensures { IsOk result }
+{
+    set.apply(at, change)
+}
+
+/// The change that adds these elements, and removes these pairs.
+fn change(
+    alloc: Global,
+    added: &[u8],
+    removed: &[(u8, Stamp)],
+) -> Result<TagChange<u8>, AllocError> {
+    Ok(TagChange::new(
+        Vec::from_slice(alloc, added)?,
+        Vec::from_slice(alloc, removed)?,
+    ))
+}
+
+fn stamp(counter: u64, site: u8) -> Result<Stamp, Fail> {
+    let site = SiteId::new(site).ok_or("site")?;
+    Ok(Stamp::new(counter, site).ok_or("stamp")?)
+}
+
+fn set_of(alloc: Global, pairs: &[(u8, Stamp)]) -> Result<TagSet<u8>, Fail> {
+    if TagSet::is_ascending(pairs) {
+        Ok(TagSet::from_pairs(alloc, pairs)?)
+    } else {
+        Err(Fail::from("order"))
+    }
+}
+
+#[test]
+fn leaves_no_tag_behind(rt: HostRuntime) -> Result<(), Fail> {
+    let alloc = rt.alloc();
+    let mut set: TagSet<u8> = TagSet::bottom(alloc);
+    for turn in 0..1000u64 {
+        let at = stamp(2 * turn + 1, 3)?;
+        set.apply(at, &change(alloc, &[7], &[])?)?;
+        assert!(rt; set.tags(&7) == [at].as_slice());
+        set.apply(stamp(2 * turn + 2, 3)?, &change(alloc, &[], &[(7, at)])?)?;
+        assert!(rt; set.is_empty());
+    }
+    assert!(rt; !set.has(&7));
+    assert!(rt; set.tags(&7).is_empty());
+    Ok(())
+}
+
+#[test]
+fn forgets_what_the_other_side_removed(rt: HostRuntime) -> Result<(), Fail> {
+    let alloc = rt.alloc();
+    let at = stamp(1, 3)?;
+    let none = Version::new([0; 16]).ok_or("version")?;
+    let one = none.with(at);
+    let set = set_of(alloc, &[(7, at)])?;
+    let bottom: TagSet<u8> = TagSet::bottom(alloc);
+    assert!(rt; set.join(&one, &bottom, &one)?.is_empty());
+    assert!(rt; bottom.join(&one, &set, &one)?.is_empty());
+    assert!(rt; set.join(&one, &bottom, &none)? == set);
+    assert!(rt; bottom.join(&none, &set, &one)? == set);
+    Ok(())
+}
+
+#[test]
+fn joins_inside_tables(rt: HostRuntime) -> Result<(), Fail> {
+    let alloc = rt.alloc();
+    let none = Version::new([0; 16]).ok_or("version")?;
+    let (first, second) = (stamp(1, 3)?, stamp(2, 4)?);
+    let mut a: Rows = Table::bottom(alloc);
+    a.apply(first, &(40, (Some(change(alloc, &[7, 8], &[])?), None)))?;
+    let mut b = a.copy()?;
+    b.apply(
+        second,
+        &(40, (Some(change(alloc, &[7], &[(7, first)])?), Some(()))),
+    )?;
+    let (u, v) = (none.with(first), none.with(first).with(second));
+    let (left, right) = rows_both_ways(&a, &b, &a, &u, &v, &u)?;
+    for joined in [&left, &right] {
+        let row = joined.get(40).ok_or("no row")?;
+        assert!(rt; row.first.tags(&7) == [second].as_slice());
+        assert!(rt; row.first.tags(&8) == [first].as_slice());
+        assert!(rt; row.second.get());
+    }
+    Ok(())
+}
+
+#[test]
+fn reads_a_small_set(rt: HostRuntime) -> Result<(), Fail> {
+    let alloc = rt.alloc();
+    let (first, second, third) = (stamp(1, 3)?, stamp(1, 4)?, stamp(2, 0)?);
+    let pairs = [(7u8, first), (7, third), (9, second)];
+    let mut set = set_of(alloc, &pairs)?;
+    assert!(rt; !TagSet::is_ascending(&[(7u8, third), (7, first)]));
+    assert!(rt; !TagSet::is_ascending(&[(7u8, first), (7, first)]));
+    assert!(rt; set.has(&7) && set.has(&9) && !set.has(&8));
+    assert!(rt; set.tags(&7) == [first, third].as_slice());
+    assert!(rt; set.tags(&8).is_empty());
+    assert!(rt; set.contains(&9, second) && !set.contains(&9, first));
+    assert!(rt; set.elements().copied().eq([7, 9]));
+    assert!(rt; set.iter().eq(pairs));
+    let again = set.copy()?;
+    assert!(rt; again == set);
+    set.remove(&[(7, third), (9, second)]);
+    set.add(&[8, 7, 8], third)?;
+    assert!(rt; set.iter().eq([(7, first), (7, third), (8, third)]));
+    assert!(rt; again != set);
+    Ok(())
+}
