@@ -3,3 +3,4 @@ pub mod FieldLaws
 pub mod PairLaws
 pub mod JobLaws
 pub mod PresenceLaws
+pub mod FoundLaws
