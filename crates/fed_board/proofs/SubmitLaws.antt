@@ -1,5 +1,5 @@
 -- Which jobs a set knows.
-use Rattle.std.proofs.Common.{◌≡◌, ℕ, List, [], Bool, true, false, sym, ap, subst}
+use Rattle.std.proofs.Common.{◌≡◌, ℕ, List, [], Bool, true, false, ap, subst}
 use Rattle.std.proofs.lemmas.Bool.{both_ways}
 use Rattle.fed_stamp.specs.Stamp.{StampValue}
 use Rattle.fed_lattice.specs.Sets.{Has}

@@ -1,13 +1,11 @@
 -- The operations behind what is read of a job.
 use Rattle.std.specs.Prelude.{is_some}
-use Rattle.std.specs.List.{list_any}
-use Rattle.std.proofs.Common.{◌≡◌, ℕ, List, [], ◌∷◌, Bool, true, false, Option, Some, None, refl, sym, ap, subst, ◌∙◌}
-use Rattle.std.proofs.lemmas.Bool.{and_parts}
+use Rattle.std.proofs.Common.{◌≡◌, ℕ, List, [], Bool, true, false, Option, Some, None, refl, ap, subst}
 use Rattle.fed_stamp.specs.Stamp.{StampValue}
 use Rattle.fed_lattice.specs.Sets.{Has}
 use Rattle.fed_lattice.specs.History.{History}
 use Rattle.fed_lattice.specs.Order.{IsUpTo}
-use Rattle.fed_lattice.specs.Latest.{stamp_cmp, latest}
+use Rattle.fed_lattice.specs.Latest.{stamp_cmp}
 use Rattle.fed_lattice.specs.LatestLaws.{latest_reads}
 use Rattle.fed_lattice.specs.Part.{part}
 use Rattle.fed_lattice.specs.PartLaws.{source, Has-part}
