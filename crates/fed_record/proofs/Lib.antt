@@ -6,3 +6,4 @@ pub mod RangeLaws
 pub mod PresenceLaws
 pub mod RecordReads
 pub mod PresentPairs
+pub mod FoundLaws
