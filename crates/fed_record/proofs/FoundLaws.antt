@@ -1,6 +1,7 @@
 -- The operations behind what is read of a job.
 use Rattle.std.specs.Prelude.{is_some}
-use Rattle.std.proofs.Common.{◌≡◌, ℕ, List, [], Bool, true, false, Option, Some, None, refl, ap, subst}
+use Rattle.std.proofs.Common.{◌≡◌, ℕ, List, [], Bool, true, false, ◌&&◌, Option, Some, None, refl, ap, ap₂, subst}
+use Rattle.std.proofs.lemmas.Bool.{and_parts}
 use Rattle.fed_stamp.specs.Stamp.{StampValue}
 use Rattle.fed_lattice.specs.Sets.{Has}
 use Rattle.fed_lattice.specs.History.{History}
@@ -17,7 +18,7 @@ use Rattle.fed_lattice.specs.StampedLaws.{stamped-Has, Has-stamped}
 use Rattle.fed_record.specs.declared.grants.GrantStage.{GrantStage}
 use Rattle.fed_record.specs.declared.values.JobValues.{JobValues}
 use Rattle.fed_record.specs.Body.{Body, Body.Submit}
-use Rattle.fed_record.specs.Field.{owner_in, field}
+use Rattle.fed_record.specs.Field.{owner_in, name_in, priority_in, nodes_in, limit_in, account_in, field}
 use Rattle.fed_record.specs.Grant.{grant_cmp, grant_in, grant_stage}
 use Rattle.fed_record.specs.GrantLaws.{grant_total}
 use Rattle.fed_record.specs.JobView.{job_view}
@@ -93,15 +94,28 @@ submit_body _ w e = cc
 -- a job that is submitted has its Submit
 pub submit_found : (h : History Body) → is_submitted (job_view h) ≡ true → (t : StampValue) × (owner : List ℕ) × (values : JobValues) × (held : Bool) × Has h (t, Submit owner values held)
 submit_found h e =
-    let o = some_found (field owner_in h) e in
+    let o = some_found (field owner_in h) (and_parts (is_some (field owner_in h)) _ e).0 in
     let f = field_found owner_in h o.0 o.1 in
     let s = submit_body f.0 o.0.1 f.2 in
     (o.0.0, o.0.1, s.0, s.1, subst (λ (body : Body). Has h (o.0.0, body)) s.2 f.1)
 
+-- an operation that says something of a field leaves the field with a value
+said_found : {T : Type 0} (says : Body → Option T) (v : T) (h : History Body) (t : StampValue) (body : Body) → Has h (t, body) → says body ≡ Some v → is_some (field says h) ≡ true
+said_found {T} says v h t body k s = go (field says h) refl
+  where
+    go : (o : Option (StampValue × T)) → field says h ≡ o → is_some o ≡ true
+    go None e = let n : says body ≡ None = field_none says h e t body k in cc
+    go (Some c) e = refl
+
+and_both : (a b : Bool) → a ≡ true → b ≡ true → (a && b) ≡ true
+and_both a b p q = ap₂ (λ x y. x && y) p q
+
 -- a set that has a Submit is that of a submitted job
 pub submitted_from : (h : History Body) (t : StampValue) (owner : List ℕ) (values : JobValues) (held : Bool) → Has h (t, Submit owner values held) → is_submitted (job_view h) ≡ true
-submitted_from h t owner values held k = go (field owner_in h) refl
-  where
-    go : (o : Option (StampValue × List ℕ)) → field owner_in h ≡ o → is_some o ≡ true
-    go None e = let n : owner_in (Submit owner values held) ≡ None = field_none owner_in h e t (Submit owner values held) k in cc
-    go (Some c) e = refl
+submitted_from h t owner values held k =
+    let body = Submit owner values held in
+    and_both _ _ (said_found owner_in owner h t body k refl)
+    (and_both _ _ (said_found name_in values.name h t body k refl)
+    (and_both _ _ (said_found priority_in values.priority h t body k refl)
+    (and_both _ _ (said_found nodes_in values.nodes h t body k refl)
+    (and_both _ _ (said_found limit_in values.limit h t body k refl) (said_found account_in values.account h t body k refl)))))

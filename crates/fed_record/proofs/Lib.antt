@@ -7,3 +7,4 @@ pub mod PresenceLaws
 pub mod RecordReads
 pub mod PresentPairs
 pub mod FoundLaws
+pub mod BodyLaws
