@@ -1,6 +1,6 @@
 -- The operations of a history as the model has them, and the parts of their changes.
 use Rattle.std.specs.List.{cons_option}
-use Rattle.std.proofs.Common.{◌≡◌, List, [], ◌∷◌, Option, Some, None, option_map, refl, sym, ap, ap₂, ◌∙◌, inl, inr}
+use Rattle.std.proofs.Common.{◌≡◌, [], ◌∷◌, Option, option_map, refl, sym, ap, ap₂, ◌∙◌, inl, inr}
 use Rattle.fed_stamp.specs.Stamp.{StampValue}
 use Rattle.fed_stamp.specs.Version.{raised}
 use Rattle.fed_lattice.specs.Sets.{Has}

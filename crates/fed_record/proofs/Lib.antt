@@ -8,3 +8,5 @@ pub mod RecordReads
 pub mod PresentPairs
 pub mod FoundLaws
 pub mod BodyLaws
+pub mod StandingTags
+pub mod StandingRecords
