@@ -3,6 +3,7 @@ ghost use Rattle.std.specs.Prelude.{◌≡◌, IfOk, string_bytes};
 ghost use Rattle.std.specs.List.{join_with_byte};
 ghost use Rattle.fed_main.specs.Listing.{granted_text as text_of_granted, identifier_text as text_of_identifier, line_of, names, numbers, site_text as text_of_site};
 
+use fed_record::{Limit, Nodes, Priority};
 use fed_stamp::{JobId, Roster, SiteId, Word};
 use std::alloc::{AllocError, Global};
 
@@ -13,10 +14,9 @@ pub struct ShownJob {
     pub name: Word,
     pub owner: Word,
     pub letter: char,
-    pub priority: i16,
-    pub nodes: u64,
-    /// In seconds.
-    pub limit: u64,
+    pub priority: Priority,
+    pub nodes: Nodes,
+    pub limit: Limit,
     /// The site that the job is granted to.
     pub granted: Option<SiteId>,
 }
@@ -90,7 +90,8 @@ pub fn job_line(alloc: Global, roster: &Roster, job: &ShownJob) -> Result<String
     let granted = granted_text(alloc, roster, job.granted)?;
     let (name, owner) = (job.name.as_str(), job.owner.as_str());
     let names = names_text(alloc, identifier.as_str(), name, owner, job.letter)?;
-    let priority = job.priority;
-    let numbers = numbers_text(alloc, priority, job.nodes, job.limit, granted.as_str())?;
+    let priority = job.priority.get();
+    let (nodes, limit) = (job.nodes.get(), job.limit.get());
+    let numbers = numbers_text(alloc, priority, nodes, limit, granted.as_str())?;
     format!(in alloc; "{names} {numbers}\n")
 }

@@ -7,6 +7,7 @@ use crate::identifiers::read_identifier;
 use crate::lines::{line_text, words};
 use crate::priorities::read_priority;
 use crate::rosters::read_roster;
+use fed_record::Priority;
 use fed_stamp::{JobId, Roster, SiteId, Word};
 use std::alloc::{AllocError, Global};
 
@@ -33,7 +34,7 @@ pub enum Request {
     /// `qsub`: submits a job.
     Submit,
     /// `qalter -p PRIORITY JOB`: sets the priority of a job.
-    Prioritize { priority: i16, job: JobId },
+    Prioritize { priority: Priority, job: JobId },
     /// `qstat`: lists all jobs.
     ListAll,
     /// `qstat JOB`: lists one job.

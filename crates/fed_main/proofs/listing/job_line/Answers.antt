@@ -1,4 +1,4 @@
-use Rattle.std.proofs.Common.{sym, rules, FitsSigned}
+use Rattle.std.proofs.Common.{rules, FitsSigned}
 use Rattle.std.specs.Int.{w16}
 use Rattle.std.proofs.lemmas.Int.{to_z-of_z}
 use Rattle.std.proofs.lemmas.Result.{IfOk-weaker}
@@ -7,14 +7,8 @@ use Rattle.fed_main.proofs.listing.job_line.Goals as goal
 
 pub returns : goal.returns
 returns c =
-    let fits : FitsSigned w16 c.args.job.now.priority = search rules in
+    let fits : FitsSigned w16 c.get-priority.result = search rules in
     IfOk-weaker c.format.result _ _
-    (λ s e. rw e (rw (c.in_ok-names.ensures, c.in_ok-numbers.ensures) (rw (
-      c.as_str.ensures.value,
-      c.as_str-2.ensures.value,
-      c.as_str-name.ensures.same,
-      c.as_str-owner.ensures.same,
-      c.in_ok-identifier.ensures,
-      c.in_ok-granted.ensures,
-      to_z-of_z w16 c.args.job.now.priority fits,
-    ) (join-both _ _ _ _ _ _ _ _)))) c.format.ensures.ok
+    (λ s e. rw e (rw (c.in_ok-names.ensures, c.in_ok-numbers.ensures) (rw (c.as_str.ensures.value, c.as_str-2.ensures.value, c.as_str-name.ensures.same, c.as_str-owner.ensures.same,
+      c.in_ok-identifier.ensures, c.in_ok-granted.ensures, to_z-of_z w16 c.get-priority.result fits, c.get-priority.ensures.same, c.get-nodes.ensures.same, c.get-limit.ensures.same)
+    (join-both _ _ _ _ _ _ _ _)))) c.format.ensures.ok

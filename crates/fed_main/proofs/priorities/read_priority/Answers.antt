@@ -7,7 +7,7 @@ use Rattle.fed_main.proofs.priorities.read_priority.Goals as goal
 pub returns-in-Ok : goal.returns-in-Ok
 returns-in-Ok c =
     let fits : FitsSigned w16 c.in-Ok.number = search rules in
-    rw (c.in_range.ensures, to_z-of_z w16 c.in-Ok.number fits) (priority_of-number c.args.word.now c.in-Ok.number c.in-Ok.ensures.value.0.0.0 c.in-Ok.ensures.value.0.1)
+    rw (c.new.ensures, to_z-of_z w16 c.in-Ok.number fits) (priority_of-number c.args.word.now c.in-Ok.number c.in-Ok.ensures.value.0.0.0 c.in-Ok.ensures.value.0.1)
 
 pub returns-in-Err : goal.returns-in-Err
 returns-in-Err c = priority_of-none c.args.word.now c.in-Err.ensures.value.0
