@@ -4,3 +4,5 @@ pub mod PairLaws
 pub mod JobLaws
 pub mod RangeLaws
 pub mod PresenceLaws
+pub mod RecordReads
+pub mod PresentPairs

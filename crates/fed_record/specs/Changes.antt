@@ -11,7 +11,6 @@ use Rattle.fed_record.specs.declared.holds.HoldKind.TheVariants.{User, Operator,
 use Rattle.fed_record.specs.declared.progress.Beginning.{Beginning}
 use Rattle.fed_record.specs.declared.progress.Ending.{Ending}
 use Rattle.fed_record.specs.declared.operations.Operation.{Operation}
-use Rattle.fed_record.specs.declared.operations.Operation.TheVariants as Operation
 use Rattle.fed_record.specs.Field.{owner_in, name_in, priority_in, nodes_in, limit_in, account_in, deletion_in, begin_in, finish_in}
 use Rattle.fed_record.specs.Grant.{grant_in}
 use Rattle.fed_record.specs.Operation.{body_of}

@@ -3,7 +3,6 @@ use Rattle.std.specs.Prelude.{ℕ, ℤ, Bool, List, Option}
 use Rattle.std.specs.Ordering.{nat_cmp}
 use Rattle.fed_stamp.specs.Stamp.{StampValue}
 use Rattle.fed_lattice.specs.declared.pairs.Both.{Both}
-use Rattle.fed_lattice.specs.History.{History}
 use Rattle.fed_tags.specs.Tags.{pair_cmp, has}
 use Rattle.fed_record.specs.declared.grants.GrantStage.{GrantStage}
 use Rattle.fed_record.specs.declared.progress.Beginning.{Beginning}

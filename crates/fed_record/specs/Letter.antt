@@ -29,9 +29,9 @@ has_hold j kind = any_covered j.touched (j.holds kind)
 abbrev pub is_held : JobView → Bool
 is_held j = has_hold j User || (has_hold j Operator || has_hold j System)
 
--- a job is there once it is submitted
+-- a job is there once it is submitted, which sets all its fields
 abbrev pub is_submitted : JobView → Bool
-is_submitted j = is_some j.owner
+is_submitted j = is_some j.owner && (is_some j.name && (is_some j.priority && (is_some j.nodes && (is_some j.limit && is_some j.account))))
 
 -- the site that a grant is to that is not handed back
 abbrev pub holder_in : Option GrantStage → Option ℕ

@@ -1,22 +1,18 @@
 -- The laws of records of jobs.
-use Rattle.std.specs.List.Sorted.{IsStrictlySortedBy}
 use Rattle.std.specs.Ordering.{nat_cmp}
 use Rattle.std.specs.Cmp.{nat_cmp_total, IsTotalOrder}
-use Rattle.std.proofs.Common.{◌≡◌, ℕ, ◌<◌, ◌≤◌, List, [], ◌∷◌, ◌++◌, Bool, true, false, ◌||◌, Ordering, length, Option, Some, None, refl, sym, ap, subst, ◌∙◌, inl, inr, arith}
-use Rattle.std.proofs.lemmas.Bool.{cases_Bool, or_left, or_right}
+use Rattle.std.proofs.Common.{◌≡◌, ℕ, List, ◌++◌, true, sym, ap, subst, ◌∙◌}
 use Rattle.std.proofs.lemmas.Map.Lookups.{CmpEqualImpliesEq, exact_unsigned}
 use Rattle.fed_stamp.specs.Stamp.{StampValue}
-use Rattle.fed_stamp.specs.Version.{covers, joined, raised}
-use Rattle.fed_stamp.proofs.VersionLaws.{covers-joined}
-use Rattle.fed_lattice.specs.Sets.{Has, IsSameSet}
+use Rattle.fed_stamp.specs.Version.{covers}
+use Rattle.fed_lattice.specs.Sets.{Has}
 use Rattle.fed_lattice.specs.History.{History, IsFresh, OneEach, IsCovered, Shares, Agree}
 use Rattle.fed_lattice.specs.Part.{part}
 use Rattle.fed_lattice.specs.BothLaws.{part_joined_reads}
 use Rattle.fed_lattice.specs.Stamped.{stamped}
 use Rattle.fed_lattice.specs.StampedLaws.{stamped-append, stamped-Has, Has-stamped}
-use Rattle.fed_tags.specs.Tags.{pair_cmp, applied_tags, joined_tags}
+use Rattle.fed_tags.specs.Tags.{pair_cmp}
 use Rattle.fed_tags.specs.TagLaws.{pair_total, exact_pair}
-use Rattle.fed_record.specs.declared.holds.HoldKind.{HoldKind}
 use Rattle.fed_record.specs.Hold.{kind_cmp}
 use Rattle.fed_record.specs.HoldLaws.{kind_total, exact_kind}
 use Rattle.fed_record.specs.Changes.{always}

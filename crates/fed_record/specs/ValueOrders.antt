@@ -1,8 +1,8 @@
 -- The orders of the values of a job's fields, of its Begin and Finish, and of a reservation's window.
-use Rattle.std.specs.Prelude.{ℕ, ℤ, List, Option}
+use Rattle.std.specs.Prelude.{ℕ, List, Option}
 use Rattle.std.specs.declared.cmp.Ordering.{Ordering}
 use Rattle.std.specs.Option.{option_cmp}
-use Rattle.std.specs.Ordering.{nat_cmp, int_cmp, ordering_then}
+use Rattle.std.specs.Ordering.{nat_cmp, ordering_then}
 use Rattle.std.specs.Cmp.Lexicographic.{slice_cmp}
 use Rattle.fed_record.specs.declared.progress.Beginning.{Beginning}
 use Rattle.fed_record.specs.declared.progress.Ending.{Ending}

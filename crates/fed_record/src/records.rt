@@ -33,12 +33,12 @@ use std::marker::Model;
 /// stages in a nest `G`, and the version of its operations.
 #[derive(Drop)]
 pub struct Record<F, G> {
-    alloc: Global,
-    fields: F,
-    holds: TagSet<HoldKind>,
-    sites: TagSet<SiteId>,
-    stages: G,
-    touched: Version,
+    pub(crate) alloc: Global,
+    pub(crate) fields: F,
+    pub(crate) holds: TagSet<HoldKind>,
+    pub(crate) sites: TagSet<SiteId>,
+    pub(crate) stages: G,
+    pub(crate) touched: Version,
 }
 
 impl<F, G> Model for Record<F, G> {

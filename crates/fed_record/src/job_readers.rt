@@ -1,0 +1,189 @@
+//! What is read of the record of a job.
+ghost use Rattle.std.specs.Prelude.{◌≡◌, Some, IsTrue};
+ghost use Rattle.fed_record.specs.JobRecord.{reads};
+ghost use Rattle.fed_record.specs.Letter.{is_submitted as is_job_submitted, is_held as is_job_held, has_hold as is_hold_present, has_site as is_site_present, letter as letter_of};
+
+use crate::accounts::Account;
+use crate::grants::GrantStage;
+use crate::holds::HoldKind;
+use crate::job_records::{Fields, Stages};
+use crate::letters::Letter;
+use crate::limits::Limit;
+use crate::node_counts::Nodes;
+use crate::priorities::Priority;
+use crate::progress::{Beginning, Ending};
+use crate::records::Record;
+use fed_stamp::{SiteId, Stamp, Version, Word};
+use fed_tags::Pairs;
+
+/// How far a job has come: its Begin and its Finish, each with its stamp.
+#[derive(Clone, Copy, PartialEq, Eq, Debug)]
+pub struct Progress {
+    pub begun: Option<(Stamp, Beginning)>,
+    pub finished: Option<(Stamp, Ending)>,
+}
+
+/// The readers of the fields ask that the job is submitted, which holds of every record on a board.
+impl Record<Fields, Stages> {
+    /// Whether the job is submitted: a submission sets all fields.
+    pub fn is_submitted(&self) -> bool
+        ensures { result ≡ is_job_submitted (reads self.now) }
+    {
+        let first = &self.fields;
+        let second = &first.second;
+        let third = &second.second;
+        let fourth = &third.second;
+        first.first.get().is_some()
+            && second.first.get().is_some()
+            && third.first.get().is_some()
+            && fourth.first.get().is_some()
+            && fourth.second.first.get().is_some()
+            && fourth.second.second.get().is_some()
+    }
+
+    /// The owner, with the stamp of the submission.
+    pub fn owner(&self) -> (Stamp, Word)
+        requires { IsTrue (is_job_submitted (reads self.now)) }
+        ensures { (reads self.now).owner ≡ Some result }
+    {
+        self.fields.first.get().unwrap()
+    }
+
+    /// The name, with the stamp of the operation that set it.
+    pub fn name(&self) -> (Stamp, Word)
+        requires { IsTrue (is_job_submitted (reads self.now)) }
+        ensures { (reads self.now).name ≡ Some result }
+    {
+        self.fields.second.first.get().unwrap()
+    }
+
+    /// The priority, with the stamp of the operation that set it.
+    pub fn priority(&self) -> (Stamp, Priority)
+        requires { IsTrue (is_job_submitted (reads self.now)) }
+        ensures { (reads self.now).priority ≡ Some result }
+    {
+        self.fields.second.second.first.get().unwrap()
+    }
+
+    /// The number of nodes, with the stamp of the operation that set it.
+    pub fn nodes(&self) -> (Stamp, Nodes)
+        requires { IsTrue (is_job_submitted (reads self.now)) }
+        ensures { (reads self.now).nodes ≡ Some result }
+    {
+        self.fields.second.second.second.first.get().unwrap()
+    }
+
+    /// The time limit in seconds, with the stamp of the operation that set it.
+    pub fn limit(&self) -> (Stamp, Limit)
+        requires { IsTrue (is_job_submitted (reads self.now)) }
+        ensures { (reads self.now).limit ≡ Some result }
+    {
+        self.fields.second.second.second.second.first.get().unwrap()
+    }
+
+    /// The account, with the stamp of the operation that set it.
+    pub fn account(&self) -> (Stamp, Account)
+        requires { IsTrue (is_job_submitted (reads self.now)) }
+        ensures { (reads self.now).account ≡ Some result }
+    {
+        self.fields
+            .second
+            .second
+            .second
+            .second
+            .second
+            .get()
+            .unwrap()
+    }
+
+    /// Whether a hold of this kind is present: whether it has a live pair.
+    pub fn has_hold(&self, kind: HoldKind) -> bool
+        ensures { result ≡ is_hold_present (reads self.now) kind }
+    {
+        self.holds.has(&kind)
+    }
+
+    /// Whether the site is among those that the job may run at.
+    pub fn has_site(&self, site: SiteId) -> bool
+        ensures { result ≡ is_site_present (reads self.now) site }
+    {
+        self.sites.has(&site)
+    }
+
+    /// Whether some hold is present.
+    pub fn is_held(&self) -> bool
+        ensures { result ≡ is_job_held (reads self.now) }
+    {
+        !self.holds.is_empty()
+    }
+
+    /// The live pairs of holds, by kind and then by stamp.
+    pub fn hold_tags(&self) -> Pairs<'_, HoldKind>
+        ensures { result ≡ self.now.holds }
+    {
+        self.holds.iter()
+    }
+
+    /// The live pairs of sites, by site and then by stamp.
+    pub fn site_tags(&self) -> Pairs<'_, SiteId>
+        ensures { result ≡ self.now.sites }
+    {
+        self.sites.iter()
+    }
+
+    /// Whether the job is deleted.
+    pub fn deleted(&self) -> bool
+        ensures { result ≡ (reads self.now).deleted }
+    {
+        self.stages.first.get()
+    }
+
+    /// The greatest stage of the job's grants, or none where it was never granted.
+    pub fn grant(&self) -> Option<GrantStage>
+        ensures { result ≡ (reads self.now).grant }
+    {
+        self.stages.second.first.get()
+    }
+
+    /// The Begin and the Finish, each with its stamp.
+    pub fn progress(&self) -> Progress
+        ensures begun { result.begun ≡ (reads self.now).begun }
+        ensures finished { result.finished ≡ (reads self.now).finished }
+    {
+        Progress {
+            begun: self.stages.second.second.first.get(),
+            finished: self.stages.second.second.second.get(),
+        }
+    }
+
+    /// For each site the greatest counter among the stamps of the job's operations.
+    pub fn touched(&self) -> Version
+        ensures { result ≡ (reads self.now).touched }
+    {
+        self.touched
+    }
+
+    /// The letter of the job, or none where it is gone.
+    pub fn letter(&self) -> Option<Letter>
+        ensures { result ≡ letter_of (reads self.now) }
+    {
+        let progress = self.progress();
+        if progress.finished.is_some() || (self.deleted() && progress.begun.is_none()) {
+            return None;
+        }
+        if progress.begun.is_some() {
+            return Some(if self.deleted() {
+                Letter::Exiting
+            } else {
+                Letter::Running
+            });
+        }
+        if self.is_held() {
+            return Some(Letter::Held);
+        }
+        match self.grant() {
+            Some(GrantStage::Open { .. }) => Some(Letter::Granted),
+            _ => Some(Letter::Queued),
+        }
+    }
+}
