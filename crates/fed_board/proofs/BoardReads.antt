@@ -4,7 +4,7 @@ use Rattle.std.specs.BTreeMap.{insert_entry, is_at}
 use Rattle.std.specs.Map.{lookup}
 use Rattle.std.specs.Cmp.{both_ways}
 use Rattle.std.specs.Prelude.{if◌then◌else◌}
-use Rattle.std.proofs.Common.{◌≡◌, ℕ, List, Bool, true, false, cond, ◌||◌, Option, Some, None, is_some, IsSome, IfSome, MatchOption, unwrap_or, Ordering, refl, sym, ap, subst, ◌∙◌, inl, inr}
+use Rattle.std.proofs.Common.{◌≡◌, ℕ, List, Bool, true, false, cond, ◌||◌, Option, Some, None, is_some, IsSome, IfSome, MatchOption, unwrap_or, Ordering, refl, sym, ap, ap₂, subst, ◌∙◌, inl, inr}
 use Rattle.std.proofs.lemmas.Bool.{cases_Bool, or_parts}
 use Rattle.std.proofs.lemmas.Cmp.{tied_itself}
 use Rattle.std.proofs.lemmas.Map.Views.{tells_apart}
@@ -90,6 +90,9 @@ module _ (applied : JobRecordValue → StampValue → Operation → JobRecordVal
   abbrev old_job : StampValue → JobRecordValue
   old_job name = value_at stamp_cmp no_operation b.jobs name
 
+  pub changed_job_same : (now : BoardValue) → b ≡ now → changed_job applied b at op job ≡ changed_job applied now at op job
+  changed_job_same now e = ap (λ d. changed_job applied d at op job) e
+
   module _ (of : job_of at (body_of op) ≡ Some job) where
     abbrev added : Bool → StampValue → JobView
     added t name = if t then add_to_job at (body_of op) (reads_job (old_job name)) else reads_job (old_job name)
@@ -154,11 +157,13 @@ module _ (b : BoardValue) (at : StampValue) (op : Operation) (name : StampValue)
 
 -- ---- two boards merged
 module _ (join : JobRecordValue → List ℕ → JobRecordValue → List ℕ → JobRecordValue)
-    (law : (r q : JobRecordValue) (v w : List ℕ) → reads_job (join r v q w) ≡ join_jobs v (reads_job r) w (reads_job q))
-    (bottoms : BottomsJoin no_operation join) where
-  pub merged_reads : (b c : BoardValue) → reads (merged join b c) ≡ join_views (reads b) (reads c)
+    (law : (r q : JobRecordValue) (v w : List ℕ) → reads_job (join r v q w) ≡ join_jobs v (reads_job r) w (reads_job q)) where
+  pub merged_same : (b c now other : BoardValue) → b ≡ now → c ≡ other → merged join b c ≡ merged join now other
+  merged_same b c now other e f = ap₂ (merged join) e f
+
+  pub merged_reads : BottomsJoin no_operation join → (b c : BoardValue) → reads (merged join b c) ≡ join_views (reads b) (reads c)
   unfolding join_views
-  merged_reads b c =
+  merged_reads bottoms b c =
       let job : (name : StampValue) → reads_job (value_at stamp_cmp no_operation (merged join b c).jobs name) ≡ join_jobs b.version (reads_job (value_at stamp_cmp no_operation b.jobs name)) c.version (reads_job (value_at stamp_cmp no_operation c.jobs name)) =
       λ name. ap reads_job (value_at-joined_tables stamp_cmp stamp_total exact_stamp no_operation join bottoms name b.jobs c.jobs b.version c.version) ∙ law _ _ b.version c.version in
       let reservation : (name : StampValue) → value_at stamp_cmp None (merged join b c).reservations name ≡ joined_registers option_window_cmp (value_at stamp_cmp None b.reservations name) (value_at stamp_cmp None c.reservations name) =

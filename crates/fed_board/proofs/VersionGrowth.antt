@@ -18,14 +18,14 @@ covers_raised v s t = covers_more v (raised v s) t (below_raised v s)
 -- a version below another stays so where both see one more stamp
 pub raised_below : (t v : List ℕ) (s : StampValue) → covers (raised v s) s ≡ true → is_below t v ≡ true → is_below (raised t s) (raised v s) ≡ true
 raised_below t v s seen below = below_from_each (raised t s) (raised v s) (λ i.
-  let more : counter_of v i ≤ counter_of (raised v s) i = each_from_below v (raised v s) (below_raised v s) i in
-  let less : counter_of t i ≤ counter_of v i = each_from_below t v below i in
-  elim (raised_cases t s i) [
-    | inl e ↦ omega (arith, e, more, less)
-    | inr e ↦
-      let own : s.counter ≤ counter_of (raised v s) i = subst (λ j. s.counter ≤ counter_of (raised v s) j) e.0 (leb-true s.counter (counter_of (raised v s) s.site) seen) in
-      omega (arith, e.1, more, less, own)
-  ])
+    let more : counter_of v i ≤ counter_of (raised v s) i = each_from_below v (raised v s) (below_raised v s) i in
+    let less : counter_of t i ≤ counter_of v i = each_from_below t v below i in
+    elim (raised_cases t s i) [
+      | inl e ↦ omega (arith, e, more, less)
+      | inr e ↦
+          let own : s.counter ≤ counter_of (raised v s) i = subst (λ j. s.counter ≤ counter_of (raised v s) j) e.0 (leb-true s.counter (counter_of (raised v s) s.site) seen) in
+          omega (arith, e.1, more, less, own)
+    ])
 
 counter_of_zeros : (n i : ℕ) → counter_of (replicate n 0) i ≡ 0
 counter_of_zeros zero i = refl

@@ -43,7 +43,7 @@ impl Model for Board {
     ghost view = { λ b. record { version = b.version; jobs = b.jobs; reservations = b.reservations } };
 
     ghost invariant = { λ b. IsBoard (record { version = b.version; jobs = b.jobs; reservations = b.reservations })
-      × AreCounts b.job_counts (keys_of b.jobs) × AreCounts b.reservation_counts (keys_of b.reservations) };
+        × AreCounts b.job_counts (keys_of b.jobs) × AreCounts b.reservation_counts (keys_of b.reservations) };
 }
 
 impl Board {
@@ -92,14 +92,25 @@ impl Board {
     }
 
     // Changes the reservation that the operation is of.
-    fn change_reservation(&mut self, name: Stamp, at: Stamp, operation: &Operation) -> Result<(), NoMemory>
+    fn change_reservation(
+        &mut self,
+        name: Stamp,
+        at: Stamp,
+        operation: &Operation,
+    ) -> Result<(), NoMemory>
         requires of { reservation_of at (body_of operation.now) ≡ Some name }
         requires named { HasNamed self.old (body_of operation.now) }
         ensures changed { OnOk result (self.new ≡ changed_reservation self.old at operation.now name) }
         ensures unchanged { OnErr result (self.new ≡ self.old) }
     {
         let version = self.version.with(at);
-        change_at(&mut self.reservations, &mut self.reservation_counts, name, at, operation)?;
+        change_at(
+            &mut self.reservations,
+            &mut self.reservation_counts,
+            name,
+            at,
+            operation,
+        )?;
         self.version = version;
         Ok(())
     }
@@ -129,7 +140,9 @@ impl Board {
     {
         joined_records_read();
         let jobs = self.jobs.join(&self.version, &other.jobs, &other.version)?;
-        let reservations = self.reservations.join(&self.version, &other.reservations, &other.version)?;
+        let reservations = self
+            .reservations
+            .join(&self.version, &other.reservations, &other.version)?;
         self.job_counts = count_names(&jobs);
         self.reservation_counts = count_names(&reservations);
         self.jobs = jobs;

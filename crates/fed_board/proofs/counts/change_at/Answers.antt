@@ -11,7 +11,7 @@ overflow_add-counts g c =
     let new = ap is_some (sym c.get.ensures.value) ∙ copied_some c.get.result ∙ c.if-is_new.ensures in
     let w = g.V.Causal.applied (value_at stamp_cmp g.V.Causal.bottom c.args.table.now c.args.name) c.args.at c.args.operation.now in
     let fits = count_fits c.args.counts.now c.args.table.now c.args.name w c.get-then-is_new.result c.requires c.told-counts c.get-then-is_new.ensures.in_range (c.get-then-is_new.ensures.same ∙ c.site.ensures)
-        c.len-names.result new (c.len-names.ensures ∙ ap length c.in_ok-apply_at.ensures.applied) in
+    c.len-names.result new (c.len-names.ensures ∙ ap length c.in_ok-apply_at.ensures.applied) in
     omega (arith, fits, c.len-names.type_inv)
 
 pub returns-then-is_new-clause-counted : goal.returns-then-is_new-clause-counted

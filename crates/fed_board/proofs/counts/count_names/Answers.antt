@@ -18,5 +18,5 @@ pub loop-name-preserved : goal.loop-name-preserved
 loop-name-preserved g c = (
   length-set c.loop-name.counts c.get.result (slice_index_or c.loop-name.counts c.get.result 0 + 1) ∙ c.loop-name.invariant.0,
   counting_more c.loop-name.counts (keys_of c.args.table.now) c.loop-name.name-iterator c.next.new.self c.in-Some.name.now c.in-Some._value.now c.get.result c.loop-name.invariant.0 c.get.ensures.in_range (c.get.ensures.same ∙ c.site.ensures)
-  (rest_more deref_pair _ _ _ _ c.in-Some.is c.next.ensures.steps) c.loop-name.invariant.1,
+      (rest_more deref_pair _ _ _ _ c.in-Some.is c.next.ensures.steps) c.loop-name.invariant.1,
 )
