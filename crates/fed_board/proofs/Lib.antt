@@ -2,6 +2,7 @@
 pub mod LawfulLaws
 pub mod ViewLaws
 pub mod KnownLaws
+pub mod SubmitLaws
 pub mod GrowthLaws
 pub mod Scenes
 pub mod KinScene

@@ -7,6 +7,8 @@ ghost use Rattle.fed_lattice.specs.Sets.{IsSameSet};
 ghost use Rattle.fed_lattice.specs.History.{History, OneEach, IsFresh};
 ghost use Rattle.fed_lattice.specs.VersionOf.{version_of};
 ghost use Rattle.fed_record.specs.Body.{Body};
+ghost use Rattle.fed_record.specs.JobView.{job_view};
+ghost use Rattle.fed_record.specs.Letter.{is_submitted};
 ghost use Rattle.fed_board.specs.View.{view};
 ghost use Rattle.fed_board.specs.ViewSteps.{add_to_view, join_views};
 ghost use Rattle.fed_board.specs.Lawful.{IsGrounded, IsLawful, AreKin, MayFollow};
@@ -49,4 +51,9 @@ pub fn covered_reservations_are_known()
 pub fn lawful_sets_grow()
     ensures { (ops : History Body) (e : StampValue × Body) → IsLawful ops → IsFresh e.0 ops → e.0.site < 16 →
         IsGrounded (ops ++ e ∷ []) e.0 e.1 → MayFollow ops e.0 e.1 → IsLawful (ops ++ e ∷ []) }
+{}
+
+/// In a lawful set a job reads as submitted, or no operation is of it and nothing is read of it.
+pub fn jobs_are_submitted_or_unknown()
+    ensures { (ops : History Body) (job : StampValue) → IsLawful ops → is_submitted ((view ops).job job) ≡ false → (view ops).job job ≡ job_view [] }
 {}

@@ -6,3 +6,8 @@ pub mod RangeLaws
 pub mod PresenceLaws
 pub mod RecordReads
 pub mod PresentPairs
+pub mod FoundLaws
+pub mod BodyLaws
+pub mod StandingTags
+pub mod StandingRecords
+pub mod JobRecordReads

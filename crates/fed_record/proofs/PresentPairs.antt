@@ -5,7 +5,6 @@ use Rattle.std.proofs.lemmas.Bool.{leb-true, cases_Bool, or_left, or_right}
 use Rattle.std.proofs.lemmas.Map.Lookups.{CmpEqualImpliesEq}
 use Rattle.fed_stamp.specs.Stamp.{StampValue}
 use Rattle.fed_stamp.specs.Version.{counter_of}
-use Rattle.fed_lattice.specs.Sets.{Has}
 use Rattle.fed_tags.specs.Tags.{pair_cmp, has, IsElement}
 use Rattle.fed_tags.specs.TagLaws.{pair_total, exact_pair, has_member, member}
 use Rattle.fed_record.specs.declared.holds.HoldKind.{HoldKind}

@@ -11,7 +11,7 @@ use Rattle.std.proofs.lemmas.Map.Views.{tells_apart}
 use Rattle.fed_stamp.specs.Stamp.{StampValue}
 use Rattle.fed_lattice.specs.Both.{applied_option}
 use Rattle.fed_lattice.specs.Exact.{TellsApart}
-use Rattle.fed_lattice.specs.ExactLaws.{tells_numbers}
+use Rattle.fed_lattice.specs.ExactLaws.{and_both, tells_numbers}
 use Rattle.fed_lattice.specs.FilterLaws.{Has-filter, filter-Has}
 use Rattle.fed_lattice.specs.FlagLaws.{or_comm}
 use Rattle.fed_lattice.specs.Register.{stamped_cmp, joined_registers}
@@ -50,9 +50,6 @@ applied_flag true s None = refl
 applied_flag true s (Some u) = refl
 applied_flag false s None = refl
 applied_flag false s (Some u) = refl
-
-and_both : (a b : Bool) → a ≡ true → b ≡ true → (a && b) ≡ true
-and_both a b p q = ap₂ (λ x y. x && y) p q
 
 -- ---- live pairs
 module _ {E : Type 0} (cmp : E → E → Ordering) (o : IsTotalOrder cmp) (exact : CmpEqualImpliesEq cmp) (same : E → E → Bool) (tells : TellsApart same) where
@@ -109,12 +106,12 @@ tells_kinds System User = (λ e. cc, λ e. cc)
 tells_kinds System Operator = (λ e. cc, λ e. cc)
 tells_kinds System System = (λ _. refl, λ _. refl)
 
-every_kind : (adds : HoldKind → Bool) (kind : HoldKind) → adds kind ≡ true → Has all_kinds kind
+pub every_kind : (adds : HoldKind → Bool) (kind : HoldKind) → adds kind ≡ true → Has all_kinds kind
 every_kind adds User e = inl refl
 every_kind adds Operator e = inr (inl refl)
 every_kind adds System e = inr (inr (inl refl))
 
-removed_hold : (c : Operation) (kind : HoldKind) (tag : StampValue) → has (pair_cmp kind_cmp) (removed_holds c) (kind, tag) ≡ removes_hold (body_of c) kind tag
+pub removed_hold : (c : Operation) (kind : HoldKind) (tag : StampValue) → has (pair_cmp kind_cmp) (removed_holds c) (kind, tag) ≡ removes_hold (body_of c) kind tag
 removed_hold (Operation.Submit owner values held) kind tag = refl
 removed_hold (Operation.Set job changes removed) kind tag = refl
 removed_hold (Operation.Hold job kinds) kind tag = refl
@@ -146,12 +143,12 @@ named_below : (sites : Option (List Bool)) (site : ℕ) → is_site_named sites 
 named_below None site e = cc
 named_below (Some sites) site e = below_16 site (and_parts (nat_lt site 16) _ e).0
 
-every_site : (b : Body) (site : ℕ) → adds_site b site ≡ true → Has (range_with_len 0 16) site
+pub every_site : (b : Body) (site : ℕ) → adds_site b site ≡ true → Has (range_with_len 0 16) site
 every_site (Submit owner values held) site e = below_16 site (and_parts (nat_lt site 16) _ e).0
 every_site (Set job changes removed) site e = named_below changes.sites site e
 every_site _ site e = cc
 
-removed_site : (c : Operation) (site : ℕ) (tag : StampValue) → has (pair_cmp nat_cmp) (removed_sites c) (site, tag) ≡ removes_site (body_of c) site tag
+pub removed_site : (c : Operation) (site : ℕ) (tag : StampValue) → has (pair_cmp nat_cmp) (removed_sites c) (site, tag) ≡ removes_site (body_of c) site tag
 removed_site (Operation.Submit owner values held) site tag = refl
 removed_site (Operation.Set job changes removed) site tag = has_test nat_cmp nat_cmp_total exact_unsigned nat_eq tells_numbers site tag removed.items
 removed_site (Operation.Hold job kinds) site tag = refl

@@ -17,6 +17,7 @@ pub mod HoldLaws
 pub mod Changes
 pub mod Record
 pub mod JobRecord
+pub mod JobParts
 pub mod CoveredLaws
 pub mod RecordLaws
 pub mod ValueOrders

@@ -1,5 +1,10 @@
 -- The laws of records of jobs.
-use Rattle.std.specs.Ordering.{nat_cmp}
+use Rattle.std.specs.Ordering.{nat_cmp, eq_by_cmp}
+use Rattle.std.specs.Cmp.Lexicographic.{pointwise}
+use Rattle.std.proofs.Common.{Ordering, Bool, ◌&&◌, nat_eq, refl}
+use Rattle.fed_lattice.specs.Exact.{TellsApart}
+use Rattle.fed_lattice.specs.ExactLaws.{tells_numbers, tells_lists, tells_pairs, tells_by_order}
+use Rattle.fed_record.specs.Record.{RecordValue}
 use Rattle.std.specs.Cmp.{nat_cmp_total, IsTotalOrder}
 use Rattle.std.proofs.Common.{◌≡◌, ℕ, List, ◌++◌, true, sym, ap, subst, ◌∙◌}
 use Rattle.std.proofs.lemmas.Map.Lookups.{CmpEqualImpliesEq, exact_unsigned}
@@ -13,6 +18,7 @@ use Rattle.fed_lattice.specs.Stamped.{stamped}
 use Rattle.fed_lattice.specs.StampedLaws.{stamped-append, stamped-Has, Has-stamped}
 use Rattle.fed_tags.specs.Tags.{pair_cmp}
 use Rattle.fed_tags.specs.TagLaws.{pair_total, exact_pair}
+use Rattle.fed_record.specs.declared.holds.HoldKind.{HoldKind}
 use Rattle.fed_record.specs.Hold.{kind_cmp}
 use Rattle.fed_record.specs.HoldLaws.{kind_total, exact_kind}
 use Rattle.fed_record.specs.Changes.{always}
@@ -29,6 +35,23 @@ site_order = pair_total nat_cmp nat_cmp_total
 
 pub site_exact : CmpEqualImpliesEq (pair_cmp nat_cmp)
 site_exact = exact_pair nat_cmp exact_unsigned
+
+-- ---- equality
+tells_tags : {E : Type 0} (R : E × StampValue → E × StampValue → Ordering) → IsTotalOrder R → CmpEqualImpliesEq R → TellsApart (pointwise (eq_by_cmp R))
+tells_tags R o exact = tells_lists (eq_by_cmp R) (tells_by_order R (eq_by_cmp R) o exact (λ _ _. refl))
+
+-- `==` tells records apart where it tells their parts apart
+pub tells_records : {F G : Type 0} (eq : F → F → Bool) (same : G → G → Bool) → TellsApart eq → TellsApart same
+    → TellsApart {X = RecordValue F G} (λ x y. (eq x.fields y.fields && same x.stages y.stages)
+    && ((pointwise (eq_by_cmp (pair_cmp kind_cmp)) x.holds y.holds && pointwise (eq_by_cmp (pair_cmp nat_cmp)) x.sites y.sites) && pointwise nat_eq x.touched y.touched))
+tells_records {F} {G} eq same t u x y =
+    let w = tells_pairs _ _ (tells_pairs eq same t u)
+    (tells_pairs _ _ (tells_pairs _ _ (tells_tags (pair_cmp kind_cmp) hold_order hold_exact) (tells_tags (pair_cmp nat_cmp) site_order site_exact)) (tells_lists nat_eq tells_numbers))
+    ((x.fields, x.stages), ((x.holds, x.sites), x.touched)) ((y.fields, y.stages), ((y.holds, y.sites), y.touched)) in (
+      λ e. ap (λ (p : (F × G) × ((List (HoldKind × StampValue) × List (ℕ × StampValue)) × List ℕ)).
+          let r : RecordValue F G = record { fields = p.0.0; holds = p.1.0.0; sites = p.1.0.1; stages = p.0.1; touched = p.1.1 } in r) (w.0 e),
+      λ e. w.1 (ap (λ (r : RecordValue F G). ((r.fields, r.stages), ((r.holds, r.sites), r.touched))) e),
+    )
 
 -- ---- histories whose changes say their stamps
 module _ {C : Type 0} where

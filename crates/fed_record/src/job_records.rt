@@ -1,7 +1,9 @@
 //! The records of jobs, and what is read of them.
 ghost use Rattle.std.specs.Prelude.{◌≡◌, ℕ, List, ◌++◌, IfOk, OnOk};
 ghost use Rattle.fed_stamp.specs.Stamp.{StampValue};
-ghost use Rattle.fed_record.specs.Operation.{body_of};
+ghost use Rattle.fed_lattice.specs.History.{History, OneEach};
+ghost use Rattle.fed_record.specs.Operation.{body_of, bodies};
+ghost use Rattle.fed_record.specs.JobView.{job_view};
 ghost use Rattle.fed_record.specs.JobRecord.{JobRecordValue, reads};
 ghost use Rattle.fed_record.specs.JobSteps.{add_to_job, join_jobs};
 ghost use Rattle.fed_record.specs.declared.operations.Operation.{Operation};
@@ -41,4 +43,9 @@ pub fn applied_records_read()
 pub fn joined_records_read()
     ensures { (r q : JobRecordValue) (v w : List ℕ) →
         reads (⟦<JobRecord as Causal>⟧.joined r v q w) ≡ join_jobs v (reads r) w (reads q) }
+{}
+
+/// A record that stands for the operations of a job, of which different ones have different stamps, reads as their view.
+pub fn standing_records_read()
+    ensures { (r : JobRecordValue) (h : History Operation) → OneEach h → ⟦<JobRecord as Causal>⟧.reads r h → reads r ≡ job_view (bodies h) }
 {}

@@ -1,5 +1,5 @@
 //! Records of jobs: what is read of a job's operations, without them.
-ghost use Rattle.std.specs.Prelude.{◌≡◌, ℕ, [], replicate, IfOk, OnOk, OnErr, refl};
+ghost use Rattle.std.specs.Prelude.{◌≡◌, ◌&&◌, ℕ, [], replicate, IfOk, OnOk, OnErr, refl};
 ghost use Rattle.std.proofs.Common.{ap, ap₂, sym, ◌∙◌};
 ghost use Rattle.std.specs.Ordering.{nat_cmp};
 ghost use Rattle.std.specs.List.Sorted.{IsStrictlySortedBy};
@@ -23,7 +23,7 @@ use crate::changes::{
 };
 use crate::holds::HoldKind;
 use crate::operations::Operation;
-use fed_lattice::{Causal, NoMemory};
+use fed_lattice::{Causal, ExactEq, NoMemory};
 use fed_stamp::{SiteId, Stamp, Version};
 use fed_tags::TagSet;
 use std::alloc::Global;
@@ -96,6 +96,55 @@ fn change_tags(
     holds.remove(removed_holds(operation));
     sites.remove(removed_sites(operation));
     Ok(())
+}
+
+impl<F: PartialEq, G: PartialEq> Record<F, G> {
+    fn has_same_values(&self, other: &Self) -> bool
+        ensures { result ≡ (F.eq self.now.fields other.now.fields && G.eq self.now.stages other.now.stages) }
+    {
+        self.fields == other.fields && self.stages == other.stages
+    }
+}
+
+impl<F, G> Record<F, G> {
+    ghost use Rattle.std.specs.Prelude.{◌&&◌, nat_eq};
+    ghost use Rattle.std.specs.Ordering.{eq_by_cmp};
+    ghost use Rattle.std.specs.Cmp.Lexicographic.{pointwise};
+
+    fn has_same_tags(&self, other: &Self) -> bool
+        ensures { result ≡ ((pointwise (eq_by_cmp (pair_cmp kind_cmp)) self.now.holds other.now.holds && pointwise (eq_by_cmp (pair_cmp nat_cmp)) self.now.sites other.now.sites) && pointwise nat_eq self.now.touched other.now.touched) }
+    {
+        self.holds == other.holds && self.sites == other.sites && self.touched == other.touched
+    }
+}
+
+/// Records are equal where all their parts are.
+impl<F: PartialEq, G: PartialEq> PartialEq for Record<F, G> {
+    ghost use Rattle.std.specs.Prelude.{◌&&◌, nat_eq};
+    ghost use Rattle.std.specs.Ordering.{eq_by_cmp, nat_cmp};
+    ghost use Rattle.std.specs.Cmp.{on_per, and_per, eq_by_cmp_equiv, partial_equiv_from_equiv, nat_eq_equiv};
+    ghost use Rattle.std.specs.Cmp.Lexicographic.{pointwise, lists_per};
+    ghost use Rattle.fed_tags.specs.Tags.{pair_cmp};
+    ghost use Rattle.fed_record.specs.Hold.{kind_cmp};
+    ghost use Rattle.fed_record.specs.RecordLaws.{hold_order, site_order};
+
+    ghost eq = { λ x y. (F.eq x.fields y.fields && G.eq x.stages y.stages) && ((pointwise (eq_by_cmp (pair_cmp kind_cmp)) x.holds y.holds && pointwise (eq_by_cmp (pair_cmp nat_cmp)) x.sites y.sites) && pointwise nat_eq x.touched y.touched) };
+
+    ghost laws = { and_per
+        (and_per (on_per (λ r. r.fields) F.PartialEq.laws) (on_per (λ r. r.stages) G.PartialEq.laws))
+        (and_per (and_per (on_per (λ r. r.holds) (lists_per (partial_equiv_from_equiv (eq_by_cmp_equiv hold_order)))) (on_per (λ r. r.sites) (lists_per (partial_equiv_from_equiv (eq_by_cmp_equiv site_order)))))
+        (on_per (λ r. r.touched) (lists_per (partial_equiv_from_equiv nat_eq_equiv)))) };
+
+    fn eq(&self, other: &Self) -> bool {
+        self.has_same_values(other) && self.has_same_tags(other)
+    }
+}
+
+/// Two records are identical exactly where they are equal.
+impl<F: ExactEq, G: ExactEq> ExactEq for Record<F, G> {
+    ghost use Rattle.fed_record.specs.RecordLaws.{tells_records};
+
+    ghost exact_eq = { tells_records F.eq G.eq F.exact_eq G.exact_eq };
 }
 
 /// A change is an operation on the job.

@@ -8,7 +8,7 @@ ghost use Rattle.fed_tags.specs.Tags.{pair_cmp, inserted, stamped, without, tags
 
 use crate::pairs::Pairs;
 use crate::tags::Tags;
-use fed_lattice::{Exact, NoMemory};
+use fed_lattice::{Exact, ExactEq, NoMemory};
 use fed_stamp::{Stamp, Version};
 use std::alloc::Global;
 use std::collections::BTreeMap;
@@ -261,4 +261,14 @@ impl<T: Exact> PartialEq for TagSet<T> {
     {
         self.groups == other.groups
     }
+}
+
+/// Two sets are identical exactly where they are equal.
+impl<T: Exact> ExactEq for TagSet<T> {
+    ghost use Rattle.std.specs.Prelude.{refl};
+    ghost use Rattle.std.specs.Ordering.{eq_by_cmp};
+    ghost use Rattle.fed_lattice.specs.ExactLaws.{tells_lists, tells_by_order};
+    ghost use Rattle.fed_tags.specs.TagLaws.{pair_total, exact_pair};
+
+    ghost exact_eq = { tells_lists _ (tells_by_order (pair_cmp T.cmp) (eq_by_cmp (pair_cmp T.cmp)) (pair_total T.cmp T.total) (exact_pair T.cmp T.exact) (λ _ _. refl)) };
 }

@@ -1,0 +1,173 @@
+-- A record that stands for the operations of a job reads as their view.
+use Rattle.std.specs.Ordering.{nat_cmp}
+use Rattle.std.specs.List.{range_with_len}
+use Rattle.std.specs.Prelude.{ℤ}
+use Rattle.std.proofs.Common.{◌≡◌, ◌↔◌, ℕ, List, Bool, true, Option, Some, refl, sym, ap, subst, ◌∙◌}
+use Rattle.fed_stamp.specs.Stamp.{StampValue}
+use Rattle.fed_lattice.specs.FilterLaws.{Has-filter, filter-Has}
+use Rattle.fed_lattice.specs.Flag.{flag_reads, has_changes}
+use Rattle.fed_lattice.specs.FlagLaws.{flag_from_reads}
+use Rattle.fed_lattice.specs.Sets.{Has}
+use Rattle.fed_lattice.specs.History.{History, OneEach}
+use Rattle.fed_lattice.specs.LatestLaws.{latest_reads, latest_from_reads}
+use Rattle.fed_lattice.specs.Part.{part, first_change, second_change}
+use Rattle.fed_lattice.specs.PartLaws.{one_each_part}
+use Rattle.fed_lattice.specs.Register.{register_reads}
+use Rattle.fed_lattice.specs.Stage.{stage_reads}
+use Rattle.fed_lattice.specs.StageLaws.{stage_reads_greatest, stage_from_reads}
+use Rattle.fed_lattice.specs.Stamped.{stamped}
+use Rattle.fed_tags.specs.Tags.{pair_cmp}
+use Rattle.fed_tags.specs.TagLaws.{has_member, member}
+use Rattle.fed_record.specs.declared.grants.GrantStage.{GrantStage}
+use Rattle.fed_record.specs.declared.holds.HoldKind.{HoldKind}
+use Rattle.fed_record.specs.declared.operations.Operation.{Operation}
+use Rattle.fed_record.specs.declared.progress.Beginning.{Beginning}
+use Rattle.fed_record.specs.declared.progress.Ending.{Ending}
+use Rattle.fed_record.specs.Body.{Body}
+use Rattle.fed_record.specs.Changes.{always, all_kinds, field_change, stage_change, hold_change, site_change, removed_holds, removed_sites, field_changes, stage_changes}
+use Rattle.fed_record.specs.Field.{owner_in, name_in, priority_in, nodes_in, limit_in, account_in, deletion_in, begin_in, finish_in, field}
+use Rattle.fed_record.specs.Grant.{grant_cmp, grant_in, grant_stage}
+use Rattle.fed_record.specs.GrantLaws.{grant_total, exact_grant}
+use Rattle.fed_record.specs.Hold.{kind_cmp}
+use Rattle.fed_record.specs.Operation.{body_of, bodies}
+use Rattle.fed_record.specs.Pairs.{adds_site, removes_site, adds_hold, removes_hold}
+use Rattle.fed_record.specs.RecordLaws.{hold_order, hold_exact, site_order, site_exact}
+use Rattle.fed_record.proofs.BodyLaws.{part-always, part-bodies, part-stamped, part-stamped_bodies, one_each_bodies}
+use Rattle.fed_record.proofs.RecordReads.{every_kind, every_site, removed_hold, removed_site}
+
+-- ---- registers, over the operations or over a nest of parts of their changes
+pub field_is : {T : Type 0} (says : Body → Option T) (x : Option (StampValue × T)) (h : History Operation) (l : History T)
+    → OneEach h → l ≡ part says (bodies h) → register_reads x l → x ≡ field says (bodies h)
+field_is says x h l one e p =
+    latest_from_reads x (field says (bodies h)) (part says (bodies h)) (one_each_part says (bodies h) (one_each_bodies h one))
+    (subst (register_reads x) e p) (latest_reads (part says (bodies h)))
+
+-- a part of a nest is what the bodies say
+pub said_by : {C D T : Type 0} (f : D → Option T) (k : C → D) (g : C → Option T) (l : History C) (m : History T) → ((c : C) → f (k c) ≡ g c) → part g l ≡ m → part f (part (always k) l) ≡ m
+said_by {C} f k g l m same e = part-always f k l ∙ ap (λ (q : C → _). part q l) (λ i c. same c i) ∙ e
+
+-- ---- holds and sites
+pub hold_added : (c : Operation) (kind : HoldKind) → Has (hold_change c).0 kind ↔ (adds_hold (body_of c) kind ≡ true)
+hold_added c kind = (
+  λ m. (Has-filter (adds_hold (body_of c)) all_kinds kind m).1,
+  λ e. filter-Has (adds_hold (body_of c)) all_kinds kind (every_kind (adds_hold (body_of c)) kind e) e,
+)
+
+pub hold_removed : (c : Operation) (kind : HoldKind) (tag : StampValue) → Has (hold_change c).1 (kind, tag) ↔ (removes_hold (body_of c) kind tag ≡ true)
+hold_removed c kind tag = (
+  λ m. sym (removed_hold c kind tag) ∙ has_member (pair_cmp kind_cmp) hold_order hold_exact (kind, tag) (removed_holds c) m,
+  λ e. member (pair_cmp kind_cmp) hold_order hold_exact (kind, tag) (removed_holds c) (removed_hold c kind tag ∙ e),
+)
+
+pub site_added : (c : Operation) (site : ℕ) → Has (site_change c).0 site ↔ (adds_site (body_of c) site ≡ true)
+site_added c site = (
+  λ m. (Has-filter (adds_site (body_of c)) (range_with_len 0 16) site m).1,
+  λ e. filter-Has (adds_site (body_of c)) (range_with_len 0 16) site (every_site (body_of c) site e) e,
+)
+
+pub site_removed : (c : Operation) (site : ℕ) (tag : StampValue) → Has (site_change c).1 (site, tag) ↔ (removes_site (body_of c) site tag ≡ true)
+site_removed c site tag = (
+  λ m. sym (removed_site c site tag) ∙ has_member (pair_cmp nat_cmp) site_order site_exact (site, tag) (removed_sites c) m,
+  λ e. member (pair_cmp nat_cmp) site_order site_exact (site, tag) (removed_sites c) (removed_site c site tag ∙ e),
+)
+
+-- ---- stages
+pub deletion_is : (x : Bool) (h : History Operation) (l : History (Unit {0})) → l ≡ part deletion_in (bodies h) → flag_reads x l → x ≡ has_changes (part deletion_in (bodies h))
+deletion_is x h l e p = flag_from_reads x (part deletion_in (bodies h)) (subst (flag_reads x) e p)
+
+pub grant_is : (x : Option GrantStage) (h : History Operation) (l : History GrantStage) → l ≡ part grant_in (stamped (bodies h)) → stage_reads grant_cmp x l → x ≡ grant_stage (bodies h)
+grant_is x h l e p =
+    stage_from_reads grant_cmp grant_total exact_grant x (grant_stage (bodies h)) (part grant_in (stamped (bodies h)))
+    (subst (stage_reads grant_cmp x) e p) (stage_reads_greatest grant_cmp grant_total (part grant_in (stamped (bodies h))))
+
+-- ---- the nests of parts
+rest_of : {C A B : Type 0} (k : C → Option A × Option B) (r : C → B) (h : History C) → ((c : C) → second_change (k c) ≡ Some (r c)) → part second_change (part (always k) h) ≡ part (always r) h
+rest_of k r h same = said_by second_change k (always r) h (part (always r) h) same refl
+
+abbrev LimitChange : Type 0
+LimitChange = Option ℕ × Option (Option (List ℕ))
+
+abbrev NodesChange : Type 0
+NodesChange = Option ℕ × Option LimitChange
+
+abbrev PriorityChange : Type 0
+PriorityChange = Option ℤ × Option NodesChange
+
+abbrev NameChange : Type 0
+NameChange = Option (List ℕ) × Option PriorityChange
+
+abbrev limit_change : Operation → LimitChange
+limit_change c = (limit_in (body_of c), account_in (body_of c))
+
+abbrev nodes_change : Operation → NodesChange
+nodes_change c = (nodes_in (body_of c), Some (limit_change c))
+
+abbrev priority_change : Operation → PriorityChange
+priority_change c = (priority_in (body_of c), Some (nodes_change c))
+
+abbrev name_change : Operation → NameChange
+name_change c = (name_in (body_of c), Some (priority_change c))
+
+abbrev ProgressChange : Type 0
+ProgressChange = Option Beginning × Option Ending
+
+abbrev GrantChange : Type 0
+GrantChange = Option GrantStage × Option ProgressChange
+
+abbrev progress_change : StampValue × Operation → ProgressChange
+progress_change e = (begin_in (body_of e.1), finish_in (body_of e.1))
+
+abbrev grant_change : StampValue × Operation → GrantChange
+grant_change e = (grant_in (e.0, body_of e.1), Some (progress_change e))
+
+module _ (h : History Operation) where
+  after_owner : part second_change (field_changes h) ≡ part (always name_change) h
+  after_owner = rest_of field_change name_change h (λ c. refl)
+
+  after_name : part second_change (part second_change (field_changes h)) ≡ part (always priority_change) h
+  after_name = ap (part second_change) after_owner ∙ rest_of name_change priority_change h (λ c. refl)
+
+  after_priority : part second_change (part second_change (part second_change (field_changes h))) ≡ part (always nodes_change) h
+  after_priority = ap (part second_change) after_name ∙ rest_of priority_change nodes_change h (λ c. refl)
+
+  after_nodes : part second_change (part second_change (part second_change (part second_change (field_changes h)))) ≡ part (always limit_change) h
+  after_nodes = ap (part second_change) after_priority ∙ rest_of nodes_change limit_change h (λ c. refl)
+
+  said : {T : Type 0} (says : Body → Option T) → part (λ c. says (body_of c)) h ≡ part says (bodies h)
+  said says = sym (part-bodies says h)
+
+  pub owner_said : part first_change (field_changes h) ≡ part owner_in (bodies h)
+  owner_said = said_by first_change field_change (λ c. owner_in (body_of c)) h _ (λ c. refl) (said owner_in)
+
+  pub name_said : part first_change (part second_change (field_changes h)) ≡ part name_in (bodies h)
+  name_said = ap (part first_change) after_owner ∙ said_by first_change name_change (λ c. name_in (body_of c)) h _ (λ c. refl) (said name_in)
+
+  pub priority_said : part first_change (part second_change (part second_change (field_changes h))) ≡ part priority_in (bodies h)
+  priority_said = ap (part first_change) after_name ∙ said_by first_change priority_change (λ c. priority_in (body_of c)) h _ (λ c. refl) (said priority_in)
+
+  pub nodes_said : part first_change (part second_change (part second_change (part second_change (field_changes h)))) ≡ part nodes_in (bodies h)
+  nodes_said = ap (part first_change) after_priority ∙ said_by first_change nodes_change (λ c. nodes_in (body_of c)) h _ (λ c. refl) (said nodes_in)
+
+  pub limit_said : part first_change (part second_change (part second_change (part second_change (part second_change (field_changes h))))) ≡ part limit_in (bodies h)
+  limit_said = ap (part first_change) after_nodes ∙ said_by first_change limit_change (λ c. limit_in (body_of c)) h _ (λ c. refl) (said limit_in)
+
+  pub account_said : part second_change (part second_change (part second_change (part second_change (part second_change (field_changes h))))) ≡ part account_in (bodies h)
+  account_said = ap (part second_change) after_nodes ∙ said_by second_change limit_change (λ c. account_in (body_of c)) h _ (λ c. refl) (said account_in)
+
+  after_deletion : part second_change (stage_changes h) ≡ part (always grant_change) (stamped h)
+  after_deletion = rest_of stage_change grant_change (stamped h) (λ e. refl)
+
+  after_grant : part second_change (part second_change (stage_changes h)) ≡ part (always progress_change) (stamped h)
+  after_grant = ap (part second_change) after_deletion ∙ rest_of grant_change progress_change (stamped h) (λ e. refl)
+
+  pub deletion_said : part first_change (stage_changes h) ≡ part deletion_in (bodies h)
+  deletion_said = said_by first_change stage_change (λ (e : StampValue × Operation). deletion_in (body_of e.1)) (stamped h) _ (λ e. refl) (part-stamped (λ c. deletion_in (body_of c)) h ∙ said deletion_in)
+
+  pub grant_said : part first_change (part second_change (stage_changes h)) ≡ part grant_in (stamped (bodies h))
+  grant_said = ap (part first_change) after_deletion ∙ said_by first_change grant_change (λ (e : StampValue × Operation). grant_in (e.0, body_of e.1)) (stamped h) _ (λ e. refl) (sym (part-stamped_bodies grant_in h))
+
+  pub begin_said : part first_change (part second_change (part second_change (stage_changes h))) ≡ part begin_in (bodies h)
+  begin_said = ap (part first_change) after_grant ∙ said_by first_change progress_change (λ (e : StampValue × Operation). begin_in (body_of e.1)) (stamped h) _ (λ e. refl) (part-stamped (λ c. begin_in (body_of c)) h ∙ said begin_in)
+
+  pub finish_said : part second_change (part second_change (part second_change (stage_changes h))) ≡ part finish_in (bodies h)
+  finish_said = ap (part second_change) after_grant ∙ said_by second_change progress_change (λ (e : StampValue × Operation). finish_in (body_of e.1)) (stamped h) _ (λ e. refl) (part-stamped (λ c. finish_in (body_of c)) h ∙ said finish_in)

@@ -1,0 +1,19 @@
+-- That a record reads as the parts that it is made of.
+use Rattle.std.specs.Prelude.{◌≡◌, Some}
+use Rattle.fed_record.specs.declared.job_parts.JobParts.{JobParts}
+use Rattle.fed_record.specs.JobRecord.{JobRecordValue, reads}
+
+pub record IsMadeOf (r : JobRecordValue) (parts : JobParts) : Type 0 where
+  pub owner : (reads r).owner ≡ Some parts.owner
+  pub name : (reads r).name ≡ Some parts.name
+  pub priority : (reads r).priority ≡ Some parts.priority
+  pub nodes : (reads r).nodes ≡ Some parts.nodes
+  pub limit : (reads r).limit ≡ Some parts.limit
+  pub account : (reads r).account ≡ Some parts.account
+  pub hold_tags : r.holds ≡ parts.hold_tags.now
+  pub site_tags : r.sites ≡ parts.site_tags.now
+  pub deleted : (reads r).deleted ≡ parts.deleted
+  pub grant : (reads r).grant ≡ parts.grant
+  pub begun : (reads r).begun ≡ parts.progress.begun
+  pub finished : (reads r).finished ≡ parts.progress.finished
+  pub touched : (reads r).touched ≡ parts.touched

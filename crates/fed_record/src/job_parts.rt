@@ -1,0 +1,112 @@
+//! Records of jobs made of what they read as.
+ghost use Rattle.std.specs.Prelude.{◌≡◌, Some, IfOk};
+ghost use Rattle.std.specs.List.Sorted.{IsStrictlySortedBy};
+ghost use Rattle.std.specs.Ordering.{nat_cmp};
+ghost use Rattle.fed_tags.specs.Tags.{pair_cmp};
+ghost use Rattle.fed_record.specs.Hold.{kind_cmp};
+ghost use Rattle.fed_record.specs.Record.{AreCovered};
+ghost use Rattle.fed_record.specs.JobParts.{IsMadeOf};
+
+use crate::accounts::Account;
+use crate::grants::GrantStage;
+use crate::holds::HoldKind;
+use crate::job_readers::Progress;
+use crate::job_records::{Fields, JobRecord, Stages};
+use crate::limits::Limit;
+use crate::node_counts::Nodes;
+use crate::priorities::Priority;
+use crate::records::Record;
+use fed_lattice::{Both, Flag, NoMemory, Register, Stage};
+use fed_stamp::{SiteId, Stamp, Version, Word};
+use fed_tags::TagSet;
+use std::alloc::Global;
+
+/// What a record of a submitted job reads as: each value with the stamp of the operation that set it. Its holds, its
+/// sites and its letter follow from these.
+#[derive(Clone, Copy)]
+pub struct JobParts<'a> {
+    pub owner: (Stamp, Word),
+    pub name: (Stamp, Word),
+    pub priority: (Stamp, Priority),
+    pub nodes: (Stamp, Nodes),
+    pub limit: (Stamp, Limit),
+    pub account: (Stamp, Account),
+    /// The live pairs of holds, strictly ascending by kind and then by stamp.
+    pub hold_tags: &'a [(HoldKind, Stamp)],
+    /// The live pairs of sites, strictly ascending by site and then by stamp.
+    pub site_tags: &'a [(SiteId, Stamp)],
+    pub deleted: bool,
+    pub grant: Option<GrantStage>,
+    pub progress: Progress,
+    /// For each site the greatest counter among the stamps of the job's operations. It covers every tag.
+    pub touched: Version,
+}
+
+// The registers of a job.
+fn fields_of(parts: &JobParts) -> Fields
+    ensures owner { result.first ≡ Some parts.now.owner }
+    ensures name { result.second.first ≡ Some parts.now.name }
+    ensures priority { result.second.second.first ≡ Some parts.now.priority }
+    ensures nodes { result.second.second.second.first ≡ Some parts.now.nodes }
+    ensures limit { result.second.second.second.second.first ≡ Some parts.now.limit }
+    ensures account { result.second.second.second.second.second ≡ Some parts.now.account }
+{
+    let resources = Both {
+        first: Register::new(Some(parts.limit)),
+        second: Register::new(Some(parts.account)),
+    };
+    let numbers = Both {
+        first: Register::new(Some(parts.priority)),
+        second: Both {
+            first: Register::new(Some(parts.nodes)),
+            second: resources,
+        },
+    };
+    Both {
+        first: Register::new(Some(parts.owner)),
+        second: Both {
+            first: Register::new(Some(parts.name)),
+            second: numbers,
+        },
+    }
+}
+
+// The stages of a job.
+fn stages_of(parts: &JobParts) -> Stages
+    ensures deleted { result.first ≡ parts.now.deleted }
+    ensures grant { result.second.first ≡ parts.now.grant }
+    ensures begun { result.second.second.first ≡ parts.now.progress.begun }
+    ensures finished { result.second.second.second ≡ parts.now.progress.finished }
+{
+    let progress = Both {
+        first: Register::new(parts.progress.begun),
+        second: Register::new(parts.progress.finished),
+    };
+    Both {
+        first: Flag::new(parts.deleted),
+        second: Both {
+            first: Stage::new(parts.grant),
+            second: progress,
+        },
+    }
+}
+
+impl Record<Fields, Stages> {
+    /// The record that reads as the parts.
+    pub fn from_parts(alloc: Global, parts: &JobParts) -> Result<JobRecord, NoMemory>
+        requires holds_ascend { IsStrictlySortedBy (pair_cmp kind_cmp) parts.now.hold_tags.now }
+        requires sites_ascend { IsStrictlySortedBy (pair_cmp nat_cmp) parts.now.site_tags.now }
+        requires holds_covered { AreCovered parts.now.touched parts.now.hold_tags.now }
+        requires sites_covered { AreCovered parts.now.touched parts.now.site_tags.now }
+        ensures { IfOk result (λ r. IsMadeOf r parts.now) }
+    {
+        Ok(Record {
+            alloc,
+            fields: fields_of(parts),
+            holds: TagSet::from_pairs(alloc, parts.hold_tags)?,
+            sites: TagSet::from_pairs(alloc, parts.site_tags)?,
+            stages: stages_of(parts),
+            touched: parts.touched,
+        })
+    }
+}
