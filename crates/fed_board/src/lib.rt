@@ -4,5 +4,7 @@
 pub mod boards;
 pub mod counts;
 pub mod laws;
+pub mod merging;
 
 pub use boards::Board;
+pub use merging::{merging_is_associative, merging_is_commutative, merging_is_idempotent};
