@@ -186,6 +186,24 @@ impl Board {
         Ok(())
     }
 
+    /// Whether the job or the reservation that the operation is of is on the board, or the operation makes it.
+    pub fn has_named(&self, operation: &Operation) -> bool
+        ensures { IsTrue result ↔ HasNamed self.now (body_of operation.now) }
+    {
+        match operation {
+            Operation::Submit { .. } | Operation::Reserve { .. } => true,
+            Operation::Cancel { reservation } => self.reservation(*reservation).is_some(),
+            Operation::Set { job, .. }
+            | Operation::Hold { job, .. }
+            | Operation::Release { job, .. }
+            | Operation::Delete { job }
+            | Operation::Grant { job, .. }
+            | Operation::HandBack { job, .. }
+            | Operation::Begin { job, .. }
+            | Operation::Finish { job, .. } => self.job(*job).is_some(),
+        }
+    }
+
     /// Adds the operation with the stamp `at`, which the version does not cover. It asks that the job or the reservation that
     /// the operation is of is on the board, unless the operation makes it. One record is changed, in place. On an
     /// error the board is as before.

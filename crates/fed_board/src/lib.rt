@@ -8,3 +8,6 @@ pub mod merging;
 
 pub use boards::Board;
 pub use merging::{merging_is_associative, merging_is_commutative, merging_is_idempotent};
+
+#[cfg(test)]
+mod tests;
