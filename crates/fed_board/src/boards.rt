@@ -71,7 +71,8 @@ impl Board {
         ensures value { result ≡ self.now.version }
         ensures board { IsBoard self.now }
     {
-        self.version
+        let seen = self.version;
+        seen
     }
 
     /// The record of the job, or `None` where the job is not on the board. A record on a board is of a job that is submitted.
