@@ -1,9 +1,10 @@
 -- What holds of every board holds after a change and merged.
 use Rattle.std.specs.BTreeMap.{is_at}
-use Rattle.std.specs.Map.{lookup}
+use Rattle.std.specs.Map.{keys_of, values_of, lookup}
+use Rattle.std.specs.List.Sorted.{IsStrictlySortedBy}
 use Rattle.std.specs.Option.{option_cmp}
 use Rattle.std.specs.Ordering.{is_lt}
-use Rattle.std.proofs.Common.{◌≡◌, ◌⊎◌, ℕ, List, Bool, true, false, cond, ◌||◌, Option, Some, None, is_some, IsSome, IfSome, MatchOption, unwrap_or, refl, sym, ap, subst, ◌∙◌, inl, inr}
+use Rattle.std.proofs.Common.{◌≡◌, ◌⊎◌, ℕ, List, All, Bool, true, false, cond, ◌||◌, Option, Some, None, is_some, IsSome, IfSome, MatchOption, unwrap_or, refl, sym, ap, subst, ◌∙◌, inl, inr}
 use Rattle.std.proofs.lemmas.Option.{IfSome_then}
 use Rattle.fed_stamp.specs.Stamp.{StampValue}
 use Rattle.fed_stamp.specs.Version.{covers, joined, raised, is_below}
@@ -13,7 +14,7 @@ use Rattle.fed_lattice.specs.Latest.{stamp_cmp}
 use Rattle.fed_lattice.specs.LatestLaws.{stamp_total}
 use Rattle.fed_lattice.specs.Register.{stamped_cmp, joined_registers}
 use Rattle.fed_lattice.specs.Stamped.{with_stamp}
-use Rattle.fed_lattice.specs.TableValues.{IsAtEach, each_insert_entry, each_joined_tables}
+use Rattle.fed_lattice.specs.TableValues.{IsAtEach, each_insert_entry, each_joined_tables, values_each}
 use Rattle.fed_record.specs.declared.operations.Operation.{Operation}
 use Rattle.fed_record.specs.declared.windows.Window.{Window}
 use Rattle.fed_record.specs.Body.{Body, Body.Submit, Body.Set, Body.Hold, Body.Release, Body.Delete, Body.Grant, Body.HandBack, Body.Begin, Body.Finish, Body.Reserve, Body.Cancel, job_of, reservation_of}
@@ -152,16 +153,13 @@ module _ (applied : JobRecordValue → StampValue → Operation → JobRecordVal
 
 -- an operation of a reservation sets its window or none
 module _ (b : BoardValue) (at name : StampValue) (op : Operation) (i : IsBoard b) (seen : covers (raised b.version at) at ≡ true) where
-  abbrev v : List ℕ
-  v = b.version
-
   abbrev now : Option ReservationView
   now = lookup (is_at (stamp_cmp name)) b.reservations
 
-  before : IsCoveredReservation (raised v at) (unwrap_or now None)
-  before = covered_more v (raised v at) (λ s. covers_raised v at s) (unwrap_or now None) (covered_reservation v name now (i.reservations name))
+  before : IsCoveredReservation (raised b.version at) (unwrap_or now None)
+  before = covered_more b.version (raised b.version at) (λ s. covers_raised b.version at s) (unwrap_or now None) (covered_reservation b.version name now (i.reservations name))
 
-  changed_known_reservation : (body : Body) → reservation_of at body ≡ Some name → HasNamed b body → IsKnownReservation (raised v at) name (joined_registers option_window_cmp (unwrap_or now None) (with_stamp at (window_in body)))
+  changed_known_reservation : (body : Body) → reservation_of at body ≡ Some name → HasNamed b body → IsKnownReservation (raised b.version at) name (joined_registers option_window_cmp (unwrap_or now None) (with_stamp at (window_in body)))
   changed_known_reservation (Submit owner values held) of n = cc
   changed_known_reservation (Set job changes removed) of n = cc
   changed_known_reservation (Hold job kinds) of n = cc
@@ -172,18 +170,18 @@ module _ (b : BoardValue) (at name : StampValue) (op : Operation) (i : IsBoard b
   changed_known_reservation (Begin job beginning) of n = cc
   changed_known_reservation (Finish job ending) of n = cc
   changed_known_reservation (Reserve window) of n = record {
-    named = subst (λ s. covers (raised v at) s ≡ true) (from_some at name of) seen;
-    made = right_made (raised v at) (unwrap_or now None) (Some (at, Some window)) before seen;
+    named = subst (λ s. covers (raised b.version at) s ≡ true) (from_some at name of) seen;
+    made = right_made (raised b.version at) (unwrap_or now None) (Some (at, Some window)) before seen;
   }
   changed_known_reservation (Cancel other) of n = record {
-    named = covers_raised v at name (subst (λ t. covers v t ≡ true) (from_some other name of) (present_named v other (lookup (is_at (stamp_cmp other)) b.reservations) (i.reservations other) n));
-    made = right_made (raised v at) (unwrap_or now None) (Some (at, None)) before seen;
+    named = covers_raised b.version at name (subst (λ t. covers b.version t ≡ true) (from_some other name of) (present_named b.version other (lookup (is_at (stamp_cmp other)) b.reservations) (i.reservations other) n));
+    made = right_made (raised b.version at) (unwrap_or now None) (Some (at, None)) before seen;
   }
 
   pub changed_reservation_keeps : reservation_of at (body_of op) ≡ Some name → HasNamed b (body_of op) → IsBoard (changed_reservation b at op name)
   changed_reservation_keeps of n = record {
-    jobs = λ k. IfSome_then _ (i.jobs k) (λ r. later_job v at k r);
-    reservations = each_insert_entry stamp_cmp stamp_total exact_stamp (IsKnownReservation (raised v at)) b.reservations name _ (λ k. IfSome_then _ (i.reservations k) (λ r. later_reservation v at k r)) (changed_known_reservation (body_of op) of n);
+    jobs = λ k. IfSome_then _ (i.jobs k) (λ r. later_job b.version at k r);
+    reservations = each_insert_entry stamp_cmp stamp_total exact_stamp (IsKnownReservation (raised b.version at)) b.reservations name _ (λ k. IfSome_then _ (i.reservations k) (λ r. later_reservation b.version at k r)) (changed_known_reservation (body_of op) of n);
   }
 
 -- ---- two boards merged
@@ -236,3 +234,14 @@ module _ (join : JobRecordValue → List ℕ → JobRecordValue → List ℕ →
     reservations = each_joined_tables stamp_cmp stamp_total exact_stamp None (λ x v y w. joined_registers option_window_cmp x y) (IsKnownReservation (joined b.version c.version)) b.reservations c.reservations b.version c.version
         (λ name. joined_known_reservation b.version c.version name (lookup (is_at (stamp_cmp name)) b.reservations) (lookup (is_at (stamp_cmp name)) c.reservations) (i.reservations name) (k.reservations name));
   }
+
+-- ---- every job on a board is submitted, and every reservation is made
+pub submitted_values : (v : List ℕ) (es : List (StampValue × JobRecordValue)) → IsStrictlySortedBy stamp_cmp (keys_of es) → IsAtEach stamp_cmp (IsKnownJob v) es → All (λ r. is_submitted (reads_job r) ≡ true) (values_of es)
+submitted_values v es s p = values_each stamp_cmp stamp_total exact_stamp (λ r. is_submitted (reads_job r) ≡ true) es s (λ k. IfSome_then _ (p k) (λ (r : JobRecordValue) (i : IsKnownJob v k r). i.submitted))
+
+some_made : (v : List ℕ) (r : ReservationView) → IsMade v r → IsSome r
+some_made v None p = absurd p
+some_made v (Some latest) p = refl
+
+pub made_values : (v : List ℕ) (es : List (StampValue × ReservationView)) → IsStrictlySortedBy stamp_cmp (keys_of es) → IsAtEach stamp_cmp (IsKnownReservation v) es → All IsSome (values_of es)
+made_values v es s p = values_each stamp_cmp stamp_total exact_stamp IsSome es s (λ k. IfSome_then _ (p k) (λ (r : ReservationView) (i : IsKnownReservation v k r). some_made v r i.made))

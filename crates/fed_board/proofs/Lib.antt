@@ -12,3 +12,4 @@ pub mod SubmittedJobs
 pub mod BoardReads
 pub mod BoardKeeps
 pub mod CountLaws
+pub mod BoardReadings

@@ -4,3 +4,4 @@ pub mod ViewSteps
 pub mod Lawful
 pub mod Board
 pub mod Counts
+pub mod BoardLaws

@@ -1,11 +1,13 @@
 -- What tables have at a key after a change and joined, and what holds at each key of them.
 use Rattle.std.specs.Ordering.{is_eq}
 use Rattle.std.specs.BTreeMap.{insert_entry, is_at}
-use Rattle.std.specs.Map.{lookup}
-use Rattle.std.specs.Cmp.{IsTotalOrder}
-use Rattle.std.proofs.Common.{◌≡◌, ℕ, List, Bool, true, false, cond, ◌||◌, Option, Some, None, is_some, unwrap_or, IfSome, Ordering, refl, sym, ap, subst, ◌∙◌}
+use Rattle.std.specs.Map.{keys_of, values_of, lookup}
+use Rattle.std.specs.List.Sorted.{IsStrictlySortedBy}
+use Rattle.std.specs.Cmp.{IsTotalOrder, eq_by_cmp_equiv}
+use Rattle.std.proofs.Common.{◌≡◌, ℕ, List, All, Bool, true, false, cond, ◌||◌, Option, Some, None, is_some, unwrap_or, IfSome, Ordering, refl, sym, ap, subst, ◌∙◌}
 use Rattle.std.proofs.lemmas.Map.Lookups.{CmpEqualImpliesEq}
-use Rattle.std.proofs.lemmas.Map.Views.{tells_apart}
+use Rattle.std.proofs.lemmas.Map.Keys.{IsDistinct-from_sorted}
+use Rattle.std.proofs.lemmas.Map.Views.{All-values_from_lookup, tells_apart}
 use Rattle.fed_lattice.specs.Laws.{BottomsJoin}
 use Rattle.fed_lattice.specs.Table.{value_at, joined_tables}
 use Rattle.fed_lattice.specs.TableEntries.{lookup-insert_entry}
@@ -52,3 +54,7 @@ module _ {K X : Type 0} (R : K → K → Ordering) (o : IsTotalOrder R) (exact :
   each_joined_tables bottom joined P xs ys v w f k =
       subst (λ a. IfSome a (P k)) (sym (lookup-joined_tables R o exact bottom joined k xs ys v w))
       (at_joined bottom joined (P k) v w (lookup (is_at (R k)) xs) (lookup (is_at (R k)) ys) (f k))
+
+  -- what holds at each key holds of each value
+  pub values_each : (P : X → Type 0) (es : List (K × X)) → IsStrictlySortedBy R (keys_of es) → IsAtEach R (λ k. P) es → All P (values_of es)
+  values_each P es s p = All-values_from_lookup (eq_by_cmp_equiv o) P es (IsDistinct-from_sorted R _ s) p
