@@ -126,7 +126,11 @@ fn holds_that_a_release_has_not_seen_stay(rt: HostRuntime) -> Result<(), Fail> {
     let seen_here = Version::default().with(job).with(released);
     let seen_there = Version::default().with(job).with(held);
     let joined = here.join(&seen_here, &there, &seen_there)?;
-    assert!(rt; joined.hold_tags().eq([(HoldKind::User, held), (HoldKind::System, held)]));
+    assert!(rt;
+        joined
+            .hold_tags()
+            .eq([(HoldKind::User, held), (HoldKind::System, held)])
+    );
     assert!(rt; !joined.has_hold(HoldKind::Operator));
     assert!(rt; joined.letter() == Some(Letter::Held));
     assert!(rt; joined.touched() == seen_here.with(held));
