@@ -5,10 +5,10 @@ ghost use Rattle.fed_record.specs.Letter.{is_submitted as is_job_submitted};
 
 use crate::{
     Account, Beginning, Changes, Ending, GrantStage, HoldKind, HoldKinds, JobParts, JobRecord,
-    JobValues, Letter, Limit, Moment, Nodes, Operation, Priority, Record, Term,
+    JobValues, Letter, Limit, Moment, Nodes, Operation, Priority, Progress, Record, Term,
 };
 use fed_lattice::Causal;
-use fed_stamp::{SiteId, SiteSet, Stamp, Version, Word};
+use fed_stamp::{JobId, SiteId, SiteSet, Stamp, Version, Word};
 use fed_tags::TagSet;
 use std::alloc::Global;
 use std::test::Fail;
@@ -22,284 +22,316 @@ const UNCHANGED: Changes = Changes {
     sites: None,
 };
 
-fn site(number: u8) -> Result<SiteId, Fail> {
-    Ok(SiteId::new(number).ok_or("site")?)
+const UNBEGUN: Progress = Progress {
+    begun: None,
+    finished: None,
+};
+
+fn site(number: u8) -> SiteId {
+    SiteId::new(number).unwrap_or_default()
 }
 
-fn stamp(counter: u64, number: u8) -> Result<Stamp, Fail> {
-    Ok(Stamp::new(counter, site(number)?).ok_or("stamp")?)
+fn stamp(counter: u64, number: u8) -> Stamp {
+    Stamp::new(counter, site(number)).unwrap_or_default()
 }
 
-fn word(text: &str) -> Result<Word, Fail> {
-    Ok(Word::new(text).ok_or("word")?)
+/// The job of these tests, submitted at site 2.
+fn job() -> JobId {
+    stamp(5, 2)
 }
 
-/// A Submit of owner ann, to the sites 1 and 4.
-fn submit(held: bool) -> Result<Operation, Fail> {
-    Ok(Operation::Submit {
-        owner: word("ann")?,
-        values: JobValues {
-            name: word("STDIN")?,
-            priority: Priority::new(0).ok_or("priority")?,
-            nodes: Nodes::new(1).ok_or("nodes")?,
-            limit: Limit::new(3600).ok_or("limit")?,
-            account: Account::EMPTY,
-            sites: SiteSet::new(&[site(4)?, site(1)?]).ok_or("sites")?,
-        },
+fn owner() -> Result<Word, Fail> {
+    Ok(Word::new("ann").ok_or("owner")?)
+}
+
+/// The values of a submission to the sites 1 and 4.
+fn values() -> Result<JobValues, Fail> {
+    Ok(JobValues {
+        name: Word::new("STDIN").ok_or("name")?,
+        priority: Priority::new(0).ok_or("priority")?,
+        nodes: Nodes::new(1).ok_or("nodes")?,
+        limit: Limit::new(3600).ok_or("limit")?,
+        account: Account::EMPTY,
+        sites: SiteSet::new(&[site(4), site(1)]).ok_or("sites")?,
+    })
+}
+
+/// The record with one operation more.
+fn after(record: JobRecord, at: Stamp, operation: Operation) -> Result<JobRecord, Fail> {
+    let mut changed = record;
+    changed.apply(at, &operation)?;
+    Ok(changed)
+}
+
+/// The record of the job where nothing but its Submit is seen.
+fn submitted(alloc: Global, held: bool) -> Result<JobRecord, Fail> {
+    let submit = Operation::Submit {
+        owner: owner()?,
+        values: values()?,
         held,
-    })
+    };
+    after(Record::bottom(alloc), job(), submit)
 }
 
-/// The record of a job that is submitted by this stamp.
-fn submitted(alloc: Global, job: Stamp, held: bool) -> Result<JobRecord, Fail> {
-    let mut record: JobRecord = Record::bottom(alloc);
-    record.apply(job, &submit(held)?)?;
-    Ok(record)
-}
-
-/// An operation that sets values, and removes no site.
-fn set(alloc: Global, job: Stamp, changes: Changes) -> Operation {
-    Operation::Set {
-        job,
+/// A Set that removes these pairs of sites.
+fn set(alloc: Global, changes: Changes, pairs: &[(SiteId, Stamp)]) -> Result<Operation, Fail> {
+    Ok(Operation::Set {
+        job: job(),
         changes,
-        removed: Vec::new(alloc),
-    }
-}
-
-/// The Begin of the job at second 100, on 1 node, for 3600 seconds.
-fn begin(job: Stamp) -> Result<Operation, Fail> {
-    Ok(Operation::Begin {
-        job,
-        beginning: Beginning {
-            moment: Moment::new(100).ok_or("moment")?,
-            nodes: Nodes::new(1).ok_or("nodes")?,
-            end: 3700,
-        },
+        removed: Vec::from_slice(alloc, pairs)?,
     })
 }
 
+/// A Begin at second 100, on 1 node.
+fn beginning() -> Result<Beginning, Fail> {
+    Ok(Beginning {
+        moment: Moment::new(100).ok_or("moment")?,
+        nodes: Nodes::new(1).ok_or("nodes")?,
+        end: 3700,
+    })
+}
+
+/// Whether the readers answer the parts.
+fn reads_as(seen: &JobRecord, parts: &JobParts) -> bool {
+    if !seen.is_submitted() {
+        return false;
+    }
+    let values = seen.owner() == parts.owner
+        && seen.name() == parts.name
+        && seen.priority() == parts.priority
+        && seen.nodes() == parts.nodes
+        && seen.limit() == parts.limit
+        && seen.account() == parts.account;
+    let tags = seen.hold_tags().eq(parts.hold_tags.iter().copied())
+        && seen.site_tags().eq(parts.site_tags.iter().copied());
+    let stages = seen.deleted() == parts.deleted
+        && seen.grant() == parts.grant
+        && seen.progress() == parts.progress;
+    values && tags && stages && seen.touched() == parts.touched
+}
+
+/// Which kinds of holds are present, whether one is, and which of the sites 0 to 4 are present.
+fn presence(seen: &JobRecord) -> ([bool; 3], bool, [bool; 5]) {
+    let kinds = [HoldKind::User, HoldKind::Operator, HoldKind::System];
+    let holds = kinds.map(|kind| seen.has_hold(kind));
+    let sites = [0, 1, 2, 3, 4].map(|number| seen.has_site(site(number)));
+    (holds, seen.is_held(), sites)
+}
+
 #[test]
-fn reads_a_submitted_job(rt: HostRuntime) -> Result<(), Fail> {
-    let at = stamp(5, 2)?;
+fn a_submitted_job_is_read(rt: HostRuntime) -> Result<(), Fail> {
+    let values = values()?;
+    let expected = JobParts {
+        owner: (job(), owner()?),
+        name: (job(), values.name),
+        priority: (job(), values.priority),
+        nodes: (job(), values.nodes),
+        limit: (job(), values.limit),
+        account: (job(), Account::EMPTY),
+        hold_tags: &[(HoldKind::User, job())],
+        site_tags: &[(site(1), job()), (site(4), job())],
+        deleted: false,
+        grant: None,
+        progress: UNBEGUN,
+        touched: Version::new([0, 0, 5, 0, 0, 0, 0, 0, 0, 0, 0, 0, 0, 0, 0, 0]).ok_or("touched")?,
+    };
     let empty: JobRecord = Record::bottom(rt.alloc());
-    assert!(rt; !empty.is_submitted() && empty.touched() == Version::default());
-    let record = submitted(rt.alloc(), at, true)?;
-    assert!(rt; record.is_submitted());
-    assert!(rt; record.owner() == (at, word("ann")?));
-    assert!(rt; record.name() == (at, word("STDIN")?));
-    assert!(rt; record.priority().0 == at && record.priority().1.get() == 0);
-    assert!(rt; record.nodes().0 == at && record.nodes().1.get() == 1);
-    assert!(rt; record.limit().0 == at && record.limit().1.get() == 3600);
-    assert!(rt; record.account() == (at, Account::EMPTY));
-    assert!(rt; record.has_site(site(1)?) && record.has_site(site(4)?));
-    assert!(rt; !record.has_site(site(0)?) && !record.has_site(site(2)?));
-    assert!(rt; record.site_tags().eq([(site(1)?, at), (site(4)?, at)]));
-    assert!(rt; record.is_held() && record.has_hold(HoldKind::User));
-    assert!(rt; !record.has_hold(HoldKind::Operator) && !record.has_hold(HoldKind::System));
-    assert!(rt; record.hold_tags().eq([(HoldKind::User, at)]));
-    assert!(rt; !record.deleted() && record.grant().is_none());
-    assert!(rt; record.progress().begun.is_none() && record.progress().finished.is_none());
-    let touched = Version::new([0, 0, 5, 0, 0, 0, 0, 0, 0, 0, 0, 0, 0, 0, 0, 0]);
-    assert!(rt; Some(record.touched()) == touched);
-    assert!(rt; record.letter() == Some(Letter::Held));
-    Ok(())
-}
-
-#[test]
-fn holds_that_a_release_has_not_seen_stay(rt: HostRuntime) -> Result<(), Fail> {
-    let alloc = rt.alloc();
-    let job = stamp(5, 2)?;
-    let (released, held) = (stamp(6, 2)?, stamp(6, 3)?);
-    let mut here = submitted(alloc, job, true)?;
-    let mut there = here.copy()?;
-    let removed = Vec::from_slice(alloc, &[(HoldKind::User, job)])?;
-    here.apply(released, &Operation::Release { job, removed })?;
-    assert!(rt; !here.is_held() && here.letter() == Some(Letter::Queued));
-    let kinds = HoldKinds::USER | HoldKinds::SYSTEM;
-    there.apply(held, &Operation::Hold { job, kinds })?;
-    let both = [
-        (HoldKind::User, job),
-        (HoldKind::User, held),
-        (HoldKind::System, held),
-    ];
-    assert!(rt; there.hold_tags().eq(both));
-    let seen_here = Version::default().with(job).with(released);
-    let seen_there = Version::default().with(job).with(held);
-    let joined = here.join(&seen_here, &there, &seen_there)?;
+    assert!(rt; !empty.is_submitted());
+    let seen = submitted(rt.alloc(), true)?;
+    assert!(rt; reads_as(&seen, &expected));
+    let here = presence(&seen);
     assert!(rt;
-        joined
-            .hold_tags()
-            .eq([(HoldKind::User, held), (HoldKind::System, held)])
+        here == (
+            [true, false, false],
+            true,
+            [false, true, false, false, true]
+        )
     );
-    assert!(rt; !joined.has_hold(HoldKind::Operator));
+    assert!(rt; seen.letter() == Some(Letter::Held));
+    Ok(())
+}
+
+#[test]
+fn a_hold_that_a_release_has_not_seen_stays(rt: HostRuntime) -> Result<(), Fail> {
+    let held = submitted(rt.alloc(), true)?;
+    let copied = held.copy()?;
+    let removed = Vec::from_slice(rt.alloc(), &[(HoldKind::User, job())])?;
+    let release = Operation::Release {
+        job: job(),
+        removed,
+    };
+    let here = after(held, stamp(6, 2), release)?;
+    assert!(rt; here.letter() == Some(Letter::Queued));
+    let hold = Operation::Hold {
+        job: job(),
+        kinds: HoldKinds::USER | HoldKinds::SYSTEM,
+    };
+    let there = after(copied, stamp(6, 3), hold)?;
+    let mine = Version::default().with(stamp(6, 2));
+    let theirs = Version::default().with(job()).with(stamp(6, 3));
+    let joined = here.join(&mine, &there, &theirs)?;
+    let left = [
+        (HoldKind::User, stamp(6, 3)),
+        (HoldKind::System, stamp(6, 3)),
+    ];
+    assert!(rt; joined.hold_tags().eq(left));
     assert!(rt; joined.letter() == Some(Letter::Held));
-    assert!(rt; joined.touched() == seen_here.with(held));
-    assert!(rt; there.join(&seen_there, &here, &seen_here)? == joined);
+    assert!(rt; joined.touched() == mine.with(stamp(6, 3)));
     Ok(())
 }
 
 #[test]
-fn grants_are_handed_back_and_made_anew(rt: HostRuntime) -> Result<(), Fail> {
-    let job = stamp(5, 2)?;
-    let first = Term::new(1).ok_or("first")?;
-    let second = Term::new(2).ok_or("second")?;
-    let (granted, returned, anew) = (stamp(6, 2)?, stamp(7, 4)?, stamp(8, 2)?);
-    let mut record = submitted(rt.alloc(), job, false)?;
-    assert!(rt; record.letter() == Some(Letter::Queued));
-    record.apply(
-        granted,
-        &Operation::Grant {
-            job,
-            site: site(4)?,
-            term: first,
-        },
-    )?;
-    assert!(rt; record.letter() == Some(Letter::Granted));
+fn a_grant_is_handed_back_and_made_anew(rt: HostRuntime) -> Result<(), Fail> {
+    let term = Term::new(1).ok_or("first")?;
+    let next = Term::new(2).ok_or("second")?;
+    let grant = Operation::Grant {
+        job: job(),
+        site: site(4),
+        term,
+    };
+    let granted = after(submitted(rt.alloc(), false)?, stamp(6, 2), grant)?;
     let open = GrantStage::Open {
-        term: first,
-        stamp: granted,
-        site: site(4)?,
+        term,
+        stamp: stamp(6, 2),
+        site: site(4),
     };
-    assert!(rt; record.grant() == Some(open));
-    record.apply(returned, &Operation::HandBack { job, term: first })?;
-    let handed_back = GrantStage::Returned {
-        term: first,
-        stamp: returned,
+    assert!(rt; granted.grant() == Some(open));
+    assert!(rt; granted.letter() == Some(Letter::Granted));
+    let hand_back = Operation::HandBack { job: job(), term };
+    let handed_back = after(granted, stamp(7, 4), hand_back)?;
+    let returned = GrantStage::Returned {
+        term,
+        stamp: stamp(7, 4),
     };
-    assert!(rt; record.grant() == Some(handed_back));
-    assert!(rt; record.letter() == Some(Letter::Queued));
-    record.apply(
-        anew,
-        &Operation::Grant {
-            job,
-            site: site(1)?,
-            term: second,
-        },
-    )?;
-    let open_anew = GrantStage::Open {
-        term: second,
-        stamp: anew,
-        site: site(1)?,
+    assert!(rt; handed_back.grant() == Some(returned));
+    assert!(rt; handed_back.letter() == Some(Letter::Queued));
+    let anew = Operation::Grant {
+        job: job(),
+        site: site(1),
+        term: next,
     };
-    assert!(rt; record.grant() == Some(open_anew));
-    assert!(rt; record.letter() == Some(Letter::Granted));
+    let again = after(handed_back, stamp(8, 2), anew)?;
+    let opened = GrantStage::Open {
+        term: next,
+        stamp: stamp(8, 2),
+        site: site(1),
+    };
+    assert!(rt; again.grant() == Some(opened) && again.letter() == Some(Letter::Granted));
     Ok(())
 }
 
 #[test]
-fn letters_of_jobs_that_begin_and_end(rt: HostRuntime) -> Result<(), Fail> {
-    let job = stamp(5, 2)?;
-    let mut record = submitted(rt.alloc(), job, true)?;
-    let mut deleted = record.copy()?;
-    deleted.apply(stamp(6, 3)?, &Operation::Delete { job })?;
-    assert!(rt; deleted.deleted() && deleted.letter().is_none());
-    let begun = stamp(7, 4)?;
-    record.apply(begun, &begin(job)?)?;
-    assert!(rt; record.letter() == Some(Letter::Running));
-    let (at, beginning) = record.progress().begun.ok_or("not begun")?;
-    assert!(rt; at == begun && beginning.end == 3700);
-    record.apply(stamp(8, 3)?, &Operation::Delete { job })?;
-    assert!(rt; record.letter() == Some(Letter::Exiting));
+fn a_deleted_job_exits_where_it_has_begun(rt: HostRuntime) -> Result<(), Fail> {
+    let seen = submitted(rt.alloc(), true)?;
+    let copied = seen.copy()?;
+    let gone = after(copied, stamp(6, 3), Operation::Delete { job: job() })?;
+    assert!(rt; gone.deleted() && gone.letter().is_none());
+    let begin = Operation::Begin {
+        job: job(),
+        beginning: beginning()?,
+    };
+    let begun = after(seen, stamp(7, 4), begin)?;
+    assert!(rt; begun.letter() == Some(Letter::Running));
+    let exiting = after(begun, stamp(8, 3), Operation::Delete { job: job() })?;
+    assert!(rt; exiting.letter() == Some(Letter::Exiting));
     let ending = Ending {
         moment: Moment::new(200).ok_or("moment")?,
         status: 7,
     };
-    record.apply(stamp(9, 4)?, &Operation::Finish { job, ending })?;
-    assert!(rt; record.letter().is_none());
-    assert!(rt; record.progress().finished == Some((stamp(9, 4)?, ending)));
+    let finish = Operation::Finish { job: job(), ending };
+    let finished = after(exiting, stamp(9, 4), finish)?;
+    let progress = Progress {
+        begun: Some((stamp(7, 4), beginning()?)),
+        finished: Some((stamp(9, 4), ending)),
+    };
+    assert!(rt; finished.letter().is_none() && finished.progress() == progress);
     Ok(())
+}
+
+/// Whether the priority and the account are those of the stamp (9, 2), and the limit that of the stamp (8, 3).
+fn has_latest_values(seen: &JobRecord) -> bool {
+    let latest = stamp(9, 2);
+    seen.is_submitted()
+        && Some(seen.priority().1) == Priority::new(-7)
+        && seen.priority().0 == latest
+        && Some(seen.account().1) == Account::new("physics")
+        && seen.account().0 == latest
+        && Some(seen.limit().1) == Limit::new(60)
+        && seen.limit().0 == stamp(8, 3)
+        && seen.nodes().0 == job()
 }
 
 #[test]
 fn the_values_of_the_greatest_stamp_count(rt: HostRuntime) -> Result<(), Fail> {
-    let alloc = rt.alloc();
-    let job = stamp(5, 2)?;
-    let (older, newer) = (stamp(8, 3)?, stamp(9, 2)?);
     let mut changes = UNCHANGED;
     changes.priority = Priority::new(-7);
     changes.account = Account::new("physics");
-    let mut here = submitted(alloc, job, false)?;
-    let mut there = here.copy()?;
-    here.apply(newer, &set(alloc, job, changes))?;
-    let mut others = UNCHANGED;
-    others.priority = Priority::new(100);
-    others.account = Account::new("zoology");
-    others.limit = Limit::new(60);
-    there.apply(older, &set(alloc, job, others))?;
-    let seen_here = Version::default().with(job).with(newer);
-    let seen_there = Version::default().with(job).with(older);
-    let joined = here.join(&seen_here, &there, &seen_there)?;
-    here.apply(older, &set(alloc, job, others))?;
-    for record in [&here, &joined] {
-        assert!(rt; record.is_submitted());
-        assert!(rt; record.priority().0 == newer && record.priority().1.get() == -7);
-        assert!(rt; record.account().0 == newer && record.account().1.as_str() == "physics");
-        assert!(rt; record.limit().0 == older && record.limit().1.get() == 60);
-        assert!(rt; record.nodes().0 == job && record.nodes().1.get() == 1);
-    }
+    let mut olds = UNCHANGED;
+    olds.priority = Priority::new(100);
+    olds.account = Account::new("zoology");
+    olds.limit = Limit::new(60);
+    let seen = submitted(rt.alloc(), false)?;
+    let copied = seen.copy()?;
+    let here = after(seen, stamp(9, 2), set(rt.alloc(), changes, &[])?)?;
+    let there = after(copied, stamp(8, 3), set(rt.alloc(), olds, &[])?)?;
+    let mine = Version::default().with(stamp(9, 2));
+    let theirs = Version::default().with(job()).with(stamp(8, 3));
+    let joined = there.join(&theirs, &here, &mine)?;
+    assert!(rt; has_latest_values(&joined));
+    let both = after(here, stamp(8, 3), set(rt.alloc(), olds, &[])?)?;
+    assert!(rt; has_latest_values(&both));
     Ok(())
 }
 
 #[test]
 fn sites_that_a_set_has_seen_are_replaced(rt: HostRuntime) -> Result<(), Fail> {
-    let alloc = rt.alloc();
-    let (job, at) = (stamp(5, 2)?, stamp(6, 2)?);
-    let mut record = submitted(alloc, job, false)?;
     let mut changes = UNCHANGED;
-    changes.sites = SiteSet::new(&[site(3)?]);
-    let removed = Vec::from_slice(alloc, &[(site(1)?, job), (site(4)?, job)])?;
-    record.apply(
-        at,
-        &Operation::Set {
-            job,
-            changes,
-            removed,
-        },
-    )?;
-    assert!(rt; record.site_tags().eq([(site(3)?, at)]));
-    assert!(rt; record.has_site(site(3)?) && !record.has_site(site(1)?));
+    changes.sites = SiteSet::new(&[site(3)]);
+    let pairs = [(site(1), job()), (site(4), job())];
+    let operation = set(rt.alloc(), changes, &pairs)?;
+    let seen = after(submitted(rt.alloc(), false)?, stamp(6, 2), operation)?;
+    assert!(rt; seen.site_tags().eq([(site(3), stamp(6, 2))]));
+    assert!(rt; presence(&seen) == ([false; 3], false, [false, false, false, true, false]));
     Ok(())
 }
 
 /// The record that is made of what this one reads as.
-fn made_again(alloc: Global, record: &JobRecord) -> Result<JobRecord, Fail>
-    requires { IsTrue (is_job_submitted (reads record.now)) }
+fn made_again(alloc: Global, seen: &JobRecord) -> Result<JobRecord, Fail>
+    requires { IsTrue (is_job_submitted (reads seen.now)) }
 {
-    let holds: Vec<_> = record.hold_tags().collect(alloc)?;
-    let sites: Vec<_> = record.site_tags().collect(alloc)?;
+    let holds: Vec<_> = seen.hold_tags().collect(alloc)?;
+    let sites: Vec<_> = seen.site_tags().collect(alloc)?;
     if !TagSet::is_ascending(&holds) || !TagSet::is_ascending(&sites) {
         return Err(Fail::from("order"));
     }
     let parts = JobParts {
-        owner: record.owner(),
-        name: record.name(),
-        priority: record.priority(),
-        nodes: record.nodes(),
-        limit: record.limit(),
-        account: record.account(),
+        owner: seen.owner(),
+        name: seen.name(),
+        priority: seen.priority(),
+        nodes: seen.nodes(),
+        limit: seen.limit(),
+        account: seen.account(),
         hold_tags: &holds,
         site_tags: &sites,
-        deleted: record.deleted(),
-        grant: record.grant(),
-        progress: record.progress(),
-        touched: record.touched(),
+        deleted: seen.deleted(),
+        grant: seen.grant(),
+        progress: seen.progress(),
+        touched: seen.touched(),
     };
     Ok(Record::from_parts(alloc, &parts)?)
 }
 
 #[test]
-fn records_are_made_of_what_they_read_as(rt: HostRuntime) -> Result<(), Fail> {
-    let alloc = rt.alloc();
-    let job = stamp(5, 2)?;
-    let term = Term::new(1).ok_or("term")?;
-    let mut record = submitted(alloc, job, true)?;
-    record.apply(stamp(6, 2)?, &Operation::HandBack { job, term })?;
-    record.apply(stamp(7, 4)?, &begin(job)?)?;
-    record.apply(stamp(8, 3)?, &Operation::Delete { job })?;
-    assert!(rt; record.is_submitted());
-    let again = made_again(alloc, &record)?;
-    assert!(rt; again == record);
-    record.apply(stamp(9, 2)?, &Operation::Delete { job })?;
-    assert!(rt; again != record);
+fn a_record_is_made_of_what_it_reads_as(rt: HostRuntime) -> Result<(), Fail> {
+    let begin = Operation::Begin {
+        job: job(),
+        beginning: beginning()?,
+    };
+    let seen = after(submitted(rt.alloc(), true)?, stamp(7, 4), begin)?;
+    assert!(rt; seen.is_submitted());
+    let again = made_again(rt.alloc(), &seen)?;
+    assert!(rt; again == seen);
+    let further = after(seen, stamp(8, 2), Operation::Delete { job: job() })?;
+    assert!(rt; again != further);
     Ok(())
 }
