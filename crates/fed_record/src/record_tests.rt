@@ -316,7 +316,7 @@ fn made_again(alloc: Global, seen: &JobRecord) -> Result<JobRecord, Fail>
         deleted: seen.deleted(),
         grant: seen.grant(),
         progress: seen.progress(),
-        touched: seen.touched(),
+        touched: seen.touched,
     };
     Ok(Record::from_parts(alloc, &parts)?)
 }
