@@ -52,4 +52,6 @@ pub use values::{Changes, JobValues};
 pub use windows::Window;
 
 #[cfg(test)]
+mod record_tests;
+#[cfg(test)]
 mod tests;
