@@ -51,6 +51,21 @@ fn act(board: &mut Board, at: Stamp, operation: &Operation) -> Result<(), Fail> 
     Ok(())
 }
 
+/// A board with one job, which has this name.
+fn submitted(alloc: Global, job: Stamp, held: bool) -> Result<Board, Fail> {
+    let operation = submit(held)?;
+    let mut board = Board::new(alloc);
+    act(&mut board, job, &operation)?;
+    Ok(board)
+}
+
+/// A copy of the board, with one more operation.
+fn after(board: &Board, at: Stamp, operation: &Operation) -> Result<Board, Fail> {
+    let mut later = board.copy()?;
+    act(&mut later, at, operation)?;
+    Ok(later)
+}
+
 /// What the two boards merge to, which is the same from either side.
 fn merged(a: &Board, b: &Board) -> Result<Board, Fail> {
     let mut left = a.copy()?;
@@ -61,98 +76,87 @@ fn merged(a: &Board, b: &Board) -> Result<Board, Fail> {
     Ok(left)
 }
 
+fn letter(board: &Board, job: Stamp) -> Option<Letter> {
+    board.job(job)?.letter()
+}
+
+fn grant(board: &Board, job: Stamp) -> Option<GrantStage> {
+    board.job(job)?.grant()
+}
+
 #[test]
 fn two_sites_submit_and_exchange(rt: HostRuntime) -> Result<(), Fail> {
-    let alloc = rt.alloc();
     let first = stamp(1, 0)?;
     let second = stamp(1, 1)?;
-    let mut a = Board::new(alloc);
-    let mut b = Board::new(alloc);
-    act(&mut a, first, &submit(false)?)?;
-    act(&mut b, second, &submit(false)?)?;
+    let a = submitted(rt.alloc(), first, false)?;
+    let b = submitted(rt.alloc(), second, false)?;
     let both = merged(&a, &b)?;
     assert!(rt; both != a && both != b);
     let mut jobs = both.jobs();
-    let (name, _record) = jobs.next().ok_or("no first job")?;
-    assert_eq!(rt; *name, first);
-    let (name, _record) = jobs.next().ok_or("no second job")?;
-    assert_eq!(rt; *name, second);
+    assert!(rt; jobs.next().is_some_and(|(name, _record)| *name == first));
+    assert!(rt; jobs.next().is_some_and(|(name, _record)| *name == second));
     assert!(rt; jobs.next().is_none());
-    assert_eq!(rt; both.job_count(first.site()), 1);
-    assert_eq!(rt; both.job_count(stamp(1, 2)?.site()), 0);
-    assert_eq!(rt; both.version().get(second.site()), 1);
+    assert!(rt; both.job_count(first.site()) == 1 && a.job_count(second.site()) == 0);
     Ok(())
 }
 
 #[test]
 fn hold_that_a_release_has_not_seen_stays(rt: HostRuntime) -> Result<(), Fail> {
-    let alloc = rt.alloc();
     let job = stamp(1, 0)?;
-    let mut a = Board::new(alloc);
-    act(&mut a, job, &submit(true)?)?;
-    let mut b = a.copy()?;
-    act(&mut b, stamp(2, 1)?, &release(alloc, job)?)?;
+    let released = release(rt.alloc(), job)?;
     let kinds = HoldKinds::USER;
-    act(&mut a, stamp(2, 0)?, &Operation::Hold { job, kinds })?;
-    let both = merged(&a, &b)?;
-    let record = both.job(job).ok_or("no job")?;
-    assert_eq!(rt; record.letter(), Some(Letter::Held));
+    let a = submitted(rt.alloc(), job, true)?;
+    let b = after(&a, stamp(2, 1)?, &released)?;
+    let again = after(&a, stamp(2, 0)?, &Operation::Hold { job, kinds })?;
+    assert!(rt; letter(&b, job) == Some(Letter::Queued));
+    assert!(rt; letter(&merged(&again, &b)?, job) == Some(Letter::Held));
     Ok(())
 }
 
 #[test]
 fn late_board_brings_no_hold_back(rt: HostRuntime) -> Result<(), Fail> {
-    let alloc = rt.alloc();
     let job = stamp(1, 0)?;
-    let mut a = Board::new(alloc);
-    act(&mut a, job, &submit(true)?)?;
-    let late = a.copy()?;
-    act(&mut a, stamp(2, 1)?, &release(alloc, job)?)?;
-    let held = late.job(job).ok_or("no job of the late board")?;
-    assert_eq!(rt; held.letter(), Some(Letter::Held));
-    let both = merged(&a, &late)?;
-    let record = both.job(job).ok_or("no job")?;
-    assert_eq!(rt; record.letter(), Some(Letter::Queued));
+    let released = release(rt.alloc(), job)?;
+    let late = submitted(rt.alloc(), job, true)?;
+    let b = after(&late, stamp(2, 1)?, &released)?;
+    assert!(rt; letter(&late, job) == Some(Letter::Held));
+    assert!(rt; letter(&merged(&late, &b)?, job) == Some(Letter::Queued));
     Ok(())
 }
 
 #[test]
 fn new_term_stands_above_a_grant_handed_back(rt: HostRuntime) -> Result<(), Fail> {
-    let alloc = rt.alloc();
     let job = stamp(1, 0)?;
+    let back = stamp(3, 1)?;
+    let site = back.site();
     let term = Term::new(1).ok_or("first term")?;
     let next = Term::new(2).ok_or("second term")?;
-    let site = stamp(1, 1)?.site();
-    let mut a = Board::new(alloc);
-    act(&mut a, job, &submit(false)?)?;
-    act(&mut a, stamp(2, 0)?, &Operation::Grant { job, site, term })?;
-    let mut b = a.copy()?;
-    act(&mut b, stamp(3, 1)?, &Operation::HandBack { job, term })?;
-    let mut both = merged(&a, &b)?;
-    let returned = GrantStage::Returned {
-        term,
-        stamp: stamp(3, 1)?,
-    };
-    assert!(rt; both.job(job).ok_or("no job")?.grant() == Some(returned));
-    let anew = Operation::Grant {
-        job,
-        site: job.site(),
-        term: next,
-    };
-    act(&mut both, stamp(4, 0)?, &anew)?;
-    let last = merged(&both, &b)?;
+    let a = submitted(rt.alloc(), job, false)?;
+    let granted = after(&a, stamp(2, 0)?, &Operation::Grant { job, site, term })?;
+    let b = after(&granted, back, &Operation::HandBack { job, term })?;
+    let both = merged(&granted, &b)?;
+    assert!(rt; grant(&both, job) == Some(GrantStage::Returned { term, stamp: back }));
+    let at = stamp(4, 0)?;
+    let anew = after(
+        &both,
+        at,
+        &Operation::Grant {
+            job,
+            site,
+            term: next,
+        },
+    )?;
     let open = GrantStage::Open {
         term: next,
-        stamp: stamp(4, 0)?,
-        site: job.site(),
+        stamp: at,
+        site,
     };
-    assert!(rt; last.job(job).ok_or("no job")?.grant() == Some(open));
+    assert!(rt; grant(&merged(&anew, &b)?, job) == Some(open));
     Ok(())
 }
 
 #[test]
 fn reservations_stand_until_cancelled(rt: HostRuntime) -> Result<(), Fail> {
-    let alloc = rt.alloc();
     let name = stamp(1, 2)?;
     let cancelled = stamp(2, 2)?;
     let window = Window {
@@ -161,17 +165,22 @@ fn reservations_stand_until_cancelled(rt: HostRuntime) -> Result<(), Fail> {
         end: 20,
         nodes: 4,
     };
-    let mut a = Board::new(alloc);
-    act(&mut a, name, &Operation::Reserve { window })?;
-    let b = a.copy()?;
-    let made = *b.reservation(name).ok_or("no reservation")?;
-    assert!(rt; made == Reservation::from_parts(name, Some(window)));
-    act(&mut a, cancelled, &Operation::Cancel { reservation: name })?;
+    let a = after(
+        &Board::new(rt.alloc()),
+        name,
+        &Operation::Reserve { window },
+    )?;
+    let b = after(&a, cancelled, &Operation::Cancel { reservation: name })?;
+    let made = Reservation::from_parts(name, Some(window));
+    let last = Reservation::from_parts(cancelled, None);
+    assert!(rt; a.reservation(name).copied() == Some(made));
     let both = merged(&a, &b)?;
     let mut reservations = both.reservations();
-    let (_name, last) = reservations.next().ok_or("no reservation after the merge")?;
-    assert!(rt; *last == Reservation::from_parts(cancelled, None));
-    assert!(rt; reservations.next().is_none());
-    assert_eq!(rt; both.reservation_count(name.site()), 1);
+    assert!(rt;
+        reservations
+            .next()
+            .is_some_and(|(_name, found)| *found == last)
+    );
+    assert!(rt; both.reservation_count(name.site()) == 1);
     Ok(())
 }
