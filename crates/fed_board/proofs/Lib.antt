@@ -1,4 +1,4 @@
--- Lawful sets and what is read of sets, for callers too.
+-- Lawful sets and what is read of sets, for callers too; and what boards read as.
 pub mod LawfulLaws
 pub mod ViewLaws
 pub mod KnownLaws
@@ -7,3 +7,9 @@ pub mod GrowthLaws
 pub mod Scenes
 pub mod KinScene
 pub mod GrantScene
+pub mod VersionGrowth
+pub mod SubmittedJobs
+pub mod BoardReads
+pub mod BoardKeeps
+pub mod CountLaws
+pub mod BoardReadings

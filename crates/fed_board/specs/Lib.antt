@@ -2,3 +2,6 @@
 pub mod View
 pub mod ViewSteps
 pub mod Lawful
+pub mod Board
+pub mod Counts
+pub mod BoardLaws

@@ -30,7 +30,7 @@ module _ {X : Type 0} (bottom : X) (joined : X → List ℕ → X → List ℕ �
   some_joined v w None (Some y) = refl
   some_joined v w (Some x) b = refl
 
-  value_joined : BottomsJoin bottom joined → (v w : List ℕ) (a b : Option X) → unwrap_or (joined_options v w a b) bottom ≡ joined (unwrap_or a bottom) v (unwrap_or b bottom) w
+  pub value_joined : BottomsJoin bottom joined → (v w : List ℕ) (a b : Option X) → unwrap_or (joined_options v w a b) bottom ≡ joined (unwrap_or a bottom) v (unwrap_or b bottom) w
   value_joined n v w None None = sym (n v w)
   value_joined n v w None (Some y) = refl
   value_joined n v w (Some x) b = refl

@@ -1,8 +1,9 @@
 -- The operations behind what is read of a job.
 use Rattle.std.specs.Prelude.{is_some}
-use Rattle.std.proofs.Common.{◌≡◌, ℕ, List, [], Bool, true, false, ◌&&◌, Option, Some, None, refl, ap, ap₂, subst}
+use Rattle.std.proofs.Common.{◌≡◌, ℕ, List, [], Bool, true, false, Option, Some, None, refl, ap, subst}
 use Rattle.std.proofs.lemmas.Bool.{and_parts}
 use Rattle.fed_stamp.specs.Stamp.{StampValue}
+use Rattle.fed_lattice.specs.ExactLaws.{and_both}
 use Rattle.fed_lattice.specs.Sets.{Has}
 use Rattle.fed_lattice.specs.History.{History}
 use Rattle.fed_lattice.specs.Order.{IsUpTo}
@@ -106,9 +107,6 @@ said_found {T} says v h t body k s = go (field says h) refl
     go : (o : Option (StampValue × T)) → field says h ≡ o → is_some o ≡ true
     go None e = let n : says body ≡ None = field_none says h e t body k in cc
     go (Some c) e = refl
-
-and_both : (a b : Bool) → a ≡ true → b ≡ true → (a && b) ≡ true
-and_both a b p q = ap₂ (λ x y. x && y) p q
 
 -- a set that has a Submit is that of a submitted job
 pub submitted_from : (h : History Body) (t : StampValue) (owner : List ℕ) (values : JobValues) (held : Bool) → Has h (t, Submit owner values held) → is_submitted (job_view h) ≡ true

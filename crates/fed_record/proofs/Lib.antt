@@ -10,3 +10,4 @@ pub mod FoundLaws
 pub mod BodyLaws
 pub mod StandingTags
 pub mod StandingRecords
+pub mod JobRecordReads

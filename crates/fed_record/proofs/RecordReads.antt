@@ -11,7 +11,7 @@ use Rattle.std.proofs.lemmas.Map.Views.{tells_apart}
 use Rattle.fed_stamp.specs.Stamp.{StampValue}
 use Rattle.fed_lattice.specs.Both.{applied_option}
 use Rattle.fed_lattice.specs.Exact.{TellsApart}
-use Rattle.fed_lattice.specs.ExactLaws.{tells_numbers}
+use Rattle.fed_lattice.specs.ExactLaws.{and_both, tells_numbers}
 use Rattle.fed_lattice.specs.FilterLaws.{Has-filter, filter-Has}
 use Rattle.fed_lattice.specs.FlagLaws.{or_comm}
 use Rattle.fed_lattice.specs.Register.{stamped_cmp, joined_registers}
@@ -50,9 +50,6 @@ applied_flag true s None = refl
 applied_flag true s (Some u) = refl
 applied_flag false s None = refl
 applied_flag false s (Some u) = refl
-
-and_both : (a b : Bool) → a ≡ true → b ≡ true → (a && b) ≡ true
-and_both a b p q = ap₂ (λ x y. x && y) p q
 
 -- ---- live pairs
 module _ {E : Type 0} (cmp : E → E → Ordering) (o : IsTotalOrder cmp) (exact : CmpEqualImpliesEq cmp) (same : E → E → Bool) (tells : TellsApart same) where

@@ -1,10 +1,11 @@
 -- The live pairs of a record that stands for operations are those of the operations.
 use Rattle.std.specs.Cmp.{IsTotalOrder, both_ways}
 use Rattle.std.specs.List.{list_any}
-use Rattle.std.proofs.Common.{◌≡◌, ◌↔◌, List, Bool, true, false, not, ◌&&◌, Some, Ordering, refl, sym, ap, ap₂, subst, ◌∙◌, inl, inr}
+use Rattle.std.proofs.Common.{◌≡◌, ◌↔◌, List, Bool, true, false, not, Some, Ordering, refl, sym, ap, subst, ◌∙◌, inl, inr}
 use Rattle.std.proofs.lemmas.Bool.{and_parts, cases_Bool}
 use Rattle.std.proofs.lemmas.Map.Lookups.{CmpEqualImpliesEq}
 use Rattle.fed_stamp.specs.Stamp.{StampValue}
+use Rattle.fed_lattice.specs.ExactLaws.{and_both}
 use Rattle.fed_lattice.specs.Sets.{Has}
 use Rattle.fed_lattice.specs.SetLaws.{found, any_from}
 use Rattle.fed_lattice.specs.History.{History}
@@ -19,9 +20,6 @@ use Rattle.fed_record.specs.Operation.{body_of, bodies}
 use Rattle.fed_record.specs.Pairs.{adds_pair, removes_pair, is_live}
 use Rattle.fed_record.proofs.BodyLaws.{bodies-Has, Has-bodies}
 use Rattle.fed_record.proofs.PairLaws.{same_stamp_is, same_stamp_itself}
-
-and_both : (a b : Bool) → a ≡ true → b ≡ true → (a && b) ≡ true
-and_both a b p q = ap₂ (λ x y. x && y) p q
 
 not_true : (b : Bool) → not b ≡ true → b ≡ true → ⊥
 not_true true e f = cc

@@ -22,3 +22,4 @@ pub mod CoveredLaws
 pub mod RecordLaws
 pub mod ValueOrders
 pub mod ValueOrderLaws
+pub mod ReservationLaws

@@ -3,8 +3,10 @@ use Rattle.std.specs.Prelude.{Option}
 use Rattle.fed_stamp.specs.Stamp.{StampValue}
 use Rattle.fed_lattice.specs.History.{History}
 use Rattle.fed_record.specs.declared.windows.Window.{Window}
+use Rattle.fed_record.specs.declared.operations.Operation.{Operation}
 use Rattle.fed_record.specs.Body.{Body}
 use Rattle.fed_record.specs.Field.{window_in, field}
+use Rattle.fed_record.specs.Operation.{body_of}
 
 -- its greatest stamp and its window, or no window where the greatest stamped operation is a Cancel
 abbrev pub ReservationView : Type 0
@@ -13,3 +15,7 @@ ReservationView = Option (StampValue × Option Window)
 -- what is read of the operations of one reservation
 abbrev pub reservation_view : History Body → ReservationView
 reservation_view ops = field window_in ops
+
+-- the window that an operation of the code gives its reservation, or none
+abbrev pub window_change : Operation → Option (Option Window)
+window_change c = window_in (body_of c)

@@ -65,6 +65,24 @@ impl HoldKinds {
         }
     }
 
+    /// The set of the kinds for which the argument is true. A set is a sum of bits.
+    pub fn made_of(user: bool, operator: bool, system: bool) -> HoldKinds
+        ensures user { has_kind result HoldKind.User ≡ user }
+        ensures operator { has_kind result HoldKind.Operator ≡ operator }
+        ensures system { has_kind result HoldKind.System ≡ system }
+    {
+        match (user, operator, system) {
+            (false, false, false) => HoldKinds(0),
+            (true, false, false) => HoldKinds(1),
+            (false, true, false) => HoldKinds(2),
+            (true, true, false) => HoldKinds(3),
+            (false, false, true) => HoldKinds(4),
+            (true, false, true) => HoldKinds(5),
+            (false, true, true) => HoldKinds(6),
+            (true, true, true) => HoldKinds(7),
+        }
+    }
+
     /// Whether the kind is in the set.
     pub fn has(self, kind: HoldKind) -> bool
         ensures { result ≡ has_kind self kind }

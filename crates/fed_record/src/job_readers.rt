@@ -1,11 +1,18 @@
 //! What is read of the record of a job.
-ghost use Rattle.std.specs.Prelude.{◌≡◌, Some, IsTrue};
+ghost use Rattle.std.specs.Prelude.{◌≡◌, ◌↔◌, ℕ, Some, IsTrue};
+ghost use Rattle.std.specs.List.Sorted.{IsStrictlySortedBy};
+ghost use Rattle.std.specs.Map.Iter.{ShowsInOrder, deref};
+ghost use Rattle.std.specs.Ordering.{nat_cmp};
+ghost use Rattle.fed_lattice.specs.Sets.{Has};
+ghost use Rattle.fed_stamp.specs.declared.sites.SiteId.{SiteId};
+ghost use Rattle.fed_record.specs.declared.holds.HoldKind.{HoldKind};
+ghost use Rattle.fed_record.specs.Hold.{has_kind};
 ghost use Rattle.fed_record.specs.JobRecord.{reads};
 ghost use Rattle.fed_record.specs.Letter.{is_submitted as is_job_submitted, is_held as is_job_held, has_hold as is_hold_present, has_site as is_site_present, letter as letter_of};
 
 use crate::accounts::Account;
 use crate::grants::GrantStage;
-use crate::holds::HoldKind;
+use crate::holds::{HoldKind, HoldKinds};
 use crate::job_records::{Fields, Stages};
 use crate::letters::Letter;
 use crate::limits::Limit;
@@ -14,7 +21,8 @@ use crate::priorities::Priority;
 use crate::progress::{Beginning, Ending};
 use crate::records::Record;
 use fed_stamp::{SiteId, Stamp, Version, Word};
-use fed_tags::Pairs;
+use fed_tags::{Pairs, Tags};
+use std::collections::btree_map::Keys;
 
 /// How far a job has come: its Begin and its Finish, each with its stamp.
 #[derive(Clone, Copy, PartialEq, Eq, Debug)]
@@ -108,6 +116,26 @@ impl Record<Fields, Stages> {
         ensures { result ≡ is_site_present (reads self.now) site }
     {
         self.sites.has(&site)
+    }
+
+    /// The kinds of holds that are present.
+    pub fn holds(&self) -> HoldKinds
+        ensures { (kind : HoldKind) → has_kind result kind ≡ is_hold_present (reads self.now) kind }
+    {
+        HoldKinds::made_of(
+            self.has_hold(HoldKind::User),
+            self.has_hold(HoldKind::Operator),
+            self.has_hold(HoldKind::System),
+        )
+    }
+
+    /// The sites that the job may run at, ascending.
+    pub fn sites(&self) -> Keys<'_, SiteId, Tags>
+        ensures ascending { IsStrictlySortedBy nat_cmp result }
+        ensures members { (site : ℕ) → Has result site ↔ IsTrue (is_site_present (reads self.now) site) }
+        ensures runs { ShowsInOrder (deref {X = SiteId}) }
+    {
+        self.sites.elements()
     }
 
     /// Whether some hold is present.

@@ -23,6 +23,7 @@ pub mod progress;
 pub mod records;
 pub mod refusals;
 pub mod replies;
+pub mod reservations;
 pub mod terms;
 pub mod values;
 pub mod windows;
@@ -45,9 +46,12 @@ pub use progress::{Beginning, Ending};
 pub use records::Record;
 pub use refusals::Refusal;
 pub use replies::Reply;
+pub use reservations::Reservation;
 pub use terms::{MAX_TERM, Term};
 pub use values::{Changes, JobValues};
 pub use windows::Window;
 
+#[cfg(test)]
+mod record_tests;
 #[cfg(test)]
 mod tests;

@@ -29,8 +29,8 @@ use fed_tags::TagSet;
 use std::alloc::Global;
 use std::marker::Model;
 
-/// What is read of a job's operations: its fields in a nest of registers `F`, the live pairs of its holds and sites, its
-/// stages in a nest `G`, and the version of its operations.
+/// What is read of a job's operations: its fields in a nest of registers `F`, the live pairs of its holds and sites,
+/// its stages in a nest `G`, and the version of its operations.
 #[derive(Drop)]
 pub struct Record<F, G> {
     pub(crate) alloc: Global,
@@ -46,7 +46,13 @@ impl<F, G> Model for Record<F, G> {
 
     ghost Value = { RecordValue F G };
 
-    ghost view = { λ r. record { fields = r.fields; holds = r.holds; sites = r.sites; stages = r.stages; touched = r.touched } };
+    ghost view = { λ r. record {
+      fields = r.fields;
+      holds = r.holds;
+      sites = r.sites;
+      stages = r.stages;
+      touched = r.touched;
+    } };
 
     ghost invariant = { λ r. AreCovered r.touched r.holds × AreCovered r.touched r.sites };
 }
@@ -112,7 +118,9 @@ impl<F, G> Record<F, G> {
     ghost use Rattle.std.specs.Cmp.Lexicographic.{pointwise};
 
     fn has_same_tags(&self, other: &Self) -> bool
-        ensures { result ≡ ((pointwise (eq_by_cmp (pair_cmp kind_cmp)) self.now.holds other.now.holds && pointwise (eq_by_cmp (pair_cmp nat_cmp)) self.now.sites other.now.sites) && pointwise nat_eq self.now.touched other.now.touched) }
+        ensures { result ≡ ((pointwise (eq_by_cmp (pair_cmp kind_cmp)) self.now.holds other.now.holds &&
+            pointwise (eq_by_cmp (pair_cmp nat_cmp)) self.now.sites other.now.sites) &&
+            pointwise nat_eq self.now.touched other.now.touched) }
     {
         self.holds == other.holds && self.sites == other.sites && self.touched == other.touched
     }
@@ -128,11 +136,15 @@ impl<F: PartialEq, G: PartialEq> PartialEq for Record<F, G> {
     ghost use Rattle.fed_record.specs.Hold.{kind_cmp};
     ghost use Rattle.fed_record.specs.RecordLaws.{hold_order, site_order};
 
-    ghost eq = { λ x y. (F.eq x.fields y.fields && G.eq x.stages y.stages) && ((pointwise (eq_by_cmp (pair_cmp kind_cmp)) x.holds y.holds && pointwise (eq_by_cmp (pair_cmp nat_cmp)) x.sites y.sites) && pointwise nat_eq x.touched y.touched) };
+    ghost eq = { λ x y. (F.eq x.fields y.fields && G.eq x.stages y.stages) &&
+        ((pointwise (eq_by_cmp (pair_cmp kind_cmp)) x.holds y.holds &&
+        pointwise (eq_by_cmp (pair_cmp nat_cmp)) x.sites y.sites) && pointwise nat_eq x.touched y.touched) };
 
     ghost laws = { and_per
         (and_per (on_per (λ r. r.fields) F.PartialEq.laws) (on_per (λ r. r.stages) G.PartialEq.laws))
-        (and_per (and_per (on_per (λ r. r.holds) (lists_per (partial_equiv_from_equiv (eq_by_cmp_equiv hold_order)))) (on_per (λ r. r.sites) (lists_per (partial_equiv_from_equiv (eq_by_cmp_equiv site_order)))))
+        (and_per
+        (and_per (on_per (λ r. r.holds) (lists_per (partial_equiv_from_equiv (eq_by_cmp_equiv hold_order))))
+        (on_per (λ r. r.sites) (lists_per (partial_equiv_from_equiv (eq_by_cmp_equiv site_order)))))
         (on_per (λ r. r.touched) (lists_per (partial_equiv_from_equiv nat_eq_equiv)))) };
 
     fn eq(&self, other: &Self) -> bool {
@@ -152,9 +164,16 @@ impl<F: Causal<Change = FieldChange> + Drop, G: Causal<Change = StageChange> + D
     for Record<F, G> {
     type Change = Operation;
 
-    ghost well_formed = { λ x. F.well_formed x.fields × G.well_formed x.stages × IsStrictlySortedBy (pair_cmp kind_cmp) x.holds × IsStrictlySortedBy (pair_cmp nat_cmp) x.sites };
+    ghost well_formed = { λ x. F.well_formed x.fields × G.well_formed x.stages ×
+        IsStrictlySortedBy (pair_cmp kind_cmp) x.holds × IsStrictlySortedBy (pair_cmp nat_cmp) x.sites };
 
-    ghost bottom = { record { fields = F.bottom; holds = []; sites = []; stages = G.bottom; touched = replicate 16 0 } };
+    ghost bottom = { record {
+      fields = F.bottom;
+      holds = [];
+      sites = [];
+      stages = G.bottom;
+      touched = replicate 16 0;
+    } };
 
     ghost applied = { λ x s c. record {
       fields = F.applied x.fields s (change_of_fields c);
@@ -172,9 +191,11 @@ impl<F: Causal<Change = FieldChange> + Drop, G: Causal<Change = StageChange> + D
       touched = joined_versions x.touched y.touched;
     } };
 
-    ghost is_history = { λ h. F.is_history (field_changes h) × G.is_history (stage_changes h) × IsTagHistory (hold_changes h) × IsTagHistory (site_changes h) };
+    ghost is_history = { λ h. F.is_history (field_changes h) × G.is_history (stage_changes h) ×
+        IsTagHistory (hold_changes h) × IsTagHistory (site_changes h) };
 
-    ghost reads = { λ x h. F.reads x.fields (field_changes h) × G.reads x.stages (stage_changes h) × tags_read x.holds (hold_changes h) × tags_read x.sites (site_changes h) × (x.touched ≡ version_of h) };
+    ghost reads = { λ x h. F.reads x.fields (field_changes h) × G.reads x.stages (stage_changes h) ×
+        tags_read x.holds (hold_changes h) × tags_read x.sites (site_changes h) × (x.touched ≡ version_of h) };
 
     ghost is_inline = { ⊥ };
 
@@ -223,7 +244,12 @@ impl<F: Causal<Change = FieldChange> + Drop, G: Causal<Change = StageChange> + D
         })
     }
 
-    ghost well_formed_bottom = { (F.well_formed_bottom, G.well_formed_bottom, sorted_empty (pair_cmp kind_cmp), sorted_empty (pair_cmp nat_cmp)) };
+    ghost well_formed_bottom = { (
+      F.well_formed_bottom,
+      G.well_formed_bottom,
+      sorted_empty (pair_cmp kind_cmp),
+      sorted_empty (pair_cmp nat_cmp),
+    ) };
 
     ghost well_formed_applied = { λ x s c p. (
       F.well_formed_applied x.fields s (change_of_fields c) p.0,
@@ -274,10 +300,14 @@ impl<F: Causal<Change = FieldChange> + Drop, G: Causal<Change = StageChange> + D
     ghost bottom_reads = { (F.bottom_reads, G.bottom_reads, empty_tags_read, empty_tags_read, refl) };
 
     ghost applied_reads = { λ x h s c p r k f i. (
-      F.applied_reads x.fields (field_changes h) s (change_of_fields c) p.0 r.0 k.0 (fresh_part (always change_of_fields) s h f) i.0,
-      G.applied_reads x.stages (stage_changes h) s (change_of_stages (s, c)) p.1 r.1 k.1 (fresh_part (always change_of_stages) s (stamped h) (fresh_stamped s h f)) i.1,
-      applied_tags_read (pair_cmp kind_cmp) hold_order hold_exact x.holds (hold_changes h) s (hold_change c) p.2 r.2 k.2 (fresh_part (always hold_change) s h f) i.2,
-      applied_tags_read (pair_cmp nat_cmp) site_order site_exact x.sites (site_changes h) s (site_change c) p.3 r.3 k.3 (fresh_part (always site_change) s h f) i.3,
+      F.applied_reads x.fields (field_changes h) s (change_of_fields c) p.0 r.0 k.0
+          (fresh_part (always change_of_fields) s h f) i.0,
+      G.applied_reads x.stages (stage_changes h) s (change_of_stages (s, c)) p.1 r.1 k.1
+          (fresh_part (always change_of_stages) s (stamped h) (fresh_stamped s h f)) i.1,
+      applied_tags_read (pair_cmp kind_cmp) hold_order hold_exact x.holds (hold_changes h) s (hold_change c) p.2 r.2 k.2
+          (fresh_part (always hold_change) s h f) i.2,
+      applied_tags_read (pair_cmp nat_cmp) site_order site_exact x.sites (site_changes h) s (site_change c) p.3 r.3 k.3
+          (fresh_part (always site_change) s h f) i.3,
       ap (λ t. raised t s) r.4,
     ) };
 
@@ -286,16 +316,19 @@ impl<F: Causal<Change = FieldChange> + Drop, G: Causal<Change = StageChange> + D
           (F.joined_reads x.fields y.fields v w (field_changes g) (field_changes h) p.0 q.0 rx.0 ry.0) a i.0 j.0,
       stamped_joined_reads change_of_stages G.reads G.is_history (G.joined x.stages v y.stages w) v w g h
           (G.joined_reads x.stages y.stages v w (stage_changes g) (stage_changes h) p.1 q.1 rx.1 ry.1) a i.1 j.1,
-      part_joined_reads (always hold_change) tags_read IsTagHistory (joined_tags (pair_cmp kind_cmp) x.holds v y.holds w) v w g h
-          (joined_tags_read (pair_cmp kind_cmp) hold_order hold_exact x.holds y.holds v w (hold_changes g) (hold_changes h) p.2 q.2 rx.2 ry.2) a i.2 j.2,
-      part_joined_reads (always site_change) tags_read IsTagHistory (joined_tags (pair_cmp nat_cmp) x.sites v y.sites w) v w g h
-          (joined_tags_read (pair_cmp nat_cmp) site_order site_exact x.sites y.sites v w (site_changes g) (site_changes h) p.3 q.3 rx.3 ry.3) a i.3 j.3,
+      part_joined_reads (always hold_change) tags_read IsTagHistory (joined_tags (pair_cmp kind_cmp) x.holds v y.holds w)
+          v w g h (joined_tags_read (pair_cmp kind_cmp) hold_order hold_exact x.holds y.holds v w (hold_changes g)
+          (hold_changes h) p.2 q.2 rx.2 ry.2) a i.2 j.2,
+      part_joined_reads (always site_change) tags_read IsTagHistory (joined_tags (pair_cmp nat_cmp) x.sites v y.sites w)
+          v w g h (joined_tags_read (pair_cmp nat_cmp) site_order site_exact x.sites y.sites v w (site_changes g)
+          (site_changes h) p.3 q.3 rx.3 ry.3) a i.3 j.3,
       ap₂ joined_versions rx.4 ry.4 ∙ sym (version_of-append g h),
     ) };
 
     ghost reads_same = { λ x g h e p. (
       F.reads_same x.fields (field_changes g) (field_changes h) (same_part (always change_of_fields) g h e) p.0,
-      G.reads_same x.stages (stage_changes g) (stage_changes h) (same_part (always change_of_stages) (stamped g) (stamped h) (same_stamped g h e)) p.1,
+      G.reads_same x.stages (stage_changes g) (stage_changes h)
+          (same_part (always change_of_stages) (stamped g) (stamped h) (same_stamped g h e)) p.1,
       tags_read_same x.holds (hold_changes g) (hold_changes h) (same_part (always hold_change) g h e) p.2,
       tags_read_same x.sites (site_changes g) (site_changes h) (same_part (always site_change) g h e) p.3,
       p.4 ∙ version_of-same g h e,

@@ -8,7 +8,7 @@ use Rattle.std.proofs.lemmas.List.{length-replicate, length-set, get_or-set_same
 use Rattle.std.proofs.lemmas.Option.{get_or_from_slice_get, slice_get-get_or}
 use Rattle.std.proofs.lemmas.List.Elements.{filter_map-append}
 use Rattle.fed_stamp.proofs.LeastIndex.{least_index_none, none_below, none_from_not_some}
-use Rattle.fed_stamp.specs.Roster.{IsRoster, is_site_name, is_node_count, name_at, nodes_at, least_index, is_named, is_misnamed, is_repeated, is_misstaffed, first_fault, places, sites_in, sites_of}
+use Rattle.fed_stamp.specs.Roster.{IsRoster, is_site_name, is_node_count, name_at, nodes_at, least_index, is_named, is_misnamed, is_repeated, has_wrong_nodes, first_fault, places, sites_in, sites_of}
 use Rattle.fed_stamp.specs.Word.{is_name}
 use Rattle.fed_stamp.specs.declared.rosters.RosterFault.TheVariants.{Count, Name, Twice, Nodes}
 
@@ -36,7 +36,7 @@ module _ (sites : List (List ℕ × ℕ)) where
   pub roster_from_no_fault : first_fault sites ≡ None → IsRoster sites
   unfolding first_fault
   roster_from_no_fault h =
-      let p : ((nat_le 1 (length sites) && nat_le (length sites) 16) ≡ true) × (least_index (is_misnamed sites) (length sites) ≡ None) × (least_index (is_repeated sites) (length sites) ≡ None) × (least_index (is_misstaffed sites) (length sites) ≡ None) = chain_none _ _ _ _ h in
+      let p : ((nat_le 1 (length sites) && nat_le (length sites) 16) ≡ true) × (least_index (is_misnamed sites) (length sites) ≡ None) × (least_index (is_repeated sites) (length sites) ≡ None) × (least_index (has_wrong_nodes sites) (length sites) ≡ None) = chain_none _ _ _ _ h in
       let n : (nat_le 1 (length sites) ≡ true) × (nat_le (length sites) 16 ≡ true) = and_parts _ _ p.0 in
       record {
         at_least = leb-true 1 _ n.0;
@@ -47,7 +47,7 @@ module _ (sites : List (List ℕ × ℕ)) where
             let f : is_named sites (name_at sites j) i ≡ false = none_below (is_named sites (name_at sites j)) j (none_from_not_some _ r) i l in
             let q : name_at sites i ≡ name_at sites j = ap first (get_or_default sites i ([], 0) d (omega arith)) ∙ e ∙ sym (ap first (get_or_default sites j ([], 0) d u)) in
             false≢true (sym f ∙ same_names _ _ q);
-        staffed = λ k d l. from_not_false _ (rw (get_or_default sites k d ([], 0) l) (none_below (is_misstaffed sites) (length sites) p.3 k l));
+        counted = λ k d l. from_not_false _ (rw (get_or_default sites k d ([], 0) l) (none_below (has_wrong_nodes sites) (length sites) p.3 k l));
       }
 
   not_true : (b : Bool) → b ≡ true → not b ≡ false
@@ -65,7 +65,7 @@ module _ (sites : List (List ℕ × ℕ)) where
       let b : (nat_le 1 (length sites) && nat_le (length sites) 16) ≡ true = and_from _ _ (le-leb 1 _ r.at_least) (le-leb _ 16 r.at_most) in
       let x : None ≡ least_index (is_misnamed sites) (length sites) = least_index_none (is_misnamed sites) (length sites) (λ k l. not_true _ (r.named k ([], 0) l)) in
       let y : None ≡ least_index (is_repeated sites) (length sites) = least_index_none (is_repeated sites) (length sites) (λ k l. not_some _ (least_index_none (is_named sites (name_at sites k)) k (λ j u. differ _ _ (r.apart j k ([], 0) u l)))) in
-      let z : None ≡ least_index (is_misstaffed sites) (length sites) = least_index_none (is_misstaffed sites) (length sites) (λ k l. not_true _ (r.staffed k ([], 0) l)) in
+      let z : None ≡ least_index (has_wrong_nodes sites) (length sites) = least_index_none (has_wrong_nodes sites) (length sites) (λ k l. not_true _ (r.counted k ([], 0) l)) in
       rw (b, ← x, ← y, ← z) refl
 
 -- ---- what a slice of pairs lists
@@ -84,8 +84,8 @@ module _ (pairs : List (Bor (List ℕ) × ℕ)) (i : ℕ) (d : Bor (List ℕ) ×
   pub misnamed_from_test : (b : Bool) → b ≡ is_site_name (get_or pairs i d).0.now → is_misnamed (sites_of pairs) i ≡ not b
   misnamed_from_test b e = ap (λ n. not (is_site_name n)) name_at-sites_of ∙ ap not (sym e)
 
-  pub misstaffed_from_test : (b : Bool) → b ≡ is_node_count (get_or pairs i d).1 → is_misstaffed (sites_of pairs) i ≡ not b
-  misstaffed_from_test b e = ap (λ n. not (is_node_count n)) nodes_at-sites_of ∙ ap not (sym e)
+  pub wrong_nodes_from_test : (b : Bool) → b ≡ is_node_count (get_or pairs i d).1 → has_wrong_nodes (sites_of pairs) i ≡ not b
+  wrong_nodes_from_test b e = ap (λ n. not (is_node_count n)) nodes_at-sites_of ∙ ap not (sym e)
 
 pub named_from_test : (pairs : List (Bor (List ℕ) × ℕ)) (i j : ℕ) (d : Bor (List ℕ) × ℕ) (b : Bool) → i < length pairs → j < length pairs → b ≡ pointwise nat_eq (get_or pairs i d).0.now (get_or pairs j d).0.now → is_named (sites_of pairs) (name_at (sites_of pairs) j) i ≡ b
 named_from_test pairs i j d b h k e = ap₂ (pointwise nat_eq) (name_at-sites_of pairs i d h) (name_at-sites_of pairs j d k) ∙ sym e
@@ -178,9 +178,9 @@ module _ (sites : List (List ℕ × ℕ)) (i : ℕ) where
   ]
 
   -- its number of nodes
-  pub staffed_site : (s : List ℕ × ℕ) → IsRoster sites → slice_get sites i ≡ Some s → (1 ≤ s.1) × (s.1 ≤ 1_000_000)
-  staffed_site s r e =
-      let h : is_node_count (get_or sites i ([], 0)).1 ≡ true = r.staffed i ([], 0) (within_from_site s e) in
+  pub counted_site : (s : List ℕ × ℕ) → IsRoster sites → slice_get sites i ≡ Some s → (1 ≤ s.1) × (s.1 ≤ 1_000_000)
+  counted_site s r e =
+      let h : is_node_count (get_or sites i ([], 0)).1 ≡ true = r.counted i ([], 0) (within_from_site s e) in
       let p : is_node_count s.1 ≡ true = ap (λ (t : List ℕ × ℕ). is_node_count t.1) (sym (get_or_from_slice_get sites i s ([], 0) e)) ∙ h in
       let q = and_parts _ _ p in
       (leb-true 1 _ q.0, leb-true _ 1_000_000 q.1)

@@ -27,7 +27,7 @@ pub record IsRoster (sites : List (List ℕ × ℕ)) : Type 0 where
   pub at_most : length sites ≤ 16
   pub named : All (λ s. IsTrue (is_site_name s.0)) sites
   pub apart : AllPairs (λ s t. s.0 ≢ t.0) sites
-  pub staffed : All (λ s. IsTrue (is_node_count s.1)) sites
+  pub counted : All (λ s. IsTrue (is_node_count s.1)) sites
 
 -- the name and the number of nodes of the site at an index
 abbrev pub name_at : List (List ℕ × ℕ) → ℕ → List ℕ
@@ -53,8 +53,8 @@ abbrev pub is_repeated : List (List ℕ × ℕ) → ℕ → Bool
 is_repeated sites k = is_some (least_index (is_named sites (name_at sites k)) k)
 
 -- no site may have this number of nodes
-abbrev pub is_misstaffed : List (List ℕ × ℕ) → ℕ → Bool
-is_misstaffed sites k = not (is_node_count (nodes_at sites k))
+abbrev pub has_wrong_nodes : List (List ℕ × ℕ) → ℕ → Bool
+has_wrong_nodes sites k = not (is_node_count (nodes_at sites k))
 
 -- the fault of the least number, and of it the one of the least index
 unfoldable pub first_fault : List (List ℕ × ℕ) → Option RosterFault
@@ -62,7 +62,7 @@ first_fault sites =
     if nat_le 1 (length sites) && nat_le (length sites) 16 then
     option_or (option_map Name (least_index (is_misnamed sites) (length sites)))
     (option_or (option_map Twice (least_index (is_repeated sites) (length sites)))
-    (option_map Nodes (least_index (is_misstaffed sites) (length sites))))
+    (option_map Nodes (least_index (has_wrong_nodes sites) (length sites))))
     else Some Count
 
 abbrev pub number_of : RosterFault → ℕ

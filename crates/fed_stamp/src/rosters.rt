@@ -1,7 +1,7 @@
 //! The roster of a federation: its sites, and how many nodes each has.
 ghost use Rattle.std.specs.Prelude.{◌≡◌, ◌<◌, ◌≤◌, ◌↔◌, length, slice_get, IsTrue, IsOk, IfSome};
 ghost use Rattle.std.specs.Option.{option_copied, option_map};
-ghost use Rattle.fed_stamp.specs.Roster.{IsRoster, is_site_name as has_form_of_site_name, is_node_count as may_be_node_count, is_misnamed, is_repeated, is_misstaffed, is_named, least_index, first_fault as fault_of, number_of, ok_unless, sites_of, places};
+ghost use Rattle.fed_stamp.specs.Roster.{IsRoster, is_site_name as has_form_of_site_name, is_node_count as may_be_node_count, is_misnamed, is_repeated, has_wrong_nodes, is_named, least_index, first_fault as fault_of, number_of, ok_unless, sites_of, places};
 
 use crate::sites::{SITES, SiteId};
 use crate::words::Word;
@@ -127,8 +127,8 @@ fn first_repeated(sites: &[(&str, u64)]) -> Option<usize>
 }
 
 /// The least index of a number of nodes that no site may have.
-fn first_misstaffed(sites: &[(&str, u64)]) -> Option<usize>
-    ensures { result ≡ least_index (is_misstaffed (sites_of sites.now)) (length (sites_of sites.now)) }
+fn first_with_wrong_nodes(sites: &[(&str, u64)]) -> Option<usize>
+    ensures { result ≡ least_index (has_wrong_nodes (sites_of sites.now)) (length (sites_of sites.now)) }
 {
     for i in 0..sites.len() {
         if !is_node_count(sites[i].1) {
@@ -152,7 +152,7 @@ fn first_fault(sites: &[(&str, u64)]) -> Option<RosterFault>
     if let Some(index) = first_repeated(sites) {
         return Some(RosterFault::Twice { index });
     }
-    if let Some(index) = first_misstaffed(sites) {
+    if let Some(index) = first_with_wrong_nodes(sites) {
         return Some(RosterFault::Nodes { index });
     }
     None

@@ -1,0 +1,247 @@
+-- What holds of every board holds after a change and merged.
+use Rattle.std.specs.BTreeMap.{is_at}
+use Rattle.std.specs.Map.{keys_of, values_of, lookup}
+use Rattle.std.specs.List.Sorted.{IsStrictlySortedBy}
+use Rattle.std.specs.Option.{option_cmp}
+use Rattle.std.specs.Ordering.{is_lt}
+use Rattle.std.proofs.Common.{◌≡◌, ◌⊎◌, ℕ, List, All, Bool, true, false, cond, ◌||◌, Option, Some, None, is_some, IsSome, IfSome, MatchOption, unwrap_or, refl, sym, ap, subst, ◌∙◌, inl, inr}
+use Rattle.std.proofs.lemmas.Option.{IfSome_then}
+use Rattle.fed_stamp.specs.Stamp.{StampValue}
+use Rattle.fed_stamp.specs.Version.{covers, joined, raised, is_below}
+use Rattle.fed_stamp.proofs.VersionLaws.{covers_more, below_trans, below_joined_left, below_joined_right}
+use Rattle.fed_lattice.specs.ExactLaws.{exact_stamp}
+use Rattle.fed_lattice.specs.Latest.{stamp_cmp}
+use Rattle.fed_lattice.specs.LatestLaws.{stamp_total}
+use Rattle.fed_lattice.specs.Register.{stamped_cmp, joined_registers}
+use Rattle.fed_lattice.specs.Stamped.{with_stamp}
+use Rattle.fed_lattice.specs.TableValues.{IsAtEach, each_insert_entry, each_joined_tables, values_each}
+use Rattle.fed_record.specs.declared.operations.Operation.{Operation}
+use Rattle.fed_record.specs.declared.windows.Window.{Window}
+use Rattle.fed_record.specs.Body.{Body, Body.Submit, Body.Set, Body.Hold, Body.Release, Body.Delete, Body.Grant, Body.HandBack, Body.Begin, Body.Finish, Body.Reserve, Body.Cancel, job_of, reservation_of}
+use Rattle.fed_record.specs.Field.{window_in}
+use Rattle.fed_record.specs.JobRecord.{JobRecordValue, reads as reads_job}
+use Rattle.fed_record.specs.JobSteps.{add_to_job, join_jobs}
+use Rattle.fed_record.specs.JobView.{JobView}
+use Rattle.fed_record.specs.Letter.{is_submitted}
+use Rattle.fed_record.specs.Operation.{body_of}
+use Rattle.fed_record.specs.Reservation.{ReservationView}
+use Rattle.fed_record.specs.ValueOrders.{option_window_cmp}
+use Rattle.fed_board.specs.Board.{BoardValue, IsBoard, IsKnownJob, IsKnownReservation, HasJob, HasReservation, HasNamed, no_operation, merged, changed_job, changed_reservation}
+use Rattle.fed_board.proofs.SubmittedJobs.{submitted_added, submitted_by, submitted_left, submitted_right}
+use Rattle.fed_board.proofs.VersionGrowth.{below_raised, covers_raised, raised_below, zeros_below, joined_below}
+
+from_some : {X : Type 0} (x y : X) → Some x ≡ Some y → x ≡ y
+from_some x y e = cc
+
+-- ---- jobs
+-- the record at a name is of operations that the version covers, also where the job is absent
+touched_below : (v : List ℕ) (job : StampValue) (a : Option JobRecordValue) → IfSome a (IsKnownJob v job) → is_below (unwrap_or a no_operation).touched v ≡ true
+touched_below v job None p = zeros_below 16 v
+touched_below v job (Some r) p = p.touched
+
+present_known : (v : List ℕ) (job : StampValue) (a : Option JobRecordValue) → IfSome a (IsKnownJob v job) → IsSome a → IsKnownJob v job (unwrap_or a no_operation)
+present_known v job None p i = cc
+present_known v job (Some r) p i = p
+
+-- the job that an operation is of is on the board, or the operation submits it
+abbrev IsSubmitting : StampValue → StampValue → Body → Type 0
+IsSubmitting at job b = (job ≡ at) × ((s : StampValue) (j : JobView) → is_submitted (add_to_job s b j) ≡ true)
+
+on_board : (b : BoardValue) (job other : StampValue) → Some other ≡ Some job → HasJob b other → HasJob b job
+on_board b job other e = subst (HasJob b) (from_some other job e)
+
+named_job : (b : BoardValue) (at job : StampValue) (body : Body) → job_of at body ≡ Some job → HasNamed b body → HasJob b job ⊎ IsSubmitting at job body
+named_job b at job (Submit owner values held) of n = inr (sym (from_some at job of), λ s j. submitted_by s owner values held j)
+named_job b at job (Set other changes removed) of n = inl (on_board b job other of n)
+named_job b at job (Hold other kinds) of n = inl (on_board b job other of n)
+named_job b at job (Release other removed) of n = inl (on_board b job other of n)
+named_job b at job (Delete other) of n = inl (on_board b job other of n)
+named_job b at job (Grant other site term) of n = inl (on_board b job other of n)
+named_job b at job (HandBack other term) of n = inl (on_board b job other of n)
+named_job b at job (Begin other beginning) of n = inl (on_board b job other of n)
+named_job b at job (Finish other ending) of n = inl (on_board b job other of n)
+named_job b at job (Reserve window) of n = cc
+named_job b at job (Cancel name) of n = cc
+
+later_job : (v : List ℕ) (at job : StampValue) (r : JobRecordValue) → IsKnownJob v job r → IsKnownJob (raised v at) job r
+later_job v at job r k = record {
+  named = covers_raised v at job k.named;
+  submitted = k.submitted;
+  touched = below_trans r.touched v (raised v at) k.touched (below_raised v at);
+}
+
+-- ---- reservations
+-- the greatest stamp is covered, where there is one
+abbrev IsCoveredReservation : List ℕ → ReservationView → Type 0
+IsCoveredReservation v r = MatchOption r (Unit {0}) (λ latest. covers v latest.0 ≡ true)
+
+abbrev IsMade : List ℕ → ReservationView → Type 0
+IsMade v r = MatchOption r ⊥ (λ latest. covers v latest.0 ≡ true)
+
+made_more : (v w : List ℕ) → ((s : StampValue) → covers v s ≡ true → covers w s ≡ true) → (r : ReservationView) → IsMade v r → IsMade w r
+made_more v w f None p = absurd p
+made_more v w f (Some latest) p = f latest.0 p
+
+covered_more : (v w : List ℕ) → ((s : StampValue) → covers v s ≡ true → covers w s ≡ true) → (r : ReservationView) → IsCoveredReservation v r → IsCoveredReservation w r
+covered_more v w f None p = tt
+covered_more v w f (Some latest) p = f latest.0 p
+
+covered_of_made : (v : List ℕ) (r : ReservationView) → IsMade v r → IsCoveredReservation v r
+covered_of_made v None p = tt
+covered_of_made v (Some latest) p = p
+
+made_of_two : (v : List ℕ) (t : Bool) (p q : StampValue × Option Window) → covers v p.0 ≡ true → covers v q.0 ≡ true → IsMade v (cond t (Some p) (Some q))
+made_of_two v true p q i j = i
+made_of_two v false p q i j = j
+
+left_made : (v : List ℕ) (x y : ReservationView) → IsMade v x → IsCoveredReservation v y → IsMade v (joined_registers option_window_cmp x y)
+left_made v None y i j = absurd i
+left_made v (Some p) None i j = i
+left_made v (Some p) (Some q) i j = made_of_two v (is_lt (option_cmp (stamped_cmp option_window_cmp) (Some q) (Some p))) p q i j
+
+right_made : (v : List ℕ) (x y : ReservationView) → IsCoveredReservation v x → IsMade v y → IsMade v (joined_registers option_window_cmp x y)
+right_made v x None i j = absurd j
+right_made v None (Some q) i j = j
+right_made v (Some p) (Some q) i j = made_of_two v (is_lt (option_cmp (stamped_cmp option_window_cmp) (Some q) (Some p))) p q i j
+
+later_reservation : (v : List ℕ) (at name : StampValue) (r : ReservationView) → IsKnownReservation v name r → IsKnownReservation (raised v at) name r
+later_reservation v at name r k = record {
+  named = covers_raised v at name k.named;
+  made = made_more v (raised v at) (λ s. covers_raised v at s) r k.made;
+}
+
+covered_reservation : (v : List ℕ) (name : StampValue) (a : Option ReservationView) → IfSome a (IsKnownReservation v name) → IsCoveredReservation v (unwrap_or a None)
+covered_reservation v name None p = tt
+covered_reservation v name (Some r) p = covered_of_made v r p.made
+
+present_named : (v : List ℕ) (name : StampValue) (a : Option ReservationView) → IfSome a (IsKnownReservation v name) → IsSome a → covers v name ≡ true
+present_named v name None p i = cc
+present_named v name (Some r) p i = p.named
+
+-- ---- a change
+module _ (applied : JobRecordValue → StampValue → Operation → JobRecordValue)
+    (law : (r : JobRecordValue) (s : StampValue) (c : Operation) → reads_job (applied r s c) ≡ add_to_job s (body_of c) (reads_job r)) where
+  applied_touched : (r : JobRecordValue) (s : StampValue) (c : Operation) → (applied r s c).touched ≡ raised r.touched s
+  unfolding add_to_job
+  applied_touched r s c = ap (λ (j : JobView). j.touched) (law r s c)
+
+  changed_known : (b : BoardValue) (at job : StampValue) (op : Operation) → IsBoard b → covers (raised b.version at) at ≡ true → job_of at (body_of op) ≡ Some job → HasNamed b (body_of op)
+      → IsKnownJob (raised b.version at) job (applied (unwrap_or (lookup (is_at (stamp_cmp job)) b.jobs) no_operation) at op)
+  changed_known b at job op i seen of n =
+      let v = b.version in
+      let a = lookup (is_at (stamp_cmp job)) b.jobs in
+      let r : JobRecordValue = unwrap_or a no_operation in
+      let below = subst (λ t. is_below t (raised v at) ≡ true) (sym (applied_touched r at op)) (raised_below r.touched v at seen (touched_below v job a (i.jobs job))) in
+      elim (named_job b at job (body_of op) of n) [
+        | inl here ↦ let k = present_known v job a (i.jobs job) here in record {
+          named = covers_raised v at job k.named;
+          submitted = ap is_submitted (law r at op) ∙ submitted_added at (body_of op) (reads_job r) k.submitted;
+          touched = below;
+        }
+        | inr new ↦ record {
+          named = subst (λ s. covers (raised v at) s ≡ true) (sym new.0) seen;
+          submitted = ap is_submitted (law r at op) ∙ new.1 at (reads_job r);
+          touched = below;
+        }
+      ]
+
+  pub changed_job_keeps : (b : BoardValue) (at job : StampValue) (op : Operation) → IsBoard b → covers (raised b.version at) at ≡ true → job_of at (body_of op) ≡ Some job → HasNamed b (body_of op) → IsBoard (changed_job applied b at op job)
+  changed_job_keeps b at job op i seen of n = record {
+    jobs = each_insert_entry stamp_cmp stamp_total exact_stamp (IsKnownJob (raised b.version at)) b.jobs job _ (λ k. IfSome_then _ (i.jobs k) (λ r. later_job b.version at k r)) (changed_known b at job op i seen of n);
+    reservations = λ k. IfSome_then _ (i.reservations k) (λ r. later_reservation b.version at k r);
+  }
+
+-- an operation of a reservation sets its window or none
+module _ (b : BoardValue) (at name : StampValue) (op : Operation) (i : IsBoard b) (seen : covers (raised b.version at) at ≡ true) where
+  abbrev now : Option ReservationView
+  now = lookup (is_at (stamp_cmp name)) b.reservations
+
+  before : IsCoveredReservation (raised b.version at) (unwrap_or now None)
+  before = covered_more b.version (raised b.version at) (λ s. covers_raised b.version at s) (unwrap_or now None) (covered_reservation b.version name now (i.reservations name))
+
+  changed_known_reservation : (body : Body) → reservation_of at body ≡ Some name → HasNamed b body → IsKnownReservation (raised b.version at) name (joined_registers option_window_cmp (unwrap_or now None) (with_stamp at (window_in body)))
+  changed_known_reservation (Submit owner values held) of n = cc
+  changed_known_reservation (Set job changes removed) of n = cc
+  changed_known_reservation (Hold job kinds) of n = cc
+  changed_known_reservation (Release job removed) of n = cc
+  changed_known_reservation (Delete job) of n = cc
+  changed_known_reservation (Grant job site term) of n = cc
+  changed_known_reservation (HandBack job term) of n = cc
+  changed_known_reservation (Begin job beginning) of n = cc
+  changed_known_reservation (Finish job ending) of n = cc
+  changed_known_reservation (Reserve window) of n = record {
+    named = subst (λ s. covers (raised b.version at) s ≡ true) (from_some at name of) seen;
+    made = right_made (raised b.version at) (unwrap_or now None) (Some (at, Some window)) before seen;
+  }
+  changed_known_reservation (Cancel other) of n = record {
+    named = covers_raised b.version at name (subst (λ t. covers b.version t ≡ true) (from_some other name of) (present_named b.version other (lookup (is_at (stamp_cmp other)) b.reservations) (i.reservations other) n));
+    made = right_made (raised b.version at) (unwrap_or now None) (Some (at, None)) before seen;
+  }
+
+  pub changed_reservation_keeps : reservation_of at (body_of op) ≡ Some name → HasNamed b (body_of op) → IsBoard (changed_reservation b at op name)
+  changed_reservation_keeps of n = record {
+    jobs = λ k. IfSome_then _ (i.jobs k) (λ r. later_job b.version at k r);
+    reservations = each_insert_entry stamp_cmp stamp_total exact_stamp (IsKnownReservation (raised b.version at)) b.reservations name _ (λ k. IfSome_then _ (i.reservations k) (λ r. later_reservation b.version at k r)) (changed_known_reservation (body_of op) of n);
+  }
+
+-- ---- two boards merged
+module _ (join : JobRecordValue → List ℕ → JobRecordValue → List ℕ → JobRecordValue)
+    (law : (r q : JobRecordValue) (v w : List ℕ) → reads_job (join r v q w) ≡ join_jobs v (reads_job r) w (reads_job q)) where
+  join_touched : (r q : JobRecordValue) (v w : List ℕ) → (join r v q w).touched ≡ joined r.touched q.touched
+  unfolding join_jobs
+  join_touched r q v w = ap (λ (j : JobView). j.touched) (law r q v w)
+
+  joined_known : (v w : List ℕ) (job : StampValue) (x y : Option JobRecordValue) → IfSome x (IsKnownJob v job) → IfSome y (IsKnownJob w job) → (is_some x || is_some y) ≡ true
+      → IsKnownJob (joined v w) job (join (unwrap_or x no_operation) v (unwrap_or y no_operation) w)
+  joined_known v w job x y p q e =
+      let r : JobRecordValue = unwrap_or x no_operation in
+      let s : JobRecordValue = unwrap_or y no_operation in
+      let below = subst (λ t. is_below t (joined v w) ≡ true) (sym (join_touched r s v w)) (joined_below r.touched s.touched v w (touched_below v job x p) (touched_below w job y q)) in
+      either x y p q e below where
+        either : (x y : Option JobRecordValue) → IfSome x (IsKnownJob v job) → IfSome y (IsKnownJob w job) → (is_some x || is_some y) ≡ true
+            → is_below (join (unwrap_or x no_operation) v (unwrap_or y no_operation) w).touched (joined v w) ≡ true
+            → IsKnownJob (joined v w) job (join (unwrap_or x no_operation) v (unwrap_or y no_operation) w)
+        either None None p q e below = cc
+        either None (Some s) p q e below = record {
+          named = covers_more w (joined v w) job (below_joined_right v w) q.named;
+          submitted = ap is_submitted (law no_operation s v w) ∙ submitted_right v w (reads_job no_operation) (reads_job s) q.submitted;
+          touched = below;
+        }
+        either (Some r) y p q e below = record {
+          named = covers_more v (joined v w) job (below_joined_left v w) p.named;
+          submitted = ap is_submitted (law r (unwrap_or y no_operation) v w) ∙ submitted_left v w (reads_job r) (reads_job (unwrap_or y no_operation)) p.submitted;
+          touched = below;
+        }
+
+  joined_known_reservation : (v w : List ℕ) (name : StampValue) (x y : Option ReservationView) → IfSome x (IsKnownReservation v name) → IfSome y (IsKnownReservation w name) → (is_some x || is_some y) ≡ true
+      → IsKnownReservation (joined v w) name (joined_registers option_window_cmp (unwrap_or x None) (unwrap_or y None))
+  joined_known_reservation v w name None None p q e = cc
+  joined_known_reservation v w name None (Some s) p q e = record {
+    named = covers_more w (joined v w) name (below_joined_right v w) q.named;
+    made = right_made (joined v w) None s tt (made_more w (joined v w) (λ t. covers_more w (joined v w) t (below_joined_right v w)) s q.made);
+  }
+  joined_known_reservation v w name (Some r) y p q e = record {
+    named = covers_more v (joined v w) name (below_joined_left v w) p.named;
+    made = left_made (joined v w) r (unwrap_or y None)
+        (made_more v (joined v w) (λ t. covers_more v (joined v w) t (below_joined_left v w)) r p.made)
+        (covered_more w (joined v w) (λ t. covers_more w (joined v w) t (below_joined_right v w)) (unwrap_or y None) (covered_reservation w name y q));
+  }
+
+  pub merged_keeps : (b c : BoardValue) → IsBoard b → IsBoard c → IsBoard (merged join b c)
+  merged_keeps b c i k = record {
+    jobs = each_joined_tables stamp_cmp stamp_total exact_stamp no_operation join (IsKnownJob (joined b.version c.version)) b.jobs c.jobs b.version c.version
+        (λ name. joined_known b.version c.version name (lookup (is_at (stamp_cmp name)) b.jobs) (lookup (is_at (stamp_cmp name)) c.jobs) (i.jobs name) (k.jobs name));
+    reservations = each_joined_tables stamp_cmp stamp_total exact_stamp None (λ x v y w. joined_registers option_window_cmp x y) (IsKnownReservation (joined b.version c.version)) b.reservations c.reservations b.version c.version
+        (λ name. joined_known_reservation b.version c.version name (lookup (is_at (stamp_cmp name)) b.reservations) (lookup (is_at (stamp_cmp name)) c.reservations) (i.reservations name) (k.reservations name));
+  }
+
+-- ---- every job on a board is submitted, and every reservation is made
+pub submitted_values : (v : List ℕ) (es : List (StampValue × JobRecordValue)) → IsStrictlySortedBy stamp_cmp (keys_of es) → IsAtEach stamp_cmp (IsKnownJob v) es → All (λ r. is_submitted (reads_job r) ≡ true) (values_of es)
+submitted_values v es s p = values_each stamp_cmp stamp_total exact_stamp (λ r. is_submitted (reads_job r) ≡ true) es s (λ k. IfSome_then _ (p k) (λ (r : JobRecordValue) (i : IsKnownJob v k r). i.submitted))
+
+some_made : (v : List ℕ) (r : ReservationView) → IsMade v r → IsSome r
+some_made v None p = absurd p
+some_made v (Some latest) p = refl
+
+pub made_values : (v : List ℕ) (es : List (StampValue × ReservationView)) → IsStrictlySortedBy stamp_cmp (keys_of es) → IsAtEach stamp_cmp (IsKnownReservation v) es → All IsSome (values_of es)
+made_values v es s p = values_each stamp_cmp stamp_total exact_stamp IsSome es s (λ k. IfSome_then _ (p k) (λ (r : ReservationView) (i : IsKnownReservation v k r). some_made v r i.made))

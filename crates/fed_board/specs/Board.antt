@@ -1,0 +1,105 @@
+-- What a board is, and what is read of it.
+use Rattle.std.specs.Prelude.{◌≡◌, ℕ, true, false, replicate, List, [], Option, Some, None, IsSome, MatchOption}
+use Rattle.std.specs.Map.{lookup}
+use Rattle.std.specs.BTreeMap.{is_at}
+use Rattle.fed_stamp.specs.Stamp.{StampValue}
+use Rattle.fed_stamp.specs.Version.{covers, joined, raised, is_below}
+use Rattle.fed_lattice.specs.Latest.{stamp_cmp}
+use Rattle.fed_lattice.specs.Register.{joined_registers}
+use Rattle.fed_lattice.specs.Stamped.{with_stamp}
+use Rattle.fed_lattice.specs.Table.{value_at, joined_tables, applied_table}
+use Rattle.fed_lattice.specs.TableValues.{IsAtEach}
+use Rattle.fed_record.specs.declared.operations.Operation.{Operation}
+use Rattle.fed_record.specs.Body.{Body, Body.Submit, Body.Set, Body.Hold, Body.Release, Body.Delete, Body.Grant, Body.HandBack, Body.Begin, Body.Finish, Body.Reserve, Body.Cancel}
+use Rattle.fed_record.specs.JobRecord.{JobRecordValue, reads as reads_job}
+use Rattle.fed_record.specs.Letter.{is_submitted}
+use Rattle.fed_record.specs.Reservation.{ReservationView, window_change}
+use Rattle.fed_record.specs.ValueOrders.{option_window_cmp}
+use Rattle.fed_board.specs.View.{View}
+
+-- a version, the records of jobs by the stamps of their Submits, and the reservations by the stamps of their Reserves
+pub record BoardValue : Type 0 where
+  pub version : List ℕ
+  pub jobs : List (StampValue × JobRecordValue)
+  pub reservations : List (StampValue × ReservationView)
+
+-- the record of a job that has no operation
+abbrev pub no_operation : JobRecordValue
+no_operation = record {
+  fields = record { first = None; second = record { first = None; second = record { first = None; second = record { first = None; second = record { first = None; second = None } } } } };
+  holds = [];
+  sites = [];
+  stages = record { first = false; second = record { first = None; second = record { first = None; second = None } } };
+  touched = replicate 16 0;
+}
+
+-- a board stands for a set of operations where it reads as the set's view. A job that is not on the board reads as one without
+-- operations, and so does a reservation
+abbrev pub reads : BoardValue → View
+reads b = record {
+  version = b.version;
+  job = λ job. reads_job (value_at stamp_cmp no_operation b.jobs job);
+  reservation = λ name. value_at stamp_cmp None b.reservations name;
+}
+
+-- of a board of the version: the job's name is covered, the job is submitted, and its operations are covered
+pub record IsKnownJob (version : List ℕ) (job : StampValue) (r : JobRecordValue) : Type 0 where
+  pub named : covers version job ≡ true
+  pub submitted : is_submitted (reads_job r) ≡ true
+  pub touched : is_below r.touched version ≡ true
+
+-- the reservation's name is covered, the reservation is made, and its greatest stamp is covered
+pub record IsKnownReservation (version : List ℕ) (name : StampValue) (r : ReservationView) : Type 0 where
+  pub named : covers version name ≡ true
+  pub made : MatchOption r ⊥ (λ latest. covers version latest.0 ≡ true)
+
+-- what holds of every board
+pub record IsBoard (b : BoardValue) : Type 0 where
+  pub jobs : IsAtEach stamp_cmp (IsKnownJob b.version) b.jobs
+  pub reservations : IsAtEach stamp_cmp (IsKnownReservation b.version) b.reservations
+
+-- the job is on the board
+abbrev pub HasJob : BoardValue → StampValue → Type 0
+HasJob b job = IsSome (lookup (is_at (stamp_cmp job)) b.jobs)
+
+abbrev pub HasReservation : BoardValue → StampValue → Type 0
+HasReservation b name = IsSome (lookup (is_at (stamp_cmp name)) b.reservations)
+
+-- the job or the reservation that an operation is of is on the board, unless the operation makes it
+abbrev pub HasNamed : BoardValue → Body → Type 0
+HasNamed b (Submit owner values held) = Unit {0}
+HasNamed b (Set job changes removed) = HasJob b job
+HasNamed b (Hold job kinds) = HasJob b job
+HasNamed b (Release job removed) = HasJob b job
+HasNamed b (Delete job) = HasJob b job
+HasNamed b (Grant job site term) = HasJob b job
+HasNamed b (HandBack job term) = HasJob b job
+HasNamed b (Begin job beginning) = HasJob b job
+HasNamed b (Finish job ending) = HasJob b job
+HasNamed b (Reserve window) = Unit {0}
+HasNamed b (Cancel name) = HasReservation b name
+
+-- what two boards merge to, where the records of a job join as said: at each name what the two boards have there,
+-- each beside its version
+abbrev pub merged : (JobRecordValue → List ℕ → JobRecordValue → List ℕ → JobRecordValue) → BoardValue → BoardValue → BoardValue
+merged join_records b c = record {
+  version = joined b.version c.version;
+  jobs = joined_tables stamp_cmp no_operation join_records b.jobs b.version c.jobs c.version;
+  reservations = joined_tables stamp_cmp None (λ x v y w. joined_registers option_window_cmp x y) b.reservations b.version c.reservations c.version;
+}
+
+-- the board with a change of the record of one job, by the operation with the stamp
+abbrev pub changed_job : (JobRecordValue → StampValue → Operation → JobRecordValue) → BoardValue → StampValue → Operation → StampValue → BoardValue
+changed_job applied b at op job = record {
+  version = raised b.version at;
+  jobs = applied_table stamp_cmp no_operation applied b.jobs at (job, op);
+  reservations = b.reservations;
+}
+
+-- the board with a change of one reservation
+abbrev pub changed_reservation : BoardValue → StampValue → Operation → StampValue → BoardValue
+changed_reservation b at op name = record {
+  version = raised b.version at;
+  jobs = b.jobs;
+  reservations = applied_table stamp_cmp None (λ r s c. joined_registers option_window_cmp r (with_stamp s (window_change c))) b.reservations at (name, op);
+}

@@ -1,0 +1,269 @@
+//! Boards: what is read of a set of operations, without them.
+ghost use Rattle.std.specs.Prelude.{◌≡◌, ◌↔◌, ◌&&◌, [], false, replicate, Some, None, IsTrue, IsSome, IfOk, OnOk, OnErr, MatchOption, All, nat_eq, option_copied};
+ghost use Rattle.std.specs.BTreeMap.{is_at};
+ghost use Rattle.std.specs.List.Sorted.{IsStrictlySortedBy};
+ghost use Rattle.std.specs.Map.{keys_of, values_of, lookup};
+ghost use Rattle.std.specs.Map.Iter.{ShowsInOrder, deref_pair};
+ghost use Rattle.fed_stamp.specs.Stamp.{StampValue};
+ghost use Rattle.fed_stamp.specs.Version.{covers};
+ghost use Rattle.fed_lattice.specs.Latest.{stamp_cmp};
+ghost use Rattle.fed_lattice.specs.Table.{IsTable};
+ghost use Rattle.fed_record.specs.Body.{job_of, reservation_of};
+ghost use Rattle.fed_record.specs.JobRecord.{JobRecordValue, reads as reads_job};
+ghost use Rattle.fed_record.specs.Letter.{is_submitted};
+ghost use Rattle.fed_record.specs.Operation.{body_of};
+ghost use Rattle.fed_record.specs.Reservation.{ReservationView};
+ghost use Rattle.fed_board.specs.Board.{IsBoard, HasNamed, reads, merged, changed_job, changed_reservation};
+ghost use Rattle.fed_board.specs.Counts.{names_of};
+ghost use Rattle.fed_board.specs.View.{view};
+ghost use Rattle.fed_board.specs.ViewSteps.{add_to_view, join_views};
+
+use crate::counts::{change_at, count_names};
+use fed_lattice::{Causal, ExactEq, NoMemory, Table};
+use fed_record::job_records::{applied_records_read, joined_records_read};
+use fed_record::{JobRecord, Operation, Reservation};
+use fed_stamp::{JobId, SITES, SiteId, Stamp, Version};
+use std::alloc::Global;
+use std::collections::btree_map::Iter;
+use std::marker::Model;
+
+/// What is read of a set of operations: its version, the record of each job, by the stamp of its `Submit`, and each
+/// reservation, by the stamp of its `Reserve`. A board stands for the set where it reads as the set's view.
+#[derive(Drop)]
+pub struct Board {
+    version: Version,
+    jobs: Table<JobId, JobRecord>,
+    reservations: Table<Stamp, Reservation>,
+    job_counts: [u64; SITES],
+    reservation_counts: [u64; SITES],
+}
+
+impl Model for Board {
+    ghost use Rattle.std.specs.Map.{keys_of};
+    ghost use Rattle.fed_board.specs.Board.{BoardValue, IsBoard};
+    ghost use Rattle.fed_board.specs.Counts.{AreCounts};
+
+    ghost Value = { BoardValue };
+
+    ghost view = { λ b. record { version = b.version; jobs = b.jobs; reservations = b.reservations } };
+
+    ghost invariant = { λ b. IsBoard (record { version = b.version; jobs = b.jobs; reservations = b.reservations })
+        × AreCounts b.job_counts (keys_of b.jobs) × AreCounts b.reservation_counts (keys_of b.reservations) };
+}
+
+impl Board {
+    /// The board of no operation.
+    pub fn new(alloc: Global) -> Board
+        ensures value { result ≡ record { version = replicate 16 0; jobs = []; reservations = [] } }
+        ensures stands { reads result ≡ view [] }
+    {
+        Board {
+            version: Version::default(),
+            jobs: Table::bottom(alloc),
+            reservations: Table::bottom(alloc),
+            job_counts: [0; SITES],
+            reservation_counts: [0; SITES],
+        }
+    }
+
+    /// For each site the greatest counter among the stamps of its operations.
+    pub fn version(&self) -> Version
+        ensures value { result ≡ self.now.version }
+        ensures board { IsBoard self.now }
+    {
+        let seen = self.version;
+        seen
+    }
+
+    /// The record of the job, or `None` where the job is not on the board. A record on a board is of a job that is submitted.
+    pub fn job(&self, job: JobId) -> Option<&JobRecord>
+        ensures value { option_copied result ≡ lookup (is_at (stamp_cmp job)) self.now.jobs }
+        ensures reads { MatchOption (option_copied result) (IsTrue (is_submitted ((reads self.now).job job)) → ⊥) (λ r. (reads_job r ≡ (reads self.now).job job) × IsTrue (is_submitted (reads_job r))) }
+    {
+        self.jobs.get(job)
+    }
+
+    /// The jobs on the board with their records, in ascending order of the stamps of their Submits. Each job is submitted.
+    pub fn jobs(&self) -> Iter<'_, JobId, JobRecord>
+        ensures entries { result ≡ self.now.jobs }
+        ensures runs { ShowsInOrder (deref_pair {K = StampValue} {X = JobRecordValue}) }
+        ensures ascending { IsStrictlySortedBy stamp_cmp (keys_of self.now.jobs) }
+        ensures submitted { All (λ r. IsTrue (is_submitted (reads_job r))) (values_of self.now.jobs) }
+    {
+        self.jobs.iter()
+    }
+
+    /// The reservation that was made under the stamp, or `None` where it is not on the board. A reservation on a board is
+    /// made.
+    pub fn reservation(&self, name: Stamp) -> Option<&Reservation>
+        ensures value { option_copied result ≡ lookup (is_at (stamp_cmp name)) self.now.reservations }
+        ensures reads { MatchOption (option_copied result) ((reads self.now).reservation name ≡ None) (λ r. (r ≡ (reads self.now).reservation name) × IsSome r) }
+    {
+        self.reservations.get(name)
+    }
+
+    /// The reservations on the board, in ascending order of the stamps of their Reserves. Each is made.
+    pub fn reservations(&self) -> Iter<'_, Stamp, Reservation>
+        ensures entries { result ≡ self.now.reservations }
+        ensures runs { ShowsInOrder (deref_pair {K = StampValue} {X = ReservationView}) }
+        ensures ascending { IsStrictlySortedBy stamp_cmp (keys_of self.now.reservations) }
+        ensures made { All IsSome (values_of self.now.reservations) }
+    {
+        self.reservations.iter()
+    }
+
+    /// How many jobs on the board were submitted at the site. It takes the same time however many there are.
+    pub fn job_count(&self, site: SiteId) -> u64
+        ensures { result ≡ names_of site (keys_of self.now.jobs) }
+    {
+        self.job_counts[site.get() as usize]
+    }
+
+    /// How many reservations on the board were made at the site, those that are cancelled among them. It takes the same time however many
+    /// there are.
+    pub fn reservation_count(&self, site: SiteId) -> u64
+        ensures { result ≡ names_of site (keys_of self.now.reservations) }
+    {
+        self.reservation_counts[site.get() as usize]
+    }
+
+    /// An equal board.
+    pub fn copy(&self) -> Result<Board, NoMemory>
+        ensures { IfOk result (λ b. b ≡ self.now) }
+    {
+        Ok(Board {
+            version: self.version,
+            jobs: self.jobs.copy()?,
+            reservations: self.reservations.copy()?,
+            job_counts: self.job_counts,
+            reservation_counts: self.reservation_counts,
+        })
+    }
+
+    // That the tables are well formed.
+    pub(crate) fn see_tables(&self)
+        ensures jobs { IsTable stamp_cmp ⟦<JobRecord as Causal>⟧.well_formed self.now.jobs }
+        ensures reservations { IsTable stamp_cmp ⟦<Reservation as Causal>⟧.well_formed self.now.reservations }
+    {
+        let _jobs = self.jobs.iter();
+        let _reservations = self.reservations.iter();
+    }
+
+    // Changes the record of the job that the operation is of.
+    fn change_job(&mut self, job: JobId, at: Stamp, operation: &Operation) -> Result<(), NoMemory>
+        requires of { job_of at (body_of operation.now) ≡ Some job }
+        requires named { HasNamed self.old (body_of operation.now) }
+        ensures changed { OnOk result (self.new ≡ changed_job ⟦<JobRecord as Causal>⟧.applied self.old at operation.now job) }
+        ensures unchanged { OnErr result (self.new ≡ self.old) }
+    {
+        applied_records_read();
+        let version = self.version.with(at);
+        change_at(&mut self.jobs, &mut self.job_counts, job, at, operation)?;
+        self.version = version;
+        Ok(())
+    }
+
+    // Changes the reservation that the operation is of.
+    fn change_reservation(
+        &mut self,
+        name: Stamp,
+        at: Stamp,
+        operation: &Operation,
+    ) -> Result<(), NoMemory>
+        requires of { reservation_of at (body_of operation.now) ≡ Some name }
+        requires named { HasNamed self.old (body_of operation.now) }
+        ensures changed { OnOk result (self.new ≡ changed_reservation self.old at operation.now name) }
+        ensures unchanged { OnErr result (self.new ≡ self.old) }
+    {
+        let version = self.version.with(at);
+        change_at(
+            &mut self.reservations,
+            &mut self.reservation_counts,
+            name,
+            at,
+            operation,
+        )?;
+        self.version = version;
+        Ok(())
+    }
+
+    /// Whether the job or the reservation that the operation is of is on the board, or the operation makes it.
+    pub fn has_named(&self, operation: &Operation) -> bool
+        ensures { IsTrue result ↔ HasNamed self.now (body_of operation.now) }
+    {
+        match operation {
+            Operation::Submit { .. } | Operation::Reserve { .. } => true,
+            Operation::Cancel { reservation } => self.reservation(*reservation).is_some(),
+            Operation::Set { job, .. }
+            | Operation::Hold { job, .. }
+            | Operation::Release { job, .. }
+            | Operation::Delete { job }
+            | Operation::Grant { job, .. }
+            | Operation::HandBack { job, .. }
+            | Operation::Begin { job, .. }
+            | Operation::Finish { job, .. } => self.job(*job).is_some(),
+        }
+    }
+
+    /// Adds the operation with the stamp `at`, which the version does not cover. It asks that the job or the reservation that
+    /// the operation is of is on the board, unless the operation makes it. One record is changed, in place. On an
+    /// error the board is as before.
+    pub fn apply(&mut self, at: Stamp, operation: &Operation) -> Result<(), NoMemory>
+        requires fresh { covers self.old.version at ≡ false }
+        requires named { HasNamed self.old (body_of operation.now) }
+        ensures added { OnOk result (reads self.new ≡ add_to_view (reads self.old) (at, body_of operation.now)) }
+        ensures unchanged { OnErr result (self.new ≡ self.old) }
+    {
+        applied_records_read();
+        match operation.job(at) {
+            Some(job) => self.change_job(job, at, operation),
+            None => self.change_reservation(operation.reservation(at).unwrap(), at, operation),
+        }
+    }
+
+    /// Joins the other board to this one, each job and each reservation by itself. Boards of sets that two sites can hold
+    /// at the same time merge to a board of their union. On an error the board is as before.
+    pub fn merge(&mut self, other: &Board) -> Result<(), NoMemory>
+        ensures value { OnOk result (self.new ≡ merged ⟦<JobRecord as Causal>⟧.joined self.old other.now) }
+        ensures joined { OnOk result (reads self.new ≡ join_views (reads self.old) (reads other.now)) }
+        ensures unchanged { OnErr result (self.new ≡ self.old) }
+    {
+        joined_records_read();
+        let jobs = self.jobs.join(&self.version, &other.jobs, &other.version)?;
+        let reservations = self
+            .reservations
+            .join(&self.version, &other.reservations, &other.version)?;
+        self.job_counts = count_names(&jobs);
+        self.reservation_counts = count_names(&reservations);
+        self.jobs = jobs;
+        self.reservations = reservations;
+        self.version = self.version.join(&other.version);
+        Ok(())
+    }
+}
+
+// Whether two values are identical.
+fn is_same<V: ExactEq>(a: &V, b: &V) -> bool
+    ensures by_parts { result ≡ V.eq a.now b.now }
+    ensures same { IsTrue result ↔ (a.now ≡ b.now) }
+{
+    a == b
+}
+
+/// Boards are equal exactly where they are identical: where their versions, their jobs and their reservations are.
+impl PartialEq for Board {
+    ghost use Rattle.fed_board.specs.BoardLaws.{same_board, board_laws};
+
+    ghost eq = { same_board };
+
+    ghost laws = { board_laws };
+
+    fn eq(&self, other: &Self) -> bool
+        ensures by_parts { result ≡ same_board self.now other.now }
+        ensures same { IsTrue result ↔ (self.now ≡ other.now) }
+    {
+        self.version == other.version
+            && is_same(&self.jobs, &other.jobs)
+            && is_same(&self.reservations, &other.reservations)
+    }
+}

@@ -1,0 +1,46 @@
+//! How many names each site gave.
+ghost use Rattle.std.specs.Prelude.{◌≡◌, ◌<◌, ℕ, slice_index, OnOk, OnErr};
+ghost use Rattle.std.specs.Map.{keys_of};
+ghost use Rattle.fed_lattice.specs.Latest.{stamp_cmp};
+ghost use Rattle.fed_lattice.specs.Table.{applied_table};
+ghost use Rattle.fed_board.specs.Counts.{AreCounts};
+
+use fed_lattice::{Causal, NoMemory, Table};
+use fed_record::Operation;
+use fed_stamp::{SITES, Stamp};
+
+/// For each site the number of the table's names that it gave.
+pub(crate) fn count_names<V: Causal + Drop>(table: &Table<Stamp, V>) -> [u64; SITES]
+    ensures { AreCounts result (keys_of table.now) }
+{
+    let _names = table.len();
+    let mut counts = [0; SITES];
+    for (name, _value) in table.iter() {
+        counts[name.site().get() as usize] += 1;
+    }
+    counts
+}
+
+/// Changes the value at the name by the operation with the stamp `at`, and counts the name where it is new. On an error
+/// both are as before.
+pub(crate) fn change_at<V: Causal<Change = Operation> + Drop>(
+    table: &mut Table<Stamp, V>,
+    counts: &mut [u64; SITES],
+    name: Stamp,
+    at: Stamp,
+    operation: &Operation,
+) -> Result<(), NoMemory>
+    requires { AreCounts counts.old (keys_of table.old) }
+    ensures applied { OnOk result (table.new ≡ applied_table stamp_cmp V.bottom V.applied table.old at (name, operation.now)) }
+    ensures counted { OnOk result (AreCounts counts.new (keys_of table.new)) }
+    ensures unchanged { OnErr result (table.new ≡ table.old) }
+    ensures uncounted { OnErr result (counts.new ≡ counts.old) }
+{
+    let is_new = table.get(name).is_none();
+    table.apply_at(name, at, operation)?;
+    if is_new {
+        let _names = table.len();
+        counts[name.site().get() as usize] += 1;
+    }
+    Ok(())
+}

@@ -1,0 +1,53 @@
+//! The laws of merging, on all boards.
+ghost use Rattle.std.specs.Prelude.{◌≡◌};
+ghost use Rattle.fed_lattice.specs.Laws.{IsAssociative, IsCommutative, IsIdempotent};
+ghost use Rattle.fed_board.specs.Board.{merged};
+
+use crate::boards::Board;
+use fed_lattice::{Causal, Table};
+use fed_record::{JobRecord, Reservation};
+use fed_stamp::{JobId, Stamp};
+
+// What is a law of every value that merges.
+fn joins_are_associative<V: Causal>()
+    ensures { IsAssociative V.well_formed V.joined }
+{}
+
+fn joins_are_commutative<V: Causal>()
+    ensures { IsCommutative V.well_formed V.joined }
+{}
+
+fn joins_are_idempotent<V: Causal>()
+    ensures { IsIdempotent V.well_formed V.joined }
+{}
+
+/// Three boards merge to the same in either grouping.
+pub fn merging_is_associative(a: &Board, b: &Board, c: &Board)
+    ensures { merged ⟦<JobRecord as Causal>⟧.joined (merged ⟦<JobRecord as Causal>⟧.joined a.now b.now) c.now
+        ≡ merged ⟦<JobRecord as Causal>⟧.joined a.now (merged ⟦<JobRecord as Causal>⟧.joined b.now c.now) }
+{
+    joins_are_associative::<Table<JobId, JobRecord>>();
+    joins_are_associative::<Table<Stamp, Reservation>>();
+    a.see_tables();
+    b.see_tables();
+    c.see_tables();
+}
+
+/// Two boards merge to the same from either side.
+pub fn merging_is_commutative(a: &Board, b: &Board)
+    ensures { merged ⟦<JobRecord as Causal>⟧.joined a.now b.now ≡ merged ⟦<JobRecord as Causal>⟧.joined b.now a.now }
+{
+    joins_are_commutative::<Table<JobId, JobRecord>>();
+    joins_are_commutative::<Table<Stamp, Reservation>>();
+    a.see_tables();
+    b.see_tables();
+}
+
+/// A board merges with itself to itself.
+pub fn merging_is_idempotent(a: &Board)
+    ensures { merged ⟦<JobRecord as Causal>⟧.joined a.now a.now ≡ a.now }
+{
+    joins_are_idempotent::<Table<JobId, JobRecord>>();
+    joins_are_idempotent::<Table<Stamp, Reservation>>();
+    a.see_tables();
+}

@@ -1,0 +1,61 @@
+-- The laws of reservations.
+use Rattle.std.specs.Prelude.{ℕ, Bool, ◌&&◌, nat_eq, option_map}
+use Rattle.std.specs.List.{cons_option}
+use Rattle.std.specs.Option.{option_eq}
+use Rattle.std.proofs.Common.{◌≡◌, ◌∷◌, ◌++◌, Option, Some, None, refl, sym, ap, subst}
+use Rattle.std.proofs.lemmas.Map.Lookups.{CmpEqualImpliesEq}
+use Rattle.fed_stamp.specs.Stamp.{StampValue}
+use Rattle.fed_lattice.specs.History.{History}
+use Rattle.fed_lattice.specs.Exact.{TellsApart}
+use Rattle.fed_lattice.specs.ExactLaws.{tells_options, tells_pairs, tells_stamps, tells_numbers}
+use Rattle.fed_lattice.specs.GreatestLaws.{exact_option}
+use Rattle.fed_lattice.specs.Part.{part}
+use Rattle.fed_lattice.specs.PartLaws.{part-append}
+use Rattle.fed_lattice.specs.Register.{joined_registers, register_reads}
+use Rattle.fed_lattice.specs.RegisterLaws.{register_applied_reads, register_joined_reads}
+use Rattle.fed_lattice.specs.Stamped.{with_stamp}
+use Rattle.fed_record.specs.declared.operations.Operation.{Operation}
+use Rattle.fed_record.specs.declared.windows.Window.{Window}
+use Rattle.fed_record.specs.Reservation.{ReservationView, window_change}
+use Rattle.fed_record.specs.ValueLaws.{exact_window}
+use Rattle.fed_record.specs.ValueOrders.{window_cmp, option_window_cmp}
+use Rattle.fed_record.specs.ValueOrderLaws.{option_window_total}
+
+pub exact_option_window : CmpEqualImpliesEq option_window_cmp
+exact_option_window = exact_option window_cmp exact_window
+
+-- windows are equal where their parts are
+abbrev pub same_window : Window → Window → Bool
+same_window a b = nat_eq a.site b.site && (nat_eq a.start b.start && (nat_eq a.end b.end && nat_eq a.nodes b.nodes))
+
+abbrev pub same_reservation : ReservationView → ReservationView → Bool
+same_reservation = option_eq (λ (p q : StampValue × Option Window). (nat_eq p.0.counter q.0.counter && nat_eq p.0.site q.0.site) && option_eq same_window p.1 q.1)
+
+-- the parts of a window tell it
+tells_windows : TellsApart same_window
+tells_windows a b =
+    let parts : Window → ℕ × (ℕ × (ℕ × ℕ)) = λ w. (w.site, (w.start, (w.end, w.nodes))) in
+    let t = tells_pairs nat_eq _ tells_numbers (tells_pairs nat_eq _ tells_numbers (tells_pairs nat_eq nat_eq tells_numbers tells_numbers)) (parts a) (parts b) in (
+      λ e. ap (λ (q : ℕ × (ℕ × (ℕ × ℕ))). let r : Window = record { site = q.0; start = q.1.0; end = q.1.1.0; nodes = q.1.1.1 } in r) (t.0 e),
+      λ e. t.1 (ap parts e),
+    )
+
+pub tells_reservations : TellsApart same_reservation
+tells_reservations = tells_options _ (tells_pairs _ (option_eq same_window) tells_stamps (tells_options same_window tells_windows))
+
+-- an operation that sets no window leaves what was read
+same_where_none : (x : ReservationView) (s : StampValue) → joined_registers option_window_cmp x (with_stamp s None) ≡ x
+same_where_none None s = refl
+same_where_none (Some p) s = refl
+
+pub reservation_applied_reads : (x : ReservationView) (h : History Operation) (s : StampValue) (c : Operation) → register_reads x (part window_change h) → register_reads (joined_registers option_window_cmp x (with_stamp s (window_change c))) (part window_change ((s, c) ∷ h))
+reservation_applied_reads x h s c r = go (window_change c)
+  where
+    go : (w : Option (Option Window)) → register_reads (joined_registers option_window_cmp x (with_stamp s w)) (cons_option (option_map (λ (d : Option Window). (s, d)) w) (part window_change h))
+    go None = subst (λ y. register_reads y (part window_change h)) (sym (same_where_none x s)) r
+    go (Some w) = register_applied_reads option_window_cmp option_window_total exact_option_window x (part window_change h) s w r
+
+pub reservation_joined_reads : (x y : ReservationView) (g h : History Operation) → register_reads x (part window_change g) → register_reads y (part window_change h) → register_reads (joined_registers option_window_cmp x y) (part window_change (g ++ h))
+reservation_joined_reads x y g h p q =
+    subst (register_reads (joined_registers option_window_cmp x y)) (sym (part-append window_change g h))
+    (register_joined_reads option_window_cmp option_window_total x y (part window_change g) (part window_change h) p q)

@@ -1,0 +1,337 @@
+//! Records of jobs at work, alone and joined.
+ghost use Rattle.std.specs.Prelude.{IsTrue};
+ghost use Rattle.fed_record.specs.JobRecord.{reads};
+ghost use Rattle.fed_record.specs.Letter.{is_submitted as is_job_submitted};
+
+use crate::{
+    Account, Beginning, Changes, Ending, GrantStage, HoldKind, HoldKinds, JobParts, JobRecord,
+    JobValues, Letter, Limit, Moment, Nodes, Operation, Priority, Progress, Record, Term,
+};
+use fed_lattice::Causal;
+use fed_stamp::{JobId, SiteId, SiteSet, Stamp, Version, Word};
+use fed_tags::TagSet;
+use std::alloc::Global;
+use std::test::Fail;
+
+const UNCHANGED: Changes = Changes {
+    name: None,
+    priority: None,
+    nodes: None,
+    limit: None,
+    account: None,
+    sites: None,
+};
+
+const UNBEGUN: Progress = Progress {
+    begun: None,
+    finished: None,
+};
+
+fn site(number: u8) -> SiteId {
+    SiteId::new(number).unwrap_or_default()
+}
+
+fn stamp(counter: u64, number: u8) -> Stamp {
+    Stamp::new(counter, site(number)).unwrap_or_default()
+}
+
+/// The job of these tests, submitted at site 2.
+fn job() -> JobId {
+    stamp(5, 2)
+}
+
+fn owner() -> Result<Word, Fail> {
+    Ok(Word::new("ann").ok_or("owner")?)
+}
+
+/// The values of a submission to the sites 1 and 4.
+fn values() -> Result<JobValues, Fail> {
+    Ok(JobValues {
+        name: Word::new("STDIN").ok_or("name")?,
+        priority: Priority::new(0).ok_or("priority")?,
+        nodes: Nodes::new(1).ok_or("nodes")?,
+        limit: Limit::new(3600).ok_or("limit")?,
+        account: Account::EMPTY,
+        sites: SiteSet::new(&[site(4), site(1)]).ok_or("sites")?,
+    })
+}
+
+/// The record with one operation more.
+fn after(record: JobRecord, at: Stamp, operation: Operation) -> Result<JobRecord, Fail> {
+    let mut changed = record;
+    changed.apply(at, &operation)?;
+    Ok(changed)
+}
+
+/// The record of the job where nothing but its Submit is seen.
+fn submitted(alloc: Global, held: bool) -> Result<JobRecord, Fail> {
+    let submit = Operation::Submit {
+        owner: owner()?,
+        values: values()?,
+        held,
+    };
+    after(Record::bottom(alloc), job(), submit)
+}
+
+/// A Set that removes these pairs of sites.
+fn set(alloc: Global, changes: Changes, pairs: &[(SiteId, Stamp)]) -> Result<Operation, Fail> {
+    Ok(Operation::Set {
+        job: job(),
+        changes,
+        removed: Vec::from_slice(alloc, pairs)?,
+    })
+}
+
+/// A Begin at second 100, on 1 node.
+fn beginning() -> Result<Beginning, Fail> {
+    Ok(Beginning {
+        moment: Moment::new(100).ok_or("moment")?,
+        nodes: Nodes::new(1).ok_or("nodes")?,
+        end: 3700,
+    })
+}
+
+/// Whether the readers answer the parts.
+fn reads_as(seen: &JobRecord, parts: &JobParts) -> bool {
+    if !seen.is_submitted() {
+        return false;
+    }
+    let values = seen.owner() == parts.owner
+        && seen.name() == parts.name
+        && seen.priority() == parts.priority
+        && seen.nodes() == parts.nodes
+        && seen.limit() == parts.limit
+        && seen.account() == parts.account;
+    let tags = seen.hold_tags().eq(parts.hold_tags.iter().copied())
+        && seen.site_tags().eq(parts.site_tags.iter().copied());
+    let stages = seen.deleted() == parts.deleted
+        && seen.grant() == parts.grant
+        && seen.progress() == parts.progress;
+    values && tags && stages && seen.touched() == parts.touched
+}
+
+/// Which kinds of holds are present, whether one is, and which of the sites 0 to 4 are present.
+fn presence(seen: &JobRecord) -> ([bool; 3], bool, [bool; 5]) {
+    let kinds = [HoldKind::User, HoldKind::Operator, HoldKind::System];
+    let holds = kinds.map(|kind| seen.has_hold(kind));
+    let sites = [0, 1, 2, 3, 4].map(|number| seen.has_site(site(number)));
+    (holds, seen.is_held(), sites)
+}
+
+#[test]
+fn a_submitted_job_is_read(rt: HostRuntime) -> Result<(), Fail> {
+    let values = values()?;
+    let expected = JobParts {
+        owner: (job(), owner()?),
+        name: (job(), values.name),
+        priority: (job(), values.priority),
+        nodes: (job(), values.nodes),
+        limit: (job(), values.limit),
+        account: (job(), Account::EMPTY),
+        hold_tags: &[(HoldKind::User, job())],
+        site_tags: &[(site(1), job()), (site(4), job())],
+        deleted: false,
+        grant: None,
+        progress: UNBEGUN,
+        touched: Version::new([0, 0, 5, 0, 0, 0, 0, 0, 0, 0, 0, 0, 0, 0, 0, 0]).ok_or("touched")?,
+    };
+    let empty: JobRecord = Record::bottom(rt.alloc());
+    assert!(rt; !empty.is_submitted());
+    let seen = submitted(rt.alloc(), true)?;
+    assert!(rt; reads_as(&seen, &expected));
+    let here = presence(&seen);
+    assert!(rt;
+        here == (
+            [true, false, false],
+            true,
+            [false, true, false, false, true]
+        )
+    );
+    assert!(rt; seen.letter() == Some(Letter::Held));
+    Ok(())
+}
+
+#[test]
+fn a_hold_that_a_release_has_not_seen_stays(rt: HostRuntime) -> Result<(), Fail> {
+    let held = submitted(rt.alloc(), true)?;
+    let copied = held.copy()?;
+    let removed = Vec::from_slice(rt.alloc(), &[(HoldKind::User, job())])?;
+    let release = Operation::Release {
+        job: job(),
+        removed,
+    };
+    let here = after(held, stamp(6, 2), release)?;
+    assert!(rt; here.letter() == Some(Letter::Queued));
+    let hold = Operation::Hold {
+        job: job(),
+        kinds: HoldKinds::USER | HoldKinds::SYSTEM,
+    };
+    let there = after(copied, stamp(6, 3), hold)?;
+    let mine = Version::default().with(stamp(6, 2));
+    let theirs = Version::default().with(job()).with(stamp(6, 3));
+    let joined = here.join(&mine, &there, &theirs)?;
+    let left = [
+        (HoldKind::User, stamp(6, 3)),
+        (HoldKind::System, stamp(6, 3)),
+    ];
+    assert!(rt; joined.hold_tags().eq(left));
+    assert!(rt; joined.letter() == Some(Letter::Held));
+    assert!(rt; joined.touched() == mine.with(stamp(6, 3)));
+    Ok(())
+}
+
+#[test]
+fn a_grant_is_handed_back_and_made_anew(rt: HostRuntime) -> Result<(), Fail> {
+    let term = Term::new(1).ok_or("first")?;
+    let next = Term::new(2).ok_or("second")?;
+    let grant = Operation::Grant {
+        job: job(),
+        site: site(4),
+        term,
+    };
+    let granted = after(submitted(rt.alloc(), false)?, stamp(6, 2), grant)?;
+    let open = GrantStage::Open {
+        term,
+        stamp: stamp(6, 2),
+        site: site(4),
+    };
+    assert!(rt; granted.grant() == Some(open));
+    assert!(rt; granted.letter() == Some(Letter::Granted));
+    let hand_back = Operation::HandBack { job: job(), term };
+    let handed_back = after(granted, stamp(7, 4), hand_back)?;
+    let returned = GrantStage::Returned {
+        term,
+        stamp: stamp(7, 4),
+    };
+    assert!(rt; handed_back.grant() == Some(returned));
+    assert!(rt; handed_back.letter() == Some(Letter::Queued));
+    let anew = Operation::Grant {
+        job: job(),
+        site: site(1),
+        term: next,
+    };
+    let again = after(handed_back, stamp(8, 2), anew)?;
+    let opened = GrantStage::Open {
+        term: next,
+        stamp: stamp(8, 2),
+        site: site(1),
+    };
+    assert!(rt; again.grant() == Some(opened) && again.letter() == Some(Letter::Granted));
+    Ok(())
+}
+
+#[test]
+fn a_deleted_job_exits_where_it_has_begun(rt: HostRuntime) -> Result<(), Fail> {
+    let seen = submitted(rt.alloc(), true)?;
+    let copied = seen.copy()?;
+    let gone = after(copied, stamp(6, 3), Operation::Delete { job: job() })?;
+    assert!(rt; gone.deleted() && gone.letter().is_none());
+    let begin = Operation::Begin {
+        job: job(),
+        beginning: beginning()?,
+    };
+    let begun = after(seen, stamp(7, 4), begin)?;
+    assert!(rt; begun.letter() == Some(Letter::Running));
+    let exiting = after(begun, stamp(8, 3), Operation::Delete { job: job() })?;
+    assert!(rt; exiting.letter() == Some(Letter::Exiting));
+    let ending = Ending {
+        moment: Moment::new(200).ok_or("moment")?,
+        status: 7,
+    };
+    let finish = Operation::Finish { job: job(), ending };
+    let finished = after(exiting, stamp(9, 4), finish)?;
+    let progress = Progress {
+        begun: Some((stamp(7, 4), beginning()?)),
+        finished: Some((stamp(9, 4), ending)),
+    };
+    assert!(rt; finished.letter().is_none() && finished.progress() == progress);
+    Ok(())
+}
+
+/// Whether the priority and the account are those of the stamp (9, 2), and the limit that of the stamp (8, 3).
+fn has_latest_values(seen: &JobRecord) -> bool {
+    let latest = stamp(9, 2);
+    seen.is_submitted()
+        && Some(seen.priority().1) == Priority::new(-7)
+        && seen.priority().0 == latest
+        && Some(seen.account().1) == Account::new("physics")
+        && seen.account().0 == latest
+        && Some(seen.limit().1) == Limit::new(60)
+        && seen.limit().0 == stamp(8, 3)
+        && seen.nodes().0 == job()
+}
+
+#[test]
+fn the_values_of_the_greatest_stamp_count(rt: HostRuntime) -> Result<(), Fail> {
+    let mut changes = UNCHANGED;
+    changes.priority = Priority::new(-7);
+    changes.account = Account::new("physics");
+    let mut olds = UNCHANGED;
+    olds.priority = Priority::new(100);
+    olds.account = Account::new("zoology");
+    olds.limit = Limit::new(60);
+    let seen = submitted(rt.alloc(), false)?;
+    let copied = seen.copy()?;
+    let here = after(seen, stamp(9, 2), set(rt.alloc(), changes, &[])?)?;
+    let there = after(copied, stamp(8, 3), set(rt.alloc(), olds, &[])?)?;
+    let mine = Version::default().with(stamp(9, 2));
+    let theirs = Version::default().with(job()).with(stamp(8, 3));
+    let joined = there.join(&theirs, &here, &mine)?;
+    assert!(rt; has_latest_values(&joined));
+    let both = after(here, stamp(8, 3), set(rt.alloc(), olds, &[])?)?;
+    assert!(rt; has_latest_values(&both));
+    Ok(())
+}
+
+#[test]
+fn sites_that_a_set_has_seen_are_replaced(rt: HostRuntime) -> Result<(), Fail> {
+    let mut changes = UNCHANGED;
+    changes.sites = SiteSet::new(&[site(3)]);
+    let pairs = [(site(1), job()), (site(4), job())];
+    let operation = set(rt.alloc(), changes, &pairs)?;
+    let seen = after(submitted(rt.alloc(), false)?, stamp(6, 2), operation)?;
+    assert!(rt; seen.site_tags().eq([(site(3), stamp(6, 2))]));
+    assert!(rt; presence(&seen) == ([false; 3], false, [false, false, false, true, false]));
+    Ok(())
+}
+
+/// The record that is made of what this one reads as.
+fn made_again(alloc: Global, seen: &JobRecord) -> Result<JobRecord, Fail>
+    requires { IsTrue (is_job_submitted (reads seen.now)) }
+{
+    let holds: Vec<_> = seen.hold_tags().collect(alloc)?;
+    let sites: Vec<_> = seen.site_tags().collect(alloc)?;
+    if !TagSet::is_ascending(&holds) || !TagSet::is_ascending(&sites) {
+        return Err(Fail::from("order"));
+    }
+    let parts = JobParts {
+        owner: seen.owner(),
+        name: seen.name(),
+        priority: seen.priority(),
+        nodes: seen.nodes(),
+        limit: seen.limit(),
+        account: seen.account(),
+        hold_tags: &holds,
+        site_tags: &sites,
+        deleted: seen.deleted(),
+        grant: seen.grant(),
+        progress: seen.progress(),
+        touched: seen.touched,
+    };
+    Ok(Record::from_parts(alloc, &parts)?)
+}
+
+#[test]
+fn a_record_is_made_of_what_it_reads_as(rt: HostRuntime) -> Result<(), Fail> {
+    let begin = Operation::Begin {
+        job: job(),
+        beginning: beginning()?,
+    };
+    let seen = after(submitted(rt.alloc(), true)?, stamp(7, 4), begin)?;
+    assert!(rt; seen.is_submitted());
+    let again = made_again(rt.alloc(), &seen)?;
+    assert!(rt; again == seen);
+    let further = after(seen, stamp(8, 2), Operation::Delete { job: job() })?;
+    assert!(rt; again != further);
+    Ok(())
+}

@@ -1,0 +1,143 @@
+//! Reservations of nodes.
+ghost use Rattle.std.specs.Prelude.{◌≡◌, ◌↔◌, None, Some, IsTrue, IsSome, IfSome, refl};
+ghost use Rattle.fed_lattice.specs.Part.{part};
+ghost use Rattle.fed_lattice.specs.PartLaws.{same_part};
+ghost use Rattle.fed_lattice.specs.Register.{stamped_cmp, joined_registers, register_reads};
+ghost use Rattle.fed_lattice.specs.RegisterLaws.{stamped_total, exact_stamped, register_reads_same};
+ghost use Rattle.fed_lattice.specs.GreatestLaws.{option_max_assoc, option_max_comm, option_max_itself};
+ghost use Rattle.fed_lattice.specs.Stamped.{with_stamp};
+ghost use Rattle.fed_record.specs.Reservation.{window_change};
+ghost use Rattle.fed_record.specs.ReservationLaws.{exact_option_window, tells_reservations, reservation_applied_reads, reservation_joined_reads};
+ghost use Rattle.fed_record.specs.ValueOrders.{option_window_cmp};
+ghost use Rattle.fed_record.specs.ValueOrderLaws.{option_window_total};
+
+use crate::operations::Operation;
+use crate::windows::Window;
+use fed_lattice::{Causal, ExactEq, NoMemory, Register};
+use fed_stamp::{Stamp, Version};
+use std::alloc::Global;
+use std::marker::Model;
+
+/// What is read of the operations of one reservation: its greatest stamp, and its window, or no window where the greatest
+/// stamped operation cancels it. A reservation of no operation is not made, and reads as none. It owns no memory.
+#[derive(Clone, Copy, PartialEq, Eq, Debug)]
+pub struct Reservation {
+    latest: Register<Option<Window>>,
+}
+
+impl Model for Reservation {
+    ghost use Rattle.fed_record.specs.Reservation.{ReservationView};
+
+    ghost Value = { ReservationView };
+
+    ghost view = { λ r. r.latest };
+
+    ghost inverse = { λ o. record { latest = o } };
+}
+
+impl Reservation {
+    /// The reservation whose greatest stamp is this, and that stands with the window, or is cancelled where there is none.
+    pub fn from_parts(stamp: Stamp, window: Option<Window>) -> Reservation
+        ensures { result ≡ Some (stamp, window) }
+    {
+        Reservation {
+            latest: Register::new(Some((stamp, window))),
+        }
+    }
+
+    /// Whether it has an operation.
+    pub fn is_made(&self) -> bool
+        ensures { IsTrue result ↔ IsSome self.now }
+    {
+        self.latest.get().is_some()
+    }
+
+    /// The greatest stamp among its operations. It asks that the reservation is made.
+    pub fn stamp(&self) -> Stamp
+        requires { IsSome self.now }
+        ensures { IfSome self.now (λ latest. result ≡ latest.0) }
+    {
+        let (stamp, _window) = self.latest.get().unwrap();
+        stamp
+    }
+
+    /// The window that it stands with, or `None` where it is cancelled. It asks that the reservation is made.
+    pub fn window(&self) -> Option<Window>
+        requires { IsSome self.now }
+        ensures { IfSome self.now (λ latest. result ≡ latest.1) }
+    {
+        let (_stamp, window) = self.latest.get().unwrap();
+        window
+    }
+}
+
+/// Two reservations are identical exactly where they are equal.
+impl ExactEq for Reservation {
+    ghost exact_eq = { tells_reservations };
+}
+
+/// A change is an operation. A `Reserve` sets its window and a `Cancel` none; every other operation leaves the reservation
+/// as it is. Copies, changes and joins take no memory.
+impl Causal for Reservation {
+    type Change = Operation;
+
+    ghost well_formed = { λ _. Unit {0} };
+
+    ghost bottom = { None };
+
+    ghost applied = { λ x s c. joined_registers option_window_cmp x (with_stamp s (window_change c)) };
+
+    ghost joined = { λ x _ y _. joined_registers option_window_cmp x y };
+
+    ghost is_history = { λ _. Unit {0} };
+
+    ghost reads = { λ x h. register_reads x (part window_change h) };
+
+    ghost is_inline = { Unit {0} };
+
+    fn bottom(alloc: Global) -> Self {
+        Reservation {
+            latest: Register::bottom(alloc),
+        }
+    }
+
+    fn copy(&self) -> Result<Self, NoMemory> {
+        Ok(*self)
+    }
+
+    fn apply(&mut self, at: Stamp, change: &Operation) -> Result<(), NoMemory> {
+        match change {
+            Operation::Reserve { window } => self.latest.apply(at, &Some(*window)),
+            Operation::Cancel { .. } => self.latest.apply(at, &None),
+            _ => Ok(()),
+        }
+    }
+
+    fn join(&self, mine: &Version, other: &Self, theirs: &Version) -> Result<Self, NoMemory> {
+        Ok(Reservation {
+            latest: self.latest.join(mine, &other.latest, theirs)?,
+        })
+    }
+
+    ghost well_formed_bottom = { tt };
+
+    ghost well_formed_applied = { λ _ _ _ _. tt };
+
+    ghost well_formed_joined = { λ _ _ _ _ _ _. tt };
+
+    ghost joined_assoc = { λ x y z _ _ _ _ _ _. option_max_assoc (stamped_cmp option_window_cmp) (stamped_total option_window_cmp option_window_total) (exact_stamped option_window_cmp exact_option_window) x y z };
+
+    ghost joined_comm = { λ x y _ _ _ _. option_max_comm (stamped_cmp option_window_cmp) (stamped_total option_window_cmp option_window_total) (exact_stamped option_window_cmp exact_option_window) x y };
+
+    ghost joined_itself = { λ x _ _. option_max_itself (stamped_cmp option_window_cmp) x };
+
+    ghost joined_bottoms = { λ _ _. refl };
+
+    ghost bottom_reads = { refl };
+
+    ghost applied_reads = { λ x h s c _ r _ _ _. reservation_applied_reads x h s c r };
+
+    ghost joined_reads = { λ x y _ _ g h _ _ p q _ _ _. reservation_joined_reads x y g h p q };
+
+    ghost reads_same = { λ x g h e p. register_reads_same x (part window_change g) (part window_change h) (same_part window_change g h e) p };
+}
