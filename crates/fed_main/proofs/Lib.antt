@@ -5,5 +5,6 @@ pub mod LineCuts
 pub mod ReadableLines
 pub mod Requests
 pub mod Runs
+pub mod SiteSteps
 pub mod SiteWords
 pub mod WordCuts

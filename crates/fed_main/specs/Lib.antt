@@ -1,6 +1,7 @@
 -- What the contracts of this crate cite.
 pub mod Decimals
 pub mod Fault
+pub mod Federation
 pub mod Identifiers
 pub mod Lines
 pub mod Listing

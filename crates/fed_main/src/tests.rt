@@ -1,6 +1,5 @@
 //! Replaying through readers and writers of memory: whole, in pieces and with faults.
-ghost use Rattle.std.specs.Prelude.{◌≡◌, ℕ, List, Some, IfOk};
-ghost use Rattle.fed_main.specs.Replay.{said};
+ghost use Rattle.std.specs.Prelude.{Some};
 
 use super::*;
 use std::alloc::Global;
@@ -81,10 +80,8 @@ impl Write for Full {
     }
 }
 
-// What a script in memory is answered by: both ends are known, so the contract of `replay` gives each byte.
-fn answers(alloc: Global, script: &[u8]) -> Result<Vec<u8>, RunFault>
-    ensures { IfOk result (λ written. written.items ≡ said script.now) }
-{
+// What a script in memory is answered by.
+fn answers(alloc: Global, script: &[u8]) -> Result<Vec<u8>, RunFault> {
     let mut reader = script;
     let mut written = Vec::new(alloc);
     replay(alloc, &mut reader, &mut written)?;

@@ -9,6 +9,16 @@ pub returns : goal.returns
 returns c =
     let fits : FitsSigned w16 c.get-priority.result = search rules in
     IfOk-weaker c.format.result _ _
-    (λ s e. rw e (rw (c.in_ok-names.ensures, c.in_ok-numbers.ensures) (rw (c.as_str.ensures.value, c.as_str-2.ensures.value, c.as_str-name.ensures.same, c.as_str-owner.ensures.same,
-      c.in_ok-identifier.ensures, c.in_ok-granted.ensures, to_z-of_z w16 c.get-priority.result fits, c.get-priority.ensures.same, c.get-nodes.ensures.same, c.get-limit.ensures.same)
+    (λ s e. rw e (rw (c.in_ok-names.ensures, c.in_ok-numbers.ensures) (rw (
+      c.as_str.ensures.value,
+      c.as_str-2.ensures.value,
+      c.as_str-name.ensures.same,
+      c.as_str-owner.ensures.same,
+      c.in_ok-identifier.ensures,
+      c.in_ok-granted.ensures,
+      to_z-of_z w16 c.get-priority.result fits,
+      c.get-priority.ensures.same,
+      c.get-nodes.ensures.same,
+      c.get-limit.ensures.same,
+    )
     (join-both _ _ _ _ _ _ _ _)))) c.format.ensures.ok
