@@ -4,24 +4,28 @@
 -- `roster NAME:NODES ..` these lines are run: `SITE USER qsub`, `SITE USER qalter -p PRIORITY JOB`, `SITE USER qstat` with one JOB or none,
 -- `SITE ship SITE`, `SITE take PACKET` and `equal SITE SITE`. All other words after USER are answered by `usage 1`, also where PRIORITY or
 -- JOB is none. A USER with a role can't be read, and neither can `grant`, `begin`, `finish`, `handback` or `plan` behind a site. Of the
--- refusals 1 (the job isn't on the board) and 15 (there is no greater counter) are made. A packet is a copy of the whole board. Each job is
--- listed with the letter Q and as granted to no site.
-use Rattle.std.specs.Prelude.{◌≡◌, ◌≢◌, ℕ, ◌+◌, ◌-◌, ◌==◌, nat_le, nat_lt, ℤ, pos, Bool, true, false, ◌&&◌, ◌||◌, ◌⊎◌, List, [], ◌∷◌, ◌++◌, length, replicate, codes, flat_map, slice_set, slice_index, slice_index_or, Some, None, Option, option_map, option_and_then, unwrap_or, MatchOption, MatchResult, if◌then◌else◌}
+-- refusals 1 (the job isn't on the board) and 15 (there is no greater counter) are made. A packet is a copy of the whole board.
+use Rattle.std.specs.Prelude.{◌≡◌, ◌≢◌, ℕ, ◌+◌, ◌-◌, ◌==◌, nat_le, nat_lt, ℤ, pos, Bool, true, false, ◌&&◌, ◌||◌, ◌⊎◌, List, [], ◌∷◌, ◌++◌, length, replicate, codes, flat_map, slice_set, slice_index, slice_index_or, Some, None, Option, option_map, option_and_then, unwrap_or, MatchResult, if◌then◌else◌}
 use Rattle.std.specs.Bool.{MatchBool}
 use Rattle.std.specs.List.{range_with_len}
+use Rattle.std.specs.List.Sorted.{IsStrictlySortedBy}
+use Rattle.std.specs.Map.{keys_of}
 use Rattle.std.specs.Fmt.{decimal}
 use Rattle.std.specs.Str.{bytes_eq}
 use Rattle.fed_stamp.specs.Stamp.{StampValue}
 use Rattle.fed_stamp.specs.SiteSet.{set_of}
 use Rattle.fed_stamp.specs.Version.{is_below, next_stamp}
 use Rattle.fed_stamp.specs.Word.{is_name}
+use Rattle.fed_lattice.specs.Latest.{stamp_cmp}
 use Rattle.fed_record.specs.declared.values.Changes.{Changes}
 use Rattle.fed_record.specs.declared.values.JobValues.{JobValues}
 use Rattle.fed_record.specs.Body.{Body, Body.Submit, Body.Set}
 use Rattle.fed_record.specs.JobRecord.{JobRecordValue, reads as reads_job}
 use Rattle.fed_record.specs.JobView.{JobView}
-use Rattle.fed_record.specs.Letter.{is_submitted}
-use Rattle.fed_board.specs.Board.{BoardValue, reads}
+use Rattle.fed_record.specs.declared.letters.Letter.{Letter}
+use Rattle.fed_record.specs.declared.letters.Letter.TheVariants.{Exiting, Running, Held, Granted, Queued}
+use Rattle.fed_record.specs.Letter.{holder_in, is_submitted, letter as letter_of}
+use Rattle.fed_board.specs.Board.{BoardValue, IsBoard, reads}
 use Rattle.fed_board.specs.View.{View}
 use Rattle.fed_board.specs.ViewSteps.{add_to_view, join_views}
 use Rattle.fed_main.specs.Decimals.{decimal_of}
@@ -37,7 +41,6 @@ use Rattle.fed_main.specs.declared.session.Instruction.TheVariants.{Ask, Ship, T
 use Rattle.fed_main.specs.declared.session.Line.{Line}
 use Rattle.fed_main.specs.declared.session.Line.TheVariants.{Skip, Begin, Run}
 use Rattle.fed_main.specs.declared.session.Request.{Request}
-use Rattle.fed_main.specs.declared.session.Request.TheVariants as Request
 
 -- `qsub`
 abbrev pub submit_of : List (List ℕ) → Request
@@ -152,9 +155,13 @@ with_board f site b = record { roster = f.roster; boards = slice_set f.boards si
 abbrev pub Says : FederationValue → List ℕ → FederationValue → List ℕ → Type 0
 Says f said new text = (new ≡ f) × (text ≡ said)
 
+-- a board whose jobs stand in the order of their names
+abbrev pub IsInOrder : BoardValue → Type 0
+IsInOrder b = IsBoard b × IsStrictlySortedBy stamp_cmp (keys_of b.jobs)
+
 -- the board of the site becomes one that reads so, and this is said
 abbrev pub Turns : FederationValue → ℕ → View → List ℕ → FederationValue → List ℕ → Type 0
-Turns f site v said new text = (b : BoardValue) × (reads b ≡ v) × (new ≡ with_board f site b) × (text ≡ said)
+Turns f site v said new text = (b : BoardValue) × IsInOrder b × (reads b ≡ v) × (new ≡ with_board f site b) × (text ≡ said)
 
 -- the operation is added to the board of the site under its next stamp, or refused where there is none
 abbrev pub Adds : FederationValue → ℕ → Body → (StampValue → List ℕ) → FederationValue → List ℕ → Type 0
@@ -172,18 +179,27 @@ only_priority priority = record { name = None; priority = Some priority; nodes =
 abbrev pub no_pairs : ℕ → StampValue → Bool
 no_pairs site tag = false
 
--- what a listing shows of a job that is submitted
+-- the letter that stands for the state of a job
+abbrev pub letter_sign : Letter → ℕ
+letter_sign Exiting = 69
+letter_sign Running = 82
+letter_sign Held = 72
+letter_sign Granted = 84
+letter_sign Queued = 81
+
+-- what a listing shows of a job that is submitted and isn't gone
 abbrev pub shown_of : StampValue → JobView → Option ShownJob
 shown_of id j = if is_submitted j then
+    option_and_then (λ (letter : Letter).
     option_and_then (λ (owner : StampValue × List ℕ).
     option_and_then (λ (name : StampValue × List ℕ).
     option_and_then (λ (priority : StampValue × ℤ).
     option_and_then (λ (nodes : StampValue × ℕ).
-    option_map (λ (limit : StampValue × ℕ). record { id = id; name = name.1; owner = owner.1; letter = 81; priority = priority.1; nodes = nodes.1; limit = limit.1; granted = None })
-    j.limit) j.nodes) j.priority) j.name) j.owner
+    option_map (λ (limit : StampValue × ℕ). record { id = id; name = name.1; owner = owner.1; letter = letter_sign letter; priority = priority.1; nodes = nodes.1; limit = limit.1; granted = holder_in j.grant })
+    j.limit) j.nodes) j.priority) j.name) j.owner) (letter_of j)
     else None
 
--- the line of a job, if it is submitted
+-- the line of a job, if it is submitted and isn't gone
 abbrev pub job_text : List (List ℕ × ℕ) → StampValue → JobView → List ℕ
 job_text roster id j = unwrap_or (option_map (line_of roster) (shown_of id j)) []
 
@@ -210,7 +226,7 @@ Does f (Ask site user request) new text = Asks f site user request new text
 Does f (Ship site to) new text = (new ≡ record { roster = f.roster; boards = f.boards; packets = f.packets ++ board_of f site ∷ [] }) × (text ≡ answer_line (codes "packet " ++ decimal (length f.packets + 1)))
 Does f (Take site packet) new text = (said : List ℕ) × Turns f site (join_views (reads (board_of f site)) (reads (packet_of f packet))) said new text × (said ≡ taken_text (board_of f site) (board_of new site))
 Does f (Compare site other) new text =
-    ((board_of f site ≡ board_of f other) × Says f (answer_line (codes "equal")) new text) ⊎ ((board_of f site ≢ board_of f other) × Says f (answer_line (codes "different")) new text)
+    ((reads (board_of f site) ≡ reads (board_of f other)) × Says f (answer_line (codes "equal")) new text) ⊎ ((reads (board_of f site) ≢ reads (board_of f other)) × Says f (answer_line (codes "different")) new text)
 
 -- what a line does
 abbrev pub Step : State → Line → State → List ℕ → Type 0

@@ -5,17 +5,18 @@
 //! one JOB or none, `SITE ship SITE`, `SITE take PACKET` and `equal SITE SITE`. All other words after USER are answered by
 //! `usage 1`, also where PRIORITY or JOB is none. A USER with a role can't be read, and neither can `grant`, `begin`, `finish`,
 //! `handback` or `plan` behind a site. Of the refusals 1 (the job isn't on the board) and 15 (there is no greater counter) are
-//! made. A packet is a copy of the whole board. Each job is listed with the letter Q and as granted to no site.
+//! made. A packet is a copy of the whole board.
 ghost use Rattle.std.specs.Prelude.{◌≡◌, ◌<◌, ◌≤◌, IfOk, IfSome, slice_index_or, IsErrOf, OnOk, None, Some, MatchOption, length, map, string_bytes, false, true};
 ghost use Rattle.std.specs.List.{range_with_len};
 ghost use Rattle.fed_stamp.specs.SiteSet.{set_of};
 ghost use Rattle.fed_stamp.specs.Version.{covers};
 ghost use Rattle.fed_record.specs.Body.{Body.Submit, Body.Set};
 ghost use Rattle.fed_record.specs.JobRecord.{reads as reads_job};
+ghost use Rattle.fed_record.specs.Letter.{holder_in};
 ghost use Rattle.fed_record.specs.Operation.{body_of};
 ghost use Rattle.fed_board.specs.Board.{BoardValue, HasNamed, reads};
 ghost use Rattle.fed_board.specs.ViewSteps.{add_to_view, join_views};
-ghost use Rattle.fed_main.specs.Session.{Asks, CanDo, Does, Step, alter_of, ask_of, at_site, begun, board_of, can_run as is_runnable, compare_of, empty_board, first_values, instruction_of, is_unread_verb, job_text as text_of_job, line_in, list_of, listing, no_pairs, only_priority, prioritize_of, request_of, ship_of, shown_of, submit_of, take_of, taken_text, told_line, with_board, word_line};
+ghost use Rattle.fed_main.specs.Session.{Asks, CanDo, Does, Step, alter_of, ask_of, at_site, begun, board_of, can_run as is_runnable, compare_of, empty_board, first_values, instruction_of, IsInOrder, is_unread_verb, letter_sign as sign_of_letter, job_text as text_of_job, line_in, list_of, listing, no_pairs, only_priority, prioritize_of, request_of, ship_of, shown_of, submit_of, take_of, taken_text, told_line, with_board, word_line};
 
 use crate::decimals::read_decimal;
 use crate::identifiers::read_identifier;
@@ -23,9 +24,11 @@ use crate::lines::{line_text, words};
 use crate::listing::{ShownJob, identifier_text, job_line};
 use crate::priorities::read_priority;
 use crate::rosters::read_roster;
-use fed_board::Board;
+use fed_board::{Board, boards_that_read_the_same_are_equal};
 use fed_lattice::NoMemory;
-use fed_record::{Account, Changes, JobRecord, JobValues, Limit, Nodes, Operation, Priority};
+use fed_record::{
+    Account, Changes, JobRecord, JobValues, Letter, Limit, Nodes, Operation, Priority,
+};
 use fed_stamp::{JobId, Roster, SiteId, SiteSet, Stamp, Word};
 use std::alloc::{AllocError, Global};
 use std::marker::Model;
@@ -269,6 +272,29 @@ pub enum Line {
     Run { instruction: Instruction },
 }
 
+/// The letter that stands for the state of a job.
+fn letter_sign(letter: Letter) -> char
+    ensures { result ≡ sign_of_letter letter }
+{
+    match letter {
+        Letter::Exiting => 'E',
+        Letter::Running => 'R',
+        Letter::Held => 'H',
+        Letter::Granted => 'T',
+        Letter::Queued => 'Q',
+    }
+}
+
+/// The site that a job is granted to.
+fn holder(held: &JobRecord) -> Option<SiteId>
+    ensures { result ≡ holder_in (reads_job held.now).grant }
+{
+    match held.grant() {
+        Some(stage) => stage.holder(),
+        None => None,
+    }
+}
+
 /// What a listing shows of a job, or `None` where the record is of a job that is not submitted.
 fn shown(id: JobId, held: &JobRecord) -> Option<ShownJob>
     ensures { result ≡ shown_of id (reads_job held.now) }
@@ -276,15 +302,16 @@ fn shown(id: JobId, held: &JobRecord) -> Option<ShownJob>
     if !held.is_submitted() {
         return None;
     }
+    let letter = held.letter()?;
     Some(ShownJob {
         id,
         name: held.name().1,
         owner: held.owner().1,
-        letter: 'Q',
+        letter: letter_sign(letter),
         priority: held.priority().1,
         nodes: held.nodes().1,
         limit: held.limit().1,
-        granted: None,
+        granted: holder(held),
     })
 }
 
@@ -433,9 +460,13 @@ impl Federation {
         requires site { site < length self.old.boards }
         requires fresh { covers (board_of self.old site).version at ≡ false }
         requires named { HasNamed (board_of self.old site) (body_of operation.now) }
-        ensures { OnOk result ((b : BoardValue) × (reads b ≡ add_to_view (reads (board_of self.old site)) (at, body_of operation.now)) × (self.new ≡ with_board self.old site b)) }
+        ensures { OnOk result ((b : BoardValue) × IsInOrder b × (reads b ≡ add_to_view (reads (board_of self.old site)) (at, body_of operation.now)) × (self.new ≡ with_board self.old site b)) }
     {
-        self.boards[site.get() as usize].apply(at, operation)
+        let board = &mut self.boards[site.get() as usize];
+        board.apply(at, operation)?;
+        let _version = board.version();
+        let _jobs = board.jobs();
+        Ok(())
     }
 
     /// Submits a job.
@@ -509,10 +540,14 @@ impl Federation {
     fn merge(&mut self, site: SiteId, place: usize) -> Result<(), NoMemory>
         requires site { site < length self.old.boards }
         requires made { place < length self.old.packets }
-        ensures { OnOk result ((b : BoardValue) × (reads b ≡ join_views (reads (board_of self.old site)) (reads (slice_index_or self.old.packets place empty_board))) × (self.new ≡ with_board self.old site b)) }
+        ensures { OnOk result ((b : BoardValue) × IsInOrder b × (reads b ≡ join_views (reads (board_of self.old site)) (reads (slice_index_or self.old.packets place empty_board))) × (self.new ≡ with_board self.old site b)) }
     {
         let packet = &self.packets[place];
-        self.boards[site.get() as usize].merge(packet)
+        let board = &mut self.boards[site.get() as usize];
+        board.merge(packet)?;
+        let _version = board.version();
+        let _jobs = board.jobs();
+        Ok(())
     }
 
     /// A site takes a packet.
@@ -537,7 +572,10 @@ impl Federation {
         requires other { other < length self.now.boards }
         ensures { IfOk result (λ text. Does self.now (Instruction.Compare site other) self.now (string_bytes text)) }
     {
-        if self.board(site).eq(self.board(other)) {
+        let here = self.board(site);
+        let there = self.board(other);
+        boards_that_read_the_same_are_equal(here, there);
+        if here.eq(there) {
             String::from_str(alloc, "equal\n")
         } else {
             String::from_str(alloc, "different\n")

@@ -1,6 +1,5 @@
 use Rattle.std.proofs.Common.{◌≡◌, ◌<◌, length, slice_index_or, refl, ap, ◌∙◌}
 use Rattle.std.proofs.lemmas.List.{get_or_default}
-use Rattle.std.proofs.lemmas.Result.{on_ok_weaker}
 use Rattle.fed_main.specs.Federation.{FederationValue}
 use Rattle.fed_main.specs.Session.{board_of, empty_board}
 use Rattle.fed_main.proofs.session.Federation.add.Goals as goal
@@ -8,8 +7,8 @@ use Rattle.fed_main.proofs.session.Federation.add.Goals as goal
 pub returns : goal.returns
 returns c =
     let within : c.args.site < length c.self.inside.boards.items = rw (← c.self.view_is) at c.requires.site in
-    let here : c.index_mut.result.now ≡ board_of c.args.self.now c.args.site =
-    c.index_mut.ensures.value ∙ ap (λ i. slice_index_or c.self.inside.boards.items i c.index_mut.result.now) c.get.ensures.same
-    ∙ get_or_default c.self.inside.boards.items c.args.site c.index_mut.result.now empty_board within
+    let here : c.index_mut-board.result.now ≡ board_of c.args.self.now c.args.site =
+    c.index_mut-board.ensures.value ∙ ap (λ i. slice_index_or c.self.inside.boards.items i c.index_mut-board.result.now) c.get.ensures.same
+    ∙ get_or_default c.self.inside.boards.items c.args.site c.index_mut-board.result.now empty_board within
     ∙ ap (λ (f : FederationValue). slice_index_or f.boards c.args.site empty_board) c.self.view_is in
-    on_ok_weaker c.apply.result (λ added. (c.apply.new.self, rw here at added, rw (c.get.ensures.same, ← c.self.view_is) refl)) c.apply.ensures.added
+    (c.apply.new.self, (c.version-version.ensures.board, c.jobs-jobs.ensures.ascending), rw here at c.in_ok-apply.ensures.added, rw (c.get.ensures.same, ← c.self.view_is) refl)

@@ -1,6 +1,5 @@
 use Rattle.std.proofs.Common.{◌≡◌, ◌<◌, length, slice_index_or, refl, ap, ◌∙◌}
 use Rattle.std.proofs.lemmas.List.{get_or_default}
-use Rattle.std.proofs.lemmas.Result.{on_ok_weaker}
 use Rattle.fed_main.specs.Federation.{FederationValue}
 use Rattle.fed_main.specs.Session.{board_of, empty_board}
 use Rattle.fed_main.proofs.session.Federation.merge.Goals as goal
@@ -9,11 +8,11 @@ pub returns : goal.returns
 returns c =
     let within : c.args.site < length c.self.inside.boards.items = rw (← c.self.view_is) at c.requires.site in
     let made : c.args.place < length c.self.inside.packets.items = rw (← c.self.view_is) at c.requires.made in
-    let here : c.index_mut.result.now ≡ board_of c.args.self.now c.args.site =
-    c.index_mut.ensures.value ∙ ap (λ i. slice_index_or c.self.inside.boards.items i c.index_mut.result.now) c.get.ensures.same
-    ∙ get_or_default c.self.inside.boards.items c.args.site c.index_mut.result.now empty_board within
+    let here : c.index_mut-board.result.now ≡ board_of c.args.self.now c.args.site =
+    c.index_mut-board.ensures.value ∙ ap (λ i. slice_index_or c.self.inside.boards.items i c.index_mut-board.result.now) c.get.ensures.same
+    ∙ get_or_default c.self.inside.boards.items c.args.site c.index_mut-board.result.now empty_board within
     ∙ ap (λ (f : FederationValue). slice_index_or f.boards c.args.site empty_board) c.self.view_is in
     let packet : c.index-packet.result.now ≡ slice_index_or c.args.self.now.packets c.args.place empty_board =
     c.index-packet.ensures ∙ get_or_default c.self.inside.packets.items c.args.place c.index-packet.result.now empty_board made
     ∙ ap (λ (f : FederationValue). slice_index_or f.packets c.args.place empty_board) c.self.view_is in
-    on_ok_weaker c.merge.result (λ joined. (c.merge.new.self, rw (here, packet) at joined, rw (c.get.ensures.same, ← c.self.view_is) refl)) c.merge.ensures.joined
+    (c.merge.new.self, (c.version-version.ensures.board, c.jobs-jobs.ensures.ascending), rw (here, packet) at c.in_ok-merge.ensures.joined, rw (c.get.ensures.same, ← c.self.view_is) refl)
