@@ -155,23 +155,27 @@ fn new_term_stands_above_a_grant_handed_back(rt: HostRuntime) -> Result<(), Fail
     Ok(())
 }
 
+/// Four nodes of the site from second 10 on to second 19.
+fn window(site: SiteId) -> Window {
+    Window {
+        site,
+        start: 10,
+        end: 20,
+        nodes: 4,
+    }
+}
+
 #[test]
 fn reservations_stand_until_cancelled(rt: HostRuntime) -> Result<(), Fail> {
     let name = stamp(1, 2)?;
     let cancelled = stamp(2, 2)?;
-    let window = Window {
-        site: name.site(),
-        start: 10,
-        end: 20,
-        nodes: 4,
+    let reserve = Operation::Reserve {
+        window: window(name.site()),
     };
-    let a = after(
-        &Board::new(rt.alloc()),
-        name,
-        &Operation::Reserve { window },
-    )?;
-    let b = after(&a, cancelled, &Operation::Cancel { reservation: name })?;
-    let made = Reservation::from_parts(name, Some(window));
+    let cancel = Operation::Cancel { reservation: name };
+    let a = after(&Board::new(rt.alloc()), name, &reserve)?;
+    let b = after(&a, cancelled, &cancel)?;
+    let made = Reservation::from_parts(name, Some(window(name.site())));
     let last = Reservation::from_parts(cancelled, None);
     assert!(rt; a.reservation(name).copied() == Some(made));
     let both = merged(&a, &b)?;
