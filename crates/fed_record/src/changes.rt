@@ -139,7 +139,7 @@ fn adds_site(operation: &Operation, site: SiteId) -> bool
     }
 }
 
-/// The holds that the operation adds. It takes no memory where there are none.
+/// The holds that the operation adds.
 pub(crate) fn added_holds(alloc: Global, operation: &Operation) -> Result<Vec<HoldKind>, NoMemory>
     ensures { IfOk result (λ v. v.items ≡ filter (is_hold_added (body_of operation.now)) all_kinds) }
 {
@@ -153,7 +153,7 @@ pub(crate) fn added_holds(alloc: Global, operation: &Operation) -> Result<Vec<Ho
     )
 }
 
-/// The sites that the operation adds. It takes no memory where there are none.
+/// The sites that the operation adds.
 pub(crate) fn added_sites(alloc: Global, operation: &Operation) -> Result<Vec<SiteId>, NoMemory>
     ensures { IfOk result (λ v. v.items ≡ filter (is_site_added (body_of operation.now)) (range_with_len 0 16)) }
 {
