@@ -6,7 +6,9 @@ ghost use Rattle.std.specs.Ordering.{nat_cmp};
 ghost use Rattle.fed_lattice.specs.Sets.{Has};
 ghost use Rattle.fed_stamp.specs.declared.sites.SiteId.{SiteId};
 ghost use Rattle.fed_record.specs.declared.holds.HoldKind.{HoldKind};
-ghost use Rattle.fed_record.specs.Hold.{has_kind};
+ghost use Rattle.fed_tags.specs.Tags.{pair_cmp};
+ghost use Rattle.fed_record.specs.Hold.{kind_cmp, has_kind};
+ghost use Rattle.fed_record.specs.Record.{AreCovered};
 ghost use Rattle.fed_record.specs.JobRecord.{reads};
 ghost use Rattle.fed_record.specs.Letter.{is_submitted as is_job_submitted, is_held as is_job_held, has_hold as is_hold_present, has_site as is_site_present, letter as letter_of};
 
@@ -145,16 +147,20 @@ impl Record<Fields, Stages> {
         !self.holds.is_empty()
     }
 
-    /// The live pairs of holds, by kind and then by stamp.
+    /// The live pairs of holds, by kind and then by stamp, as `from_parts` takes them.
     pub fn hold_tags(&self) -> Pairs<'_, HoldKind>
-        ensures { result ≡ self.now.holds }
+        ensures pairs { result ≡ self.now.holds }
+        ensures ascending { IsStrictlySortedBy (pair_cmp kind_cmp) result }
+        ensures covered { AreCovered (reads self.now).touched result }
     {
         self.holds.iter()
     }
 
-    /// The live pairs of sites, by site and then by stamp.
+    /// The live pairs of sites, by site and then by stamp, as `from_parts` takes them.
     pub fn site_tags(&self) -> Pairs<'_, SiteId>
-        ensures { result ≡ self.now.sites }
+        ensures pairs { result ≡ self.now.sites }
+        ensures ascending { IsStrictlySortedBy (pair_cmp nat_cmp) result }
+        ensures covered { AreCovered (reads self.now).touched result }
     {
         self.sites.iter()
     }
