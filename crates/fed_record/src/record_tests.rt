@@ -1,5 +1,5 @@
 //! Records of jobs at work, alone and joined.
-ghost use Rattle.std.specs.Prelude.{IsTrue};
+ghost use Rattle.std.specs.Prelude.{◌≡◌, IsTrue, IfOk};
 ghost use Rattle.fed_record.specs.JobRecord.{reads};
 ghost use Rattle.fed_record.specs.Letter.{is_submitted as is_job_submitted};
 
@@ -9,7 +9,6 @@ use crate::{
 };
 use fed_lattice::Causal;
 use fed_stamp::{JobId, SiteId, SiteSet, Stamp, Version, Word};
-use fed_tags::TagSet;
 use std::alloc::Global;
 use std::test::Fail;
 
@@ -295,15 +294,13 @@ fn sites_that_a_set_has_seen_are_replaced(rt: HostRuntime) -> Result<(), Fail> {
     Ok(())
 }
 
-/// The record that is made of what this one reads as.
+/// The record that is made of what this one reads as is equal to it. Its readers alone show that.
 fn made_again(alloc: Global, seen: &JobRecord) -> Result<JobRecord, Fail>
     requires { IsTrue (is_job_submitted (reads seen.now)) }
+    ensures { IfOk result (λ made. made ≡ seen.now) }
 {
     let holds: Vec<_> = seen.hold_tags().collect(alloc)?;
     let sites: Vec<_> = seen.site_tags().collect(alloc)?;
-    if !TagSet::is_ascending(&holds) || !TagSet::is_ascending(&sites) {
-        return Err(Fail::from("order"));
-    }
     let parts = JobParts {
         owner: seen.owner(),
         name: seen.name(),
@@ -316,7 +313,7 @@ fn made_again(alloc: Global, seen: &JobRecord) -> Result<JobRecord, Fail>
         deleted: seen.deleted(),
         grant: seen.grant(),
         progress: seen.progress(),
-        touched: seen.touched,
+        touched: seen.touched(),
     };
     Ok(Record::from_parts(alloc, &parts)?)
 }
