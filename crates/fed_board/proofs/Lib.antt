@@ -13,3 +13,4 @@ pub mod BoardReads
 pub mod BoardKeeps
 pub mod CountLaws
 pub mod BoardReadings
+pub mod ListedNames

@@ -6,6 +6,7 @@ ghost use Rattle.std.specs.Map.{keys_of, values_of, lookup};
 ghost use Rattle.std.specs.Map.Iter.{ShowsInOrder, deref_pair};
 ghost use Rattle.fed_stamp.specs.Stamp.{StampValue};
 ghost use Rattle.fed_stamp.specs.Version.{covers};
+ghost use Rattle.fed_lattice.specs.Sets.{Has};
 ghost use Rattle.fed_lattice.specs.Latest.{stamp_cmp};
 ghost use Rattle.fed_lattice.specs.Table.{IsTable};
 ghost use Rattle.fed_record.specs.Body.{job_of, reservation_of};
@@ -83,12 +84,14 @@ impl Board {
         self.jobs.get(job)
     }
 
-    /// The jobs on the board with their records, in ascending order of the stamps of their Submits. Each job is submitted.
+    /// The jobs on the board with their records, in ascending order of the stamps of their Submits. They are exactly the
+    /// jobs that are submitted.
     pub fn jobs(&self) -> Iter<'_, JobId, JobRecord>
         ensures entries { result ≡ self.now.jobs }
         ensures runs { ShowsInOrder (deref_pair {K = StampValue} {X = JobRecordValue}) }
         ensures ascending { IsStrictlySortedBy stamp_cmp (keys_of self.now.jobs) }
         ensures submitted { All (λ r. IsTrue (is_submitted (reads_job r))) (values_of self.now.jobs) }
+        ensures all { (job : StampValue) → Has (keys_of self.now.jobs) job ↔ IsTrue (is_submitted ((reads self.now).job job)) }
     {
         self.jobs.iter()
     }
@@ -102,12 +105,14 @@ impl Board {
         self.reservations.get(name)
     }
 
-    /// The reservations on the board, in ascending order of the stamps of their Reserves. Each is made.
+    /// The reservations on the board, in ascending order of the stamps of their Reserves. They are exactly those that are
+    /// made.
     pub fn reservations(&self) -> Iter<'_, Stamp, Reservation>
         ensures entries { result ≡ self.now.reservations }
         ensures runs { ShowsInOrder (deref_pair {K = StampValue} {X = ReservationView}) }
         ensures ascending { IsStrictlySortedBy stamp_cmp (keys_of self.now.reservations) }
         ensures made { All IsSome (values_of self.now.reservations) }
+        ensures all { (name : StampValue) → Has (keys_of self.now.reservations) name ↔ IsSome ((reads self.now).reservation name) }
     {
         self.reservations.iter()
     }
