@@ -14,3 +14,4 @@ pub mod BoardKeeps
 pub mod CountLaws
 pub mod BoardReadings
 pub mod ListedNames
+pub mod StandingBoards

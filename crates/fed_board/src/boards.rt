@@ -1,5 +1,5 @@
 //! Boards: what is read of a set of operations, without them.
-ghost use Rattle.std.specs.Prelude.{◌≡◌, ◌↔◌, ◌&&◌, [], false, replicate, Some, None, IsTrue, IsSome, IfOk, OnOk, OnErr, MatchOption, All, nat_eq, option_copied};
+ghost use Rattle.std.specs.Prelude.{◌≡◌, ◌↔◌, ◌&&◌, [], ◌∷◌, ◌++◌, false, replicate, Some, None, IsTrue, IsSome, IfOk, OnOk, OnErr, MatchOption, All, nat_eq, option_copied};
 ghost use Rattle.std.specs.BTreeMap.{is_at};
 ghost use Rattle.std.specs.List.Sorted.{IsStrictlySortedBy};
 ghost use Rattle.std.specs.Map.{keys_of, values_of, lookup};
@@ -7,15 +7,17 @@ ghost use Rattle.std.specs.Map.Iter.{ShowsInOrder, deref_pair};
 ghost use Rattle.fed_stamp.specs.Stamp.{StampValue};
 ghost use Rattle.fed_stamp.specs.Version.{covers};
 ghost use Rattle.fed_lattice.specs.Sets.{Has};
+ghost use Rattle.fed_lattice.specs.History.{History};
 ghost use Rattle.fed_lattice.specs.Latest.{stamp_cmp};
 ghost use Rattle.fed_lattice.specs.Table.{IsTable};
-ghost use Rattle.fed_record.specs.Body.{job_of, reservation_of};
+ghost use Rattle.fed_record.specs.Body.{Body, job_of, reservation_of};
 ghost use Rattle.fed_record.specs.JobRecord.{JobRecordValue, reads as reads_job};
 ghost use Rattle.fed_record.specs.Letter.{is_submitted};
 ghost use Rattle.fed_record.specs.Operation.{body_of};
 ghost use Rattle.fed_record.specs.Reservation.{ReservationView};
 ghost use Rattle.fed_board.specs.Board.{IsBoard, HasNamed, reads, merged, changed_job, changed_reservation};
 ghost use Rattle.fed_board.specs.Counts.{names_of};
+ghost use Rattle.fed_board.specs.Lawful.{IsLawful, AreKin};
 ghost use Rattle.fed_board.specs.View.{view};
 ghost use Rattle.fed_board.specs.ViewSteps.{add_to_view, join_views};
 
@@ -211,12 +213,14 @@ impl Board {
     }
 
     /// Adds the operation with the stamp `at`, which the version does not cover. It asks that the job or the reservation that
-    /// the operation is of is on the board, unless the operation makes it. One record is changed, in place. On an
-    /// error the board is as before.
+    /// the operation is of is on the board, unless the operation makes it. One record is changed, in place. A board that
+    /// stands for a lawful set then stands for the set with the operation. On an error the board is as before.
     pub fn apply(&mut self, at: Stamp, operation: &Operation) -> Result<(), NoMemory>
         requires fresh { covers self.old.version at ≡ false }
         requires named { HasNamed self.old (body_of operation.now) }
         ensures added { OnOk result (reads self.new ≡ add_to_view (reads self.old) (at, body_of operation.now)) }
+        ensures stands { OnOk result ((ops : History Body) → IsLawful ops → reads self.old ≡ view ops →
+            reads self.new ≡ view (ops ++ (at, body_of operation.now) ∷ [])) }
         ensures unchanged { OnErr result (self.new ≡ self.old) }
     {
         applied_records_read();
@@ -226,11 +230,13 @@ impl Board {
         }
     }
 
-    /// Joins the other board to this one, each job and each reservation by itself. Boards of sets that two sites can hold
-    /// at the same time merge to a board of their union. On an error the board is as before.
+    /// Joins the other board to this one, each job and each reservation by itself. Where the two stand for kin sets, those
+    /// that two sites can hold at the same time, this board then stands for their union. On an error it is as before.
     pub fn merge(&mut self, other: &Board) -> Result<(), NoMemory>
         ensures value { OnOk result (self.new ≡ merged ⟦<JobRecord as Causal>⟧.joined self.old other.now) }
         ensures joined { OnOk result (reads self.new ≡ join_views (reads self.old) (reads other.now)) }
+        ensures stands { OnOk result ((ops others : History Body) → AreKin ops others → reads self.old ≡ view ops →
+            reads other.now ≡ view others → reads self.new ≡ view (ops ++ others)) }
         ensures unchanged { OnErr result (self.new ≡ self.old) }
     {
         joined_records_read();

@@ -4,6 +4,7 @@ use Rattle.fed_board.specs.Board.{BoardValue, IsBoard, reads, no_operation}
 use Rattle.fed_board.specs.ViewSteps.{join_views}
 use Rattle.fed_board.proofs.BoardKeeps.{merged_keeps}
 use Rattle.fed_board.proofs.BoardReads.{merged_reads, merged_same}
+use Rattle.fed_board.proofs.StandingBoards.{stands_merged}
 use Rattle.fed_board.proofs.boards.Board.merge.Goals as goal
 
 pub invariant_of-self : goal.invariant_of-self
@@ -39,3 +40,6 @@ returns-clause-joined c =
     (λ i. reads (record { version = version i; jobs = jobs i; reservations = reservations i }))
     ∙ merged_reads _ c.joined_records_read.ensures (λ v w i. record { fields = no_operation.fields; holds = []; sites = []; stages = no_operation.stages; touched = joined_zeros 16 (replicate 16 0) refl i }) b d
     ∙ ap₂ (λ x y. join_views (reads x) (reads y)) c.self.view_is c.other.view_is
+
+pub returns-clause-stands : goal.returns-clause-stands
+returns-clause-stands c = stands_merged _ _ _ (returns-clause-joined c)
