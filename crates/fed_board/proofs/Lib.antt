@@ -15,3 +15,4 @@ pub mod CountLaws
 pub mod BoardReadings
 pub mod ListedNames
 pub mod StandingBoards
+pub mod JobRecordSteps

@@ -23,7 +23,6 @@ ghost use Rattle.fed_board.specs.ViewSteps.{add_to_view, join_views};
 
 use crate::counts::{change_at, count_names};
 use fed_lattice::{Causal, ExactEq, NoMemory, Table};
-use fed_record::job_records::{applied_records_read, joined_records_read};
 use fed_record::{JobRecord, Operation, Reservation};
 use fed_stamp::{JobId, SITES, SiteId, Stamp, Version};
 use std::alloc::Global;
@@ -163,7 +162,6 @@ impl Board {
         ensures changed { OnOk result (self.new ≡ changed_job ⟦<JobRecord as Causal>⟧.applied self.old at operation.now job) }
         ensures unchanged { OnErr result (self.new ≡ self.old) }
     {
-        applied_records_read();
         let version = self.version.with(at);
         change_at(&mut self.jobs, &mut self.job_counts, job, at, operation)?;
         self.version = version;
@@ -223,7 +221,6 @@ impl Board {
             reads self.new ≡ view (ops ++ (at, body_of operation.now) ∷ [])) }
         ensures unchanged { OnErr result (self.new ≡ self.old) }
     {
-        applied_records_read();
         match operation.job(at) {
             Some(job) => self.change_job(job, at, operation),
             None => self.change_reservation(operation.reservation(at).unwrap(), at, operation),
@@ -239,7 +236,6 @@ impl Board {
             reads other.now ≡ view others → reads self.new ≡ view (ops ++ others)) }
         ensures unchanged { OnErr result (self.new ≡ self.old) }
     {
-        joined_records_read();
         let jobs = self.jobs.join(&self.version, &other.jobs, &other.version)?;
         let reservations = self
             .reservations
