@@ -6,7 +6,6 @@ use Rattle.std.proofs.Common.{◌≡◌, ◌↔◌, ℕ, List, true, Option, Som
 use Rattle.std.proofs.lemmas.Cmp.{tied_itself}
 use Rattle.std.proofs.lemmas.Map.Views.{tells_apart}
 use Rattle.fed_stamp.specs.Stamp.{StampValue}
-use Rattle.fed_stamp.specs.Version.{covers}
 use Rattle.fed_lattice.specs.ExactLaws.{exact_stamp}
 use Rattle.fed_lattice.specs.Latest.{stamp_cmp}
 use Rattle.fed_lattice.specs.LatestLaws.{stamp_total}

@@ -1,4 +1,4 @@
-use Rattle.std.proofs.Common.{◌≡◌, [], replicate, refl, ap₂, sym, subst, ◌∙◌}
+use Rattle.std.proofs.Common.{[], replicate, refl, ap₂, sym, subst, ◌∙◌}
 use Rattle.fed_lattice.specs.VersionOfLaws.{joined_zeros}
 use Rattle.fed_board.specs.Board.{BoardValue, IsBoard, reads, no_operation}
 use Rattle.fed_board.specs.ViewSteps.{join_views}
