@@ -31,7 +31,8 @@ pub(crate) fn change_at<V: Causal<Change = Operation> + Drop>(
     operation: &Operation,
 ) -> Result<(), NoMemory>
     requires { AreCounts counts.old (keys_of table.old) }
-    ensures applied { OnOk result (table.new ≡ applied_table stamp_cmp V.bottom V.applied table.old at (name, operation.now)) }
+    ensures applied { OnOk result
+        (table.new ≡ applied_table stamp_cmp V.bottom V.applied table.old at (name, operation.now)) }
     ensures counted { OnOk result (AreCounts counts.new (keys_of table.new)) }
     ensures unchanged { OnErr result (table.new ≡ table.old) }
     ensures uncounted { OnErr result (counts.new ≡ counts.old) }

@@ -28,14 +28,16 @@ pub fn additions_are_read()
 
 /// The union of kin sets is read by joining what is read of each.
 pub fn kin_sets_join()
-    ensures { (ops others : History Body) → AreKin ops others → view (ops ++ others) ≡ join_views (view ops) (view others) }
+    ensures { (ops others : History Body) → AreKin ops others →
+        view (ops ++ others) ≡ join_views (view ops) (view others) }
 {}
 
 /// Beside a kin set, a job that the other set did not touch beyond this set's version is read as in this set
 /// alone: it need not be sent.
 pub fn untouched_jobs_are_known()
     ensures { (ops others : History Body) (job : StampValue) → AreKin ops others →
-        is_below ((view others).job job).touched (version_of ops) ≡ true → (view (ops ++ others)).job job ≡ (view ops).job job }
+        is_below ((view others).job job).touched (version_of ops) ≡ true →
+        (view (ops ++ others)).job job ≡ (view ops).job job }
 {}
 
 /// So is a reservation that the other set doesn't have, or whose greatest stamp there is covered by this set's
@@ -55,5 +57,6 @@ pub fn lawful_sets_grow()
 
 /// In a lawful set a job reads as submitted, or no operation is of it and nothing is read of it.
 pub fn jobs_are_submitted_or_unknown()
-    ensures { (ops : History Body) (job : StampValue) → IsLawful ops → is_submitted ((view ops).job job) ≡ false → (view ops).job job ≡ job_view [] }
+    ensures { (ops : History Body) (job : StampValue) → IsLawful ops → is_submitted ((view ops).job job) ≡ false →
+        (view ops).job job ≡ job_view [] }
 {}

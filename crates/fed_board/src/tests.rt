@@ -124,30 +124,44 @@ fn late_board_brings_no_hold_back(rt: HostRuntime) -> Result<(), Fail> {
     Ok(())
 }
 
+/// A board with one job, whose first term is granted to the site.
+fn granted(alloc: Global, job: Stamp, site: SiteId) -> Result<Board, Fail> {
+    let term = Term::new(1).ok_or("first term")?;
+    let board = submitted(alloc, job, false)?;
+    after(&board, stamp(2, 0)?, &Operation::Grant { job, site, term })
+}
+
+/// The boards of two sites where the second was granted the first term of the job, handed it back, and the first
+/// learnt of it.
+fn handed_back(alloc: Global, job: Stamp, back: Stamp) -> Result<(Board, Board), Fail> {
+    let term = Term::new(1).ok_or("first term")?;
+    let a = granted(alloc, job, back.site())?;
+    let b = after(&a, back, &Operation::HandBack { job, term })?;
+    let both = merged(&a, &b)?;
+    Ok((both, b))
+}
+
+#[test]
+fn merging_keeps_a_grant_handed_back(rt: HostRuntime) -> Result<(), Fail> {
+    let job = stamp(1, 0)?;
+    let back = stamp(3, 1)?;
+    let term = Term::new(1).ok_or("first term")?;
+    let (both, _b) = handed_back(rt.alloc(), job, back)?;
+    assert!(rt; grant(&both, job) == Some(GrantStage::Returned { term, stamp: back }));
+    Ok(())
+}
+
 #[test]
 fn new_term_stands_above_a_grant_handed_back(rt: HostRuntime) -> Result<(), Fail> {
     let job = stamp(1, 0)?;
     let back = stamp(3, 1)?;
-    let site = back.site();
-    let term = Term::new(1).ok_or("first term")?;
-    let next = Term::new(2).ok_or("second term")?;
-    let a = submitted(rt.alloc(), job, false)?;
-    let granted = after(&a, stamp(2, 0)?, &Operation::Grant { job, site, term })?;
-    let b = after(&granted, back, &Operation::HandBack { job, term })?;
-    let both = merged(&granted, &b)?;
-    assert!(rt; grant(&both, job) == Some(GrantStage::Returned { term, stamp: back }));
     let at = stamp(4, 0)?;
-    let anew = after(
-        &both,
-        at,
-        &Operation::Grant {
-            job,
-            site,
-            term: next,
-        },
-    )?;
+    let site = back.site();
+    let term = Term::new(2).ok_or("second term")?;
+    let (both, b) = handed_back(rt.alloc(), job, back)?;
+    let anew = after(&both, at, &Operation::Grant { job, site, term })?;
     let open = GrantStage::Open {
-        term: next,
+        term,
         stamp: at,
         site,
     };
