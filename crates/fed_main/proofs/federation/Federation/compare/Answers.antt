@@ -2,7 +2,7 @@ use Rattle.std.proofs.Common.{◌≡◌, refl, sym, ap, ◌∙◌, inl, inr}
 use Rattle.std.proofs.lemmas.Result.{IfOk-weaker}
 use Rattle.fed_board.specs.Board.{reads}
 use Rattle.fed_main.specs.Session.{board_of}
-use Rattle.fed_main.proofs.session.Federation.compare.Goals as goal
+use Rattle.fed_main.proofs.federation.Federation.compare.Goals as goal
 
 pub returns-then-eq : goal.returns-then-eq
 returns-then-eq c =

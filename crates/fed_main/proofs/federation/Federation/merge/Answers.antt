@@ -2,7 +2,7 @@ use Rattle.std.proofs.Common.{◌≡◌, ◌<◌, length, slice_index_or, refl, 
 use Rattle.std.proofs.lemmas.List.{get_or_default}
 use Rattle.fed_main.specs.Federation.{FederationValue}
 use Rattle.fed_main.specs.Session.{board_of, empty_board}
-use Rattle.fed_main.proofs.session.Federation.merge.Goals as goal
+use Rattle.fed_main.proofs.federation.Federation.merge.Goals as goal
 
 pub returns : goal.returns
 returns c =
