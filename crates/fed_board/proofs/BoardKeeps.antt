@@ -26,7 +26,7 @@ use Rattle.fed_record.specs.Letter.{is_submitted}
 use Rattle.fed_record.specs.Operation.{body_of}
 use Rattle.fed_record.specs.Reservation.{ReservationView}
 use Rattle.fed_record.specs.ValueOrders.{option_window_cmp}
-use Rattle.fed_board.specs.Board.{BoardValue, IsBoard, IsKnownJob, IsKnownReservation, HasJob, HasReservation, HasNamed, no_operation, merged, changed_job, changed_reservation}
+use Rattle.fed_board.specs.Board.{BoardValue, IsBoard, IsKnownJob, IsKnownReservation, HasJob, HasNamed, no_operation, merged, changed_job, changed_reservation}
 use Rattle.fed_board.proofs.SubmittedJobs.{submitted_added, submitted_by, submitted_left, submitted_right}
 use Rattle.fed_board.proofs.VersionGrowth.{below_raised, covers_raised, raised_below, zeros_below, joined_below}
 

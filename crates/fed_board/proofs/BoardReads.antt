@@ -1,41 +1,32 @@
 -- What boards read as after a change and merged, and that what holds of every board is kept.
 use Rattle.std.specs.Ordering.{is_eq}
-use Rattle.std.specs.BTreeMap.{insert_entry, is_at}
-use Rattle.std.specs.Map.{lookup}
 use Rattle.std.specs.Cmp.{both_ways}
 use Rattle.std.specs.Prelude.{if◌then◌else◌}
-use Rattle.std.proofs.Common.{◌≡◌, ℕ, List, Bool, true, false, cond, ◌||◌, Option, Some, None, is_some, IsSome, IfSome, MatchOption, unwrap_or, Ordering, refl, sym, ap, ap₂, subst, ◌∙◌, inl, inr}
-use Rattle.std.proofs.lemmas.Bool.{cases_Bool, or_parts}
+use Rattle.std.proofs.Common.{◌≡◌, ℕ, List, Bool, true, false, cond, Option, Some, None, is_some, refl, sym, ap, ap₂, subst, ◌∙◌}
 use Rattle.std.proofs.lemmas.Cmp.{tied_itself}
 use Rattle.std.proofs.lemmas.Map.Views.{tells_apart}
-use Rattle.std.proofs.lemmas.Option.{IfSome_then}
 use Rattle.fed_stamp.specs.Stamp.{StampValue}
-use Rattle.fed_stamp.specs.Version.{covers, joined, raised, is_below}
-use Rattle.fed_stamp.proofs.VersionLaws.{covers_more, below_joined_left, below_joined_right}
+use Rattle.fed_stamp.specs.Version.{joined, raised}
 use Rattle.fed_lattice.specs.ExactLaws.{exact_stamp}
 use Rattle.fed_lattice.specs.Latest.{stamp_cmp}
 use Rattle.fed_lattice.specs.LatestLaws.{stamp_total}
 use Rattle.fed_lattice.specs.Laws.{BottomsJoin}
 use Rattle.fed_lattice.specs.Register.{joined_registers}
 use Rattle.fed_lattice.specs.Stamped.{with_stamp}
-use Rattle.fed_lattice.specs.Table.{value_at, joined_tables}
-use Rattle.fed_lattice.specs.TableValues.{IsAtEach, value_at-insert_entry, value_at-joined_tables, each_insert_entry, each_joined_tables}
+use Rattle.fed_lattice.specs.Table.{value_at}
+use Rattle.fed_lattice.specs.TableValues.{value_at-insert_entry, value_at-joined_tables}
 use Rattle.fed_record.specs.declared.operations.Operation.{Operation}
 use Rattle.fed_record.specs.Body.{Body, Body.Submit, Body.Set, Body.Hold, Body.Release, Body.Delete, Body.Grant, Body.HandBack, Body.Begin, Body.Finish, Body.Reserve, Body.Cancel, job_of, reservation_of, is_named, same_stamp, is_of_job, is_of_reservation}
 use Rattle.fed_record.specs.Field.{window_in}
 use Rattle.fed_record.specs.JobRecord.{JobRecordValue, reads as reads_job}
 use Rattle.fed_record.specs.JobSteps.{add_to_job, join_jobs}
 use Rattle.fed_record.specs.JobView.{JobView}
-use Rattle.fed_record.specs.Letter.{is_submitted}
 use Rattle.fed_record.specs.Operation.{body_of}
 use Rattle.fed_record.specs.Reservation.{ReservationView}
 use Rattle.fed_record.specs.ValueOrders.{option_window_cmp}
 use Rattle.fed_record.proofs.PairLaws.{same_stamp_is, same_stamp_itself}
-use Rattle.fed_board.specs.Board.{BoardValue, IsBoard, IsKnownJob, IsKnownReservation, HasJob, HasReservation, HasNamed, no_operation, reads, merged, changed_job, changed_reservation}
-use Rattle.fed_board.specs.View.{View}
+use Rattle.fed_board.specs.Board.{BoardValue, no_operation, reads, merged, changed_job, changed_reservation}
 use Rattle.fed_board.specs.ViewSteps.{add_to_view, join_views}
-use Rattle.fed_board.proofs.SubmittedJobs.{submitted_added, submitted_by, submitted_left, submitted_right}
-use Rattle.fed_board.proofs.VersionGrowth.{covers_raised, raised_below, zeros_below, joined_below}
 
 -- ---- names
 stamp_at_name : (name s : StampValue) → is_eq (stamp_cmp name s) ≡ same_stamp s name

@@ -13,3 +13,6 @@ pub mod BoardReads
 pub mod BoardKeeps
 pub mod CountLaws
 pub mod BoardReadings
+pub mod ListedNames
+pub mod StandingBoards
+pub mod JobRecordSteps

@@ -1,5 +1,5 @@
 -- What a board is, and what is read of it.
-use Rattle.std.specs.Prelude.{◌≡◌, ℕ, true, false, replicate, List, [], Option, Some, None, IsSome, MatchOption}
+use Rattle.std.specs.Prelude.{◌≡◌, ℕ, true, false, replicate, List, [], None, IsSome, MatchOption}
 use Rattle.std.specs.Map.{lookup}
 use Rattle.std.specs.BTreeMap.{is_at}
 use Rattle.fed_stamp.specs.Stamp.{StampValue}

@@ -1,5 +1,5 @@
 -- That equality of boards tells all boards apart.
-use Rattle.std.specs.Prelude.{◌≡◌, ◌&&◌, true, false, nat_eq, Bool, List, Option, ℕ, ℤ}
+use Rattle.std.specs.Prelude.{◌≡◌, ◌&&◌, true, false, nat_eq, Bool, List, Option, ℕ}
 use Rattle.std.specs.Bool.{beq}
 use Rattle.std.specs.Option.{option_eq}
 use Rattle.std.specs.Ordering.{int_cmp, int_eq, nat_cmp, eq_by_cmp}
@@ -15,7 +15,6 @@ use Rattle.fed_lattice.specs.Exact.{TellsApart}
 use Rattle.fed_lattice.specs.ExactLaws.{tells_booleans, tells_numbers, tells_stamps, tells_options, tells_pairs, tells_lists, tells_by_order}
 use Rattle.fed_lattice.specs.BothLaws.{tells_both}
 use Rattle.fed_tags.specs.Tags.{pair_cmp}
-use Rattle.fed_record.specs.declared.grants.GrantStage.{GrantStage}
 use Rattle.fed_record.specs.declared.progress.Beginning.{Beginning}
 use Rattle.fed_record.specs.declared.progress.Ending.{Ending}
 use Rattle.fed_record.specs.Grant.{grant_cmp}

@@ -1,26 +1,28 @@
 //! Boards: what is read of a set of operations, without them.
-ghost use Rattle.std.specs.Prelude.{◌≡◌, ◌↔◌, ◌&&◌, [], false, replicate, Some, None, IsTrue, IsSome, IfOk, OnOk, OnErr, MatchOption, All, nat_eq, option_copied};
+ghost use Rattle.std.specs.Prelude.{◌≡◌, ◌↔◌, ◌&&◌, [], ◌∷◌, ◌++◌, false, replicate, Some, None, IsTrue, IsSome, IfOk, OnOk, OnErr, MatchOption, All, nat_eq, option_copied};
 ghost use Rattle.std.specs.BTreeMap.{is_at};
 ghost use Rattle.std.specs.List.Sorted.{IsStrictlySortedBy};
 ghost use Rattle.std.specs.Map.{keys_of, values_of, lookup};
 ghost use Rattle.std.specs.Map.Iter.{ShowsInOrder, deref_pair};
 ghost use Rattle.fed_stamp.specs.Stamp.{StampValue};
 ghost use Rattle.fed_stamp.specs.Version.{covers};
+ghost use Rattle.fed_lattice.specs.Sets.{Has};
+ghost use Rattle.fed_lattice.specs.History.{History};
 ghost use Rattle.fed_lattice.specs.Latest.{stamp_cmp};
 ghost use Rattle.fed_lattice.specs.Table.{IsTable};
-ghost use Rattle.fed_record.specs.Body.{job_of, reservation_of};
+ghost use Rattle.fed_record.specs.Body.{Body, job_of, reservation_of};
 ghost use Rattle.fed_record.specs.JobRecord.{JobRecordValue, reads as reads_job};
 ghost use Rattle.fed_record.specs.Letter.{is_submitted};
 ghost use Rattle.fed_record.specs.Operation.{body_of};
 ghost use Rattle.fed_record.specs.Reservation.{ReservationView};
 ghost use Rattle.fed_board.specs.Board.{IsBoard, HasNamed, reads, merged, changed_job, changed_reservation};
 ghost use Rattle.fed_board.specs.Counts.{names_of};
+ghost use Rattle.fed_board.specs.Lawful.{IsLawful, AreKin};
 ghost use Rattle.fed_board.specs.View.{view};
 ghost use Rattle.fed_board.specs.ViewSteps.{add_to_view, join_views};
 
 use crate::counts::{change_at, count_names};
 use fed_lattice::{Causal, ExactEq, NoMemory, Table};
-use fed_record::job_records::{applied_records_read, joined_records_read};
 use fed_record::{JobRecord, Operation, Reservation};
 use fed_stamp::{JobId, SITES, SiteId, Stamp, Version};
 use std::alloc::Global;
@@ -83,12 +85,14 @@ impl Board {
         self.jobs.get(job)
     }
 
-    /// The jobs on the board with their records, in ascending order of the stamps of their Submits. Each job is submitted.
+    /// The jobs on the board with their records, in ascending order of the stamps of their Submits. They are exactly the
+    /// jobs that are submitted.
     pub fn jobs(&self) -> Iter<'_, JobId, JobRecord>
         ensures entries { result ≡ self.now.jobs }
         ensures runs { ShowsInOrder (deref_pair {K = StampValue} {X = JobRecordValue}) }
         ensures ascending { IsStrictlySortedBy stamp_cmp (keys_of self.now.jobs) }
         ensures submitted { All (λ r. IsTrue (is_submitted (reads_job r))) (values_of self.now.jobs) }
+        ensures all { (job : StampValue) → Has (keys_of self.now.jobs) job ↔ IsTrue (is_submitted ((reads self.now).job job)) }
     {
         self.jobs.iter()
     }
@@ -102,12 +106,14 @@ impl Board {
         self.reservations.get(name)
     }
 
-    /// The reservations on the board, in ascending order of the stamps of their Reserves. Each is made.
+    /// The reservations on the board, in ascending order of the stamps of their Reserves. They are exactly those that are
+    /// made.
     pub fn reservations(&self) -> Iter<'_, Stamp, Reservation>
         ensures entries { result ≡ self.now.reservations }
         ensures runs { ShowsInOrder (deref_pair {K = StampValue} {X = ReservationView}) }
         ensures ascending { IsStrictlySortedBy stamp_cmp (keys_of self.now.reservations) }
         ensures made { All IsSome (values_of self.now.reservations) }
+        ensures all { (name : StampValue) → Has (keys_of self.now.reservations) name ↔ IsSome ((reads self.now).reservation name) }
     {
         self.reservations.iter()
     }
@@ -156,7 +162,6 @@ impl Board {
         ensures changed { OnOk result (self.new ≡ changed_job ⟦<JobRecord as Causal>⟧.applied self.old at operation.now job) }
         ensures unchanged { OnErr result (self.new ≡ self.old) }
     {
-        applied_records_read();
         let version = self.version.with(at);
         change_at(&mut self.jobs, &mut self.job_counts, job, at, operation)?;
         self.version = version;
@@ -206,29 +211,31 @@ impl Board {
     }
 
     /// Adds the operation with the stamp `at`, which the version does not cover. It asks that the job or the reservation that
-    /// the operation is of is on the board, unless the operation makes it. One record is changed, in place. On an
-    /// error the board is as before.
+    /// the operation is of is on the board, unless the operation makes it. One record is changed, in place. A board that
+    /// stands for a lawful set then stands for the set with the operation. On an error the board is as before.
     pub fn apply(&mut self, at: Stamp, operation: &Operation) -> Result<(), NoMemory>
         requires fresh { covers self.old.version at ≡ false }
         requires named { HasNamed self.old (body_of operation.now) }
         ensures added { OnOk result (reads self.new ≡ add_to_view (reads self.old) (at, body_of operation.now)) }
+        ensures stands { OnOk result ((ops : History Body) → IsLawful ops → reads self.old ≡ view ops →
+            reads self.new ≡ view (ops ++ (at, body_of operation.now) ∷ [])) }
         ensures unchanged { OnErr result (self.new ≡ self.old) }
     {
-        applied_records_read();
         match operation.job(at) {
             Some(job) => self.change_job(job, at, operation),
             None => self.change_reservation(operation.reservation(at).unwrap(), at, operation),
         }
     }
 
-    /// Joins the other board to this one, each job and each reservation by itself. Boards of sets that two sites can hold
-    /// at the same time merge to a board of their union. On an error the board is as before.
+    /// Joins the other board to this one, each job and each reservation by itself. Where the two stand for kin sets, those
+    /// that two sites can hold at the same time, this board then stands for their union. On an error it is as before.
     pub fn merge(&mut self, other: &Board) -> Result<(), NoMemory>
         ensures value { OnOk result (self.new ≡ merged ⟦<JobRecord as Causal>⟧.joined self.old other.now) }
         ensures joined { OnOk result (reads self.new ≡ join_views (reads self.old) (reads other.now)) }
+        ensures stands { OnOk result ((ops others : History Body) → AreKin ops others → reads self.old ≡ view ops →
+            reads other.now ≡ view others → reads self.new ≡ view (ops ++ others)) }
         ensures unchanged { OnErr result (self.new ≡ self.old) }
     {
-        joined_records_read();
         let jobs = self.jobs.join(&self.version, &other.jobs, &other.version)?;
         let reservations = self
             .reservations

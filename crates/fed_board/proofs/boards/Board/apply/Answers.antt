@@ -2,12 +2,14 @@ use Rattle.std.proofs.Common.{ap, sym, ◌∙◌}
 use Rattle.fed_lattice.proofs.TableWrites.{on_ok_then}
 use Rattle.fed_board.specs.Board.{reads}
 use Rattle.fed_board.proofs.BoardReads.{changed_job_reads, changed_reservation_reads}
+use Rattle.fed_board.proofs.JobRecordSteps.{changed_record, changed_record_reads}
+use Rattle.fed_board.proofs.StandingBoards.{stands_added}
 use Rattle.fed_board.proofs.boards.Board.apply.Goals as goal
 
 pub returns-in-Some-clause-added : goal.returns-in-Some-clause-added
 returns-in-Some-clause-added c =
     on_ok_then c.change_job.result
-    (λ e. ap reads e ∙ changed_job_reads _ c.applied_records_read.ensures c.args.self.now c.args.at c.args.operation.now c.in-Some.job (sym c.job.ensures ∙ c.in-Some.is))
+    (λ e. ap reads e ∙ changed_job_reads changed_record changed_record_reads c.args.self.now c.args.at c.args.operation.now c.in-Some.job (sym c.job.ensures ∙ c.in-Some.is))
     c.change_job.ensures.changed
 
 pub returns-in-None-clause-added : goal.returns-in-None-clause-added
@@ -15,3 +17,9 @@ returns-in-None-clause-added c =
     on_ok_then c.change_reservation.result
     (λ e. ap reads e ∙ changed_reservation_reads c.args.self.now c.args.at c.args.operation.now c.unwrap.result (sym c.reservation.ensures ∙ c.unwrap.ensures))
     c.change_reservation.ensures.changed
+
+pub returns-in-Some-clause-stands : goal.returns-in-Some-clause-stands
+returns-in-Some-clause-stands c = on_ok_then c.change_job.result (stands_added _ _ _ c.requires.fresh) (returns-in-Some-clause-added c)
+
+pub returns-in-None-clause-stands : goal.returns-in-None-clause-stands
+returns-in-None-clause-stands c = on_ok_then c.change_reservation.result (stands_added _ _ _ c.requires.fresh) (returns-in-None-clause-added c)

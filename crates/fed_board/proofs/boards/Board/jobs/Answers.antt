@@ -4,6 +4,7 @@ use Rattle.std.specs.List.Sorted.{IsStrictlySortedBy}
 use Rattle.fed_lattice.specs.Latest.{stamp_cmp}
 use Rattle.fed_board.specs.Board.{BoardValue, IsBoard}
 use Rattle.fed_board.proofs.BoardKeeps.{submitted_values}
+use Rattle.fed_board.proofs.ListedNames.{listed_jobs}
 use Rattle.fed_board.proofs.boards.Board.jobs.Goals as goal
 
 pub returns-clause-submitted : goal.returns-clause-submitted
@@ -11,3 +12,6 @@ returns-clause-submitted c =
     let sorted = subst (λ (b : BoardValue). IsStrictlySortedBy stamp_cmp (keys_of b.jobs)) c.self.view_is c.iter.ensures.well_formed.0 in
     let i = subst IsBoard c.self.view_is c.self.invariant.0 in
     submitted_values c.args.self.now.version c.args.self.now.jobs sorted i.jobs
+
+pub returns-clause-all : goal.returns-clause-all
+returns-clause-all c = listed_jobs c.args.self.now (subst IsBoard c.self.view_is c.self.invariant.0)

@@ -4,6 +4,7 @@ use Rattle.std.specs.List.Sorted.{IsStrictlySortedBy}
 use Rattle.fed_lattice.specs.Latest.{stamp_cmp}
 use Rattle.fed_board.specs.Board.{BoardValue, IsBoard}
 use Rattle.fed_board.proofs.BoardKeeps.{made_values}
+use Rattle.fed_board.proofs.ListedNames.{listed_reservations}
 use Rattle.fed_board.proofs.boards.Board.reservations.Goals as goal
 
 pub returns-clause-made : goal.returns-clause-made
@@ -11,3 +12,6 @@ returns-clause-made c =
     let sorted = subst (λ (b : BoardValue). IsStrictlySortedBy stamp_cmp (keys_of b.reservations)) c.self.view_is c.iter.ensures.well_formed.0 in
     let i = subst IsBoard c.self.view_is c.self.invariant.0 in
     made_values c.args.self.now.version c.args.self.now.reservations sorted i.reservations
+
+pub returns-clause-all : goal.returns-clause-all
+returns-clause-all c = listed_reservations c.args.self.now (subst IsBoard c.self.view_is c.self.invariant.0)
