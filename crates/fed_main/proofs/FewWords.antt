@@ -1,5 +1,5 @@
 -- Words that are too few or too many for a request.
-use Rattle.std.proofs.Common.{◌≡◌, ℕ, ◌<◌, ◌≤◌, List, [], ◌∷◌, length, map, refl, ap, ◌∙◌, arith}
+use Rattle.std.proofs.Common.{◌≡◌, ℕ, ◌<◌, ◌≤◌, List, [], ◌∷◌, length, map, refl, arith}
 use Rattle.std.proofs.lemmas.List.{length-map}
 use Rattle.fed_main.specs.Instructions.{prioritize_of}
 use Rattle.fed_main.specs.declared.instructions.Request.TheVariants.{Misused}

@@ -92,7 +92,7 @@ impl Federation {
     /// Adds an operation to the board of a site.
     fn add(&mut self, site: SiteId, at: Stamp, operation: &Operation) -> Result<(), NoMemory>
         requires site { site < length self.old.boards }
-        requires fresh { covers (board_of self.old site).version at ≡ false }
+        requires fresh { covers (view_of (reads self.old) site).version at ≡ false }
         requires named { HasNamed (board_of self.old site) (body_of operation.now) }
         ensures { OnOk result (reads self.new ≡ with_view (reads self.old) site (add_to_view (view_of (reads self.old) site) (at, body_of operation.now))) }
     {

@@ -1,4 +1,4 @@
-use Rattle.std.proofs.Common.{sym, arith}
+use Rattle.std.proofs.Common.{sym}
 use Rattle.fed_main.proofs.FewWords.{prioritize_of-few, prioritize_of-many}
 use Rattle.fed_main.proofs.instructions.read_prioritize.Goals as goal
 
