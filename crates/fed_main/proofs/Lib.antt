@@ -1,10 +1,13 @@
 pub mod Columns
 pub mod DigitWords
+pub mod FewWords
 pub mod KnownBytes
 pub mod LineCuts
+pub mod Listings
 pub mod ReadableLines
-pub mod Requests
 pub mod Runs
+pub mod ScriptLaws
 pub mod SiteSteps
 pub mod SiteWords
+pub mod Views
 pub mod WordCuts

@@ -1,5 +1,5 @@
--- One site more, and one job more.
-use Rattle.std.proofs.Common.{◌≡◌, ℕ, zero, suc, ◌+◌, Bool, true, false, Some, None, List, [], ◌∷◌, ◌++◌, replicate, refl, sym, ap, ◌∙◌, add-one, arith, append_assoc, append-nil}
+-- One site more, and the next stamp of a site.
+use Rattle.std.proofs.Common.{◌≡◌, ℕ, zero, suc, ◌+◌, Bool, true, false, Some, None, List, [], ◌∷◌, ◌++◌, replicate, sym, ap, add-one, arith}
 use Rattle.std.proofs.Common.{cond, ◌≤◌, Ok, Err, inl, inr}
 use Rattle.std.proofs.lemmas.Bool.{cases_Bool}
 use Rattle.std.specs.List.{range_with_len}
@@ -9,8 +9,6 @@ use Rattle.fed_stamp.specs.Stamp.{StampValue}
 use Rattle.fed_stamp.specs.Version.{covers, greatest, next_stamp}
 use Rattle.fed_stamp.specs.declared.versions.ClockFull.{ClockFull}
 use Rattle.fed_stamp.proofs.VersionLaws.{covered_counter_le_greatest}
-use Rattle.fed_record.specs.JobRecord.{JobRecordValue, reads as reads_job}
-use Rattle.fed_main.specs.Session.{job_text, listing}
 
 pub replicate-more : {T : Type 0} (n : ℕ) (x : T) → replicate (n + 1) x ≡ replicate n x ++ x ∷ []
 replicate-more n x = sym (replicate-append-replicate n 1 x)
@@ -26,13 +24,6 @@ sites-more n = rw add-one (range-suc 0 n n (omega arith))
 pub if_some : {T : Type 0} (test : Bool) (x y : T) → (if test then Some x else None) ≡ Some y → x ≡ y
 if_some true x y e = cc
 if_some false x y e = absurd cc
-
-pub listing-more : (roster : List (List ℕ × ℕ)) (text all : List ℕ) (s t : List (StampValue × JobRecordValue)) (e : StampValue × JobRecordValue) → text ++ listing roster s ≡ all → s ≡ e ∷ t
-    → (text ++ job_text roster e.0 (reads_job e.1)) ++ listing roster t ≡ all
-listing-more roster text all s t e before first = append_assoc text (job_text roster e.0 (reads_job e.1)) (listing roster t) ∙ rw first at before
-
-pub listing-end : (roster : List (List ℕ × ℕ)) (text all : List ℕ) (s : List (StampValue × JobRecordValue)) → text ++ listing roster s ≡ all → s ≡ [] → text ≡ all
-listing-end roster text all s before none = sym (append-nil text) ∙ rw none at before
 
 ok_is : (test : Bool) (x t : StampValue) (e : ClockFull) → cond test (Ok x) (Err e) ≡ Ok t → x ≡ t
 ok_is true x t e h = cc

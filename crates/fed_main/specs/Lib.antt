@@ -3,6 +3,7 @@ pub mod Decimals
 pub mod Fault
 pub mod Federation
 pub mod Identifiers
+pub mod Instructions
 pub mod Lines
 pub mod Listing
 pub mod Priorities

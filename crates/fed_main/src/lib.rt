@@ -3,16 +3,21 @@
 
 mod decimals;
 mod fault;
+mod federation;
 mod identifiers;
+mod instructions;
+mod laws;
 mod lines;
 mod listing;
 mod priorities;
+mod requests;
 mod rosters;
 mod run;
 mod script;
 mod session;
 
 pub use fault::RunFault;
+pub use laws::lines_have_one_answer;
 pub use run::replay;
 
 #[cfg(test)]

@@ -1,9 +1,14 @@
 //! The text of identifiers and listings.
-ghost use Rattle.std.specs.Prelude.{◌≡◌, IfOk, string_bytes};
+ghost use Rattle.std.specs.Prelude.{◌≡◌, List, IfOk, string_bytes};
 ghost use Rattle.std.specs.List.{join_with_byte};
-ghost use Rattle.fed_main.specs.Listing.{granted_text as text_of_granted, identifier_text as text_of_identifier, line_of, names, numbers, site_text as text_of_site};
+ghost use Rattle.fed_stamp.specs.Stamp.{StampValue};
+ghost use Rattle.fed_record.specs.JobRecord.{reads as reads_job};
+ghost use Rattle.fed_record.specs.Letter.{holder_in};
+ghost use Rattle.fed_board.specs.Board.{reads as reads_board};
+ghost use Rattle.fed_main.specs.Listing.{AreJobs, granted_text as text_of_granted, identifier_text as text_of_identifier, job_text as text_of_job, letter_sign as sign_of_letter, line_of, listing, names, numbers, shown_of, site_text as text_of_site};
 
-use fed_record::{Limit, Nodes, Priority};
+use fed_board::Board;
+use fed_record::{JobRecord, Letter, Limit, Nodes, Priority};
 use fed_stamp::{JobId, Roster, SiteId, Word};
 use std::alloc::{AllocError, Global};
 
@@ -94,4 +99,74 @@ pub fn job_line(alloc: Global, roster: &Roster, job: &ShownJob) -> Result<String
     let (nodes, limit) = (job.nodes.get(), job.limit.get());
     let numbers = numbers_text(alloc, priority, nodes, limit, granted.as_str())?;
     format!(in alloc; "{names} {numbers}\n")
+}
+
+/// The letter that stands for the state of a job.
+fn letter_sign(letter: Letter) -> char
+    ensures { result ≡ sign_of_letter letter }
+{
+    match letter {
+        Letter::Exiting => 'E',
+        Letter::Running => 'R',
+        Letter::Held => 'H',
+        Letter::Granted => 'T',
+        Letter::Queued => 'Q',
+    }
+}
+
+/// The site that a job is granted to.
+fn holder(held: &JobRecord) -> Option<SiteId>
+    ensures { result ≡ holder_in (reads_job held.now).grant }
+{
+    match held.grant() {
+        Some(stage) => stage.holder(),
+        None => None,
+    }
+}
+
+/// What a listing shows of a job, or `None` where the record is of a job that is not submitted.
+fn shown(id: JobId, held: &JobRecord) -> Option<ShownJob>
+    ensures { result ≡ shown_of id (reads_job held.now) }
+{
+    if !held.is_submitted() {
+        return None;
+    }
+    let letter = held.letter()?;
+    Some(ShownJob {
+        id,
+        name: held.name().1,
+        owner: held.owner().1,
+        letter: letter_sign(letter),
+        priority: held.priority().1,
+        nodes: held.nodes().1,
+        limit: held.limit().1,
+        granted: holder(held),
+    })
+}
+
+/// The line of a job, or nothing where the record is of a job that is not submitted.
+pub fn job_text(
+    alloc: Global,
+    roster: &Roster,
+    id: JobId,
+    held: &JobRecord,
+) -> Result<String, AllocError>
+    ensures { IfOk result (λ text. string_bytes text ≡ text_of_job roster.now id (reads_job held.now)) }
+{
+    match shown(id, held) {
+        Some(job) => job_line(alloc, roster, &job),
+        None => Ok(String::new(alloc)),
+    }
+}
+
+/// A line for each job of a board, in the order of their stamps.
+pub fn list(alloc: Global, roster: &Roster, board: &Board) -> Result<String, AllocError>
+    ensures { IfOk result (λ text. (jobs : List StampValue) × AreJobs (reads_board board.now) jobs × (string_bytes text ≡ listing roster.now (reads_board board.now) jobs)) }
+{
+    let mut text = String::new(alloc);
+    for (id, held) in board.jobs() {
+        let line = job_text(alloc, roster, *id, held)?;
+        text.push_str(line.as_str())?;
+    }
+    Ok(text)
 }

@@ -1,7 +1,5 @@
-use Rattle.std.proofs.Common.{ap, sym, ◌∙◌, ◌≡◌, Some, ◌++◌, ◌∷◌, [], map}
-use Rattle.std.specs.Option.{option_map}
+use Rattle.std.proofs.Common.{ap, sym, ◌∙◌, Some, ◌∷◌, []}
 use Rattle.std.proofs.lemmas.List.{map-append}
-use Rattle.fed_stamp.specs.Roster.{sites_of}
 use Rattle.fed_main.proofs.SiteWords.{sites_in-more, sites_in-none}
 use Rattle.fed_main.proofs.rosters.read_sites.Goals as goal
 

@@ -1,4 +1,3 @@
-use Rattle.std.proofs.Common.{sym}
 use Rattle.fed_main.proofs.Runs.{EndsAs-kept, EndsAs-unread, IfSome-all, IfSome-read}
 use Rattle.fed_main.specs.Replay.{EndsAs}
 use Rattle.fed_main.proofs.run.replay.Goals as goal

@@ -1,6 +1,6 @@
 use Rattle.std.proofs.Common.{sym, ◌∙◌}
 use Rattle.fed_main.proofs.SiteSteps.{if_some, sites-more}
-use Rattle.fed_main.proofs.session.all_sites.Goals as goal
+use Rattle.fed_main.proofs.requests.all_sites.Goals as goal
 
 pub loop-number-preserved : goal.loop-number-preserved
 loop-number-preserved c =

@@ -1,6 +1,6 @@
 use Rattle.std.proofs.Common.{refl}
 use Rattle.fed_stamp.specs.Word.{is_name}
-use Rattle.fed_main.proofs.session.submission.Goals as goal
+use Rattle.fed_main.proofs.requests.submission.Goals as goal
 
 pub unwrap-requires : goal.unwrap-requires
 unfolding is_name

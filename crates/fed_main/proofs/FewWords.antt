@@ -1,8 +1,8 @@
 -- Words that are too few or too many for a request.
-use Rattle.std.proofs.Common.{◌≡◌, ℕ, ◌<◌, ◌≤◌, List, [], ◌∷◌, length, map, refl, ap, ◌∙◌, arith}
+use Rattle.std.proofs.Common.{◌≡◌, ℕ, ◌<◌, ◌≤◌, List, [], ◌∷◌, length, map, refl, arith}
 use Rattle.std.proofs.lemmas.List.{length-map}
-use Rattle.fed_main.specs.Session.{prioritize_of}
-use Rattle.fed_main.specs.declared.session.Request.TheVariants.{Misused}
+use Rattle.fed_main.specs.Instructions.{prioritize_of}
+use Rattle.fed_main.specs.declared.instructions.Request.TheVariants.{Misused}
 
 few : (roster : List (List ℕ × ℕ)) (here : ℕ) (words : List (List ℕ)) → length words < 2 → prioritize_of roster here words ≡ Misused
 few roster here [] h = refl
