@@ -15,4 +15,3 @@ pub mod CountLaws
 pub mod BoardReadings
 pub mod ListedNames
 pub mod StandingBoards
-pub mod JobRecordSteps

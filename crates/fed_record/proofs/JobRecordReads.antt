@@ -1,41 +1,25 @@
 -- What the record of a job reads as after a change, and what joined records read as.
 use Rattle.std.specs.Option.{option_cmp}
 use Rattle.std.specs.Ordering.{ord_max, nat_cmp, int_cmp}
-use Rattle.std.proofs.Common.{◌≡◌, ℕ, List, true, ◌||◌, Some}
+use Rattle.std.proofs.Common.{◌≡◌, ℕ, List, ◌||◌}
 use Rattle.fed_stamp.specs.Stamp.{StampValue}
 use Rattle.fed_stamp.specs.Version.{joined, raised}
-use Rattle.fed_lattice.specs.Both.{applied_option}
 use Rattle.fed_lattice.specs.Register.{joined_registers}
-use Rattle.fed_tags.specs.Tags.{pair_cmp, has, applied_tags, joined_tags}
+use Rattle.fed_tags.specs.Tags.{pair_cmp}
 use Rattle.fed_tags.specs.TagLaws.{has_joined}
 use Rattle.fed_record.specs.declared.operations.Operation.{Operation}
-use Rattle.fed_record.specs.Changes.{hold_change, site_change}
 use Rattle.fed_record.specs.Field.{owner_in, name_in, priority_in, nodes_in, limit_in, account_in, deletion_in, begin_in, finish_in}
 use Rattle.fed_record.specs.Grant.{grant_cmp, grant_in}
 use Rattle.fed_record.specs.Hold.{kind_cmp}
 use Rattle.fed_record.specs.JobRecord.{JobRecordValue, reads}
 use Rattle.fed_record.specs.JobSteps.{add_to_job, join_jobs}
-use Rattle.fed_record.specs.JobView.{JobView}
 use Rattle.fed_record.specs.Operation.{body_of}
 use Rattle.fed_record.specs.RecordLaws.{hold_order, hold_exact, site_order, site_exact}
 use Rattle.fed_record.specs.ValueOrders.{name_cmp, account_cmp, beginning_cmp, ending_cmp}
+use Rattle.fed_record.proofs.JobRecordSteps.{changed_record, joined_record}
 use Rattle.fed_record.proofs.RecordReads.{applied_register, applied_stage, applied_flag, hold_applied, site_applied}
 
-pub applied_job_reads : (r : JobRecordValue) (s : StampValue) (d : Operation) → ◌≡◌ {A = JobView} (record {
-  owner = applied_option (λ y t c. joined_registers name_cmp y (Some (t, c))) r.fields.first s (owner_in (body_of d));
-  name = applied_option (λ y t c. joined_registers name_cmp y (Some (t, c))) r.fields.second.first s (name_in (body_of d));
-  priority = applied_option (λ y t c. joined_registers int_cmp y (Some (t, c))) r.fields.second.second.first s (priority_in (body_of d));
-  nodes = applied_option (λ y t c. joined_registers nat_cmp y (Some (t, c))) r.fields.second.second.second.first s (nodes_in (body_of d));
-  limit = applied_option (λ y t c. joined_registers nat_cmp y (Some (t, c))) r.fields.second.second.second.second.first s (limit_in (body_of d));
-  account = applied_option (λ y t c. joined_registers account_cmp y (Some (t, c))) r.fields.second.second.second.second.second s (account_in (body_of d));
-  sites = λ site tag. has (pair_cmp nat_cmp) (applied_tags (pair_cmp nat_cmp) r.sites s (site_change d)) (site, tag);
-  holds = λ kind tag. has (pair_cmp kind_cmp) (applied_tags (pair_cmp kind_cmp) r.holds s (hold_change d)) (kind, tag);
-  deleted = applied_option (λ y t c. true) r.stages.first s (deletion_in (body_of d));
-  grant = applied_option (λ y t c. ord_max (option_cmp grant_cmp) y (Some c)) r.stages.second.first s (grant_in (s, body_of d));
-  begun = applied_option (λ y t c. joined_registers beginning_cmp y (Some (t, c))) r.stages.second.second.first s (begin_in (body_of d));
-  finished = applied_option (λ y t c. joined_registers ending_cmp y (Some (t, c))) r.stages.second.second.second s (finish_in (body_of d));
-  touched = raised r.touched s;
-}) (add_to_job s (body_of d) (reads r))
+pub applied_job_reads : (r : JobRecordValue) (s : StampValue) (d : Operation) → reads (changed_record r s d) ≡ add_to_job s (body_of d) (reads r)
 unfolding add_to_job
 applied_job_reads r s d =
     let b = body_of d in
@@ -65,21 +49,7 @@ applied_job_reads r s d =
       touched = raised r.touched s;
     }
 
-pub joined_jobs_read : (r q : JobRecordValue) (v w : List ℕ) → ◌≡◌ {A = JobView} (record {
-  owner = joined_registers name_cmp r.fields.first q.fields.first;
-  name = joined_registers name_cmp r.fields.second.first q.fields.second.first;
-  priority = joined_registers int_cmp r.fields.second.second.first q.fields.second.second.first;
-  nodes = joined_registers nat_cmp r.fields.second.second.second.first q.fields.second.second.second.first;
-  limit = joined_registers nat_cmp r.fields.second.second.second.second.first q.fields.second.second.second.second.first;
-  account = joined_registers account_cmp r.fields.second.second.second.second.second q.fields.second.second.second.second.second;
-  sites = λ site tag. has (pair_cmp nat_cmp) (joined_tags (pair_cmp nat_cmp) r.sites v q.sites w) (site, tag);
-  holds = λ kind tag. has (pair_cmp kind_cmp) (joined_tags (pair_cmp kind_cmp) r.holds v q.holds w) (kind, tag);
-  deleted = r.stages.first || q.stages.first;
-  grant = ord_max (option_cmp grant_cmp) r.stages.second.first q.stages.second.first;
-  begun = joined_registers beginning_cmp r.stages.second.second.first q.stages.second.second.first;
-  finished = joined_registers ending_cmp r.stages.second.second.second q.stages.second.second.second;
-  touched = joined r.touched q.touched;
-}) (join_jobs v (reads r) w (reads q))
+pub joined_jobs_read : (r q : JobRecordValue) (v w : List ℕ) → reads (joined_record r v q w) ≡ join_jobs v (reads r) w (reads q)
 unfolding join_jobs
 joined_jobs_read r q v w = λ i. record {
   owner = joined_registers name_cmp r.fields.first q.fields.first;

@@ -11,3 +11,4 @@ pub mod BodyLaws
 pub mod StandingTags
 pub mod StandingRecords
 pub mod JobRecordReads
+pub mod JobRecordSteps

@@ -1,10 +1,11 @@
 use Rattle.std.proofs.Common.{◌≡◌, true, sym, subst, ◌∙◌}
 use Rattle.fed_stamp.specs.Version.{covers}
 use Rattle.fed_record.specs.Operation.{body_of}
+use Rattle.fed_record.proofs.JobRecordReads.{applied_job_reads}
+use Rattle.fed_record.proofs.JobRecordSteps.{changed_record}
 use Rattle.fed_board.specs.Board.{BoardValue, IsBoard, HasNamed}
 use Rattle.fed_board.proofs.BoardKeeps.{changed_job_keeps}
 use Rattle.fed_board.proofs.BoardReads.{changed_job_same}
-use Rattle.fed_board.proofs.JobRecordSteps.{changed_record, changed_record_reads}
 use Rattle.fed_board.proofs.boards.Board.change_job.Goals as goal
 
 pub invariant_of-self-2 : goal.invariant_of-self-2
@@ -14,7 +15,7 @@ invariant_of-self-2 c =
     let op = c.args.operation.now in
     let seen = subst (λ v. covers v at ≡ true) c.with-version.ensures.raised c.with-version.ensures.seen in
     let named = subst (λ x. HasNamed x (body_of op)) (sym c.self.view_is) c.requires.named in
-    let keeps = changed_job_keeps changed_record changed_record_reads b at c.args.job op c.self.invariant.0 seen c.requires.of named in
+    let keeps = changed_job_keeps changed_record applied_job_reads b at c.args.job op c.self.invariant.0 seen c.requires.of named in
     let version = sym c.with-version.ensures.raised in
     let jobs = sym c.in_ok-change_at.ensures.applied in (
       subst IsBoard (λ i. record { version = version i; jobs = jobs i; reservations = b.reservations }) keeps,
@@ -28,4 +29,4 @@ returns-clause-changed c =
     let version = c.with-version.ensures.raised in
     let jobs = c.in_ok-change_at.ensures.applied in
     (λ i. record { version = version i; jobs = jobs i; reservations = b.reservations })
-    ∙ changed_job_same changed_record changed_record_reads b c.args.at c.args.operation.now c.args.job c.args.self.now c.self.view_is
+    ∙ changed_job_same changed_record applied_job_reads b c.args.at c.args.operation.now c.args.job c.args.self.now c.self.view_is

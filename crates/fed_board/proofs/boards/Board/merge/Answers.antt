@@ -1,10 +1,11 @@
 use Rattle.std.proofs.Common.{[], replicate, refl, ap₂, sym, subst, ◌∙◌}
 use Rattle.fed_lattice.specs.VersionOfLaws.{joined_zeros}
+use Rattle.fed_record.proofs.JobRecordReads.{joined_jobs_read}
+use Rattle.fed_record.proofs.JobRecordSteps.{joined_record}
 use Rattle.fed_board.specs.Board.{BoardValue, IsBoard, reads, no_operation}
 use Rattle.fed_board.specs.ViewSteps.{join_views}
 use Rattle.fed_board.proofs.BoardKeeps.{merged_keeps}
 use Rattle.fed_board.proofs.BoardReads.{merged_reads, merged_same}
-use Rattle.fed_board.proofs.JobRecordSteps.{joined_record, joined_record_reads}
 use Rattle.fed_board.proofs.StandingBoards.{stands_merged}
 use Rattle.fed_board.proofs.boards.Board.merge.Goals as goal
 
@@ -12,7 +13,7 @@ pub invariant_of-self : goal.invariant_of-self
 invariant_of-self c =
     let b : BoardValue = record { version = c.self.inside.version; jobs = c.self.inside.jobs; reservations = c.self.inside.reservations } in
     let d : BoardValue = record { version = c.other.inside.version; jobs = c.other.inside.jobs; reservations = c.other.inside.reservations } in
-    let keeps = merged_keeps joined_record joined_record_reads b d c.self.invariant.0 c.other.invariant.0 in
+    let keeps = merged_keeps joined_record joined_jobs_read b d c.self.invariant.0 c.other.invariant.0 in
     let version = sym c.join-self-inside.ensures in
     let jobs = sym c.in_ok-jobs.ensures.joined in
     let reservations = sym c.in_ok-reservations.ensures.joined in (
@@ -29,7 +30,7 @@ returns-clause-value c =
     let jobs = c.in_ok-jobs.ensures.joined in
     let reservations = c.in_ok-reservations.ensures.joined in
     (λ i. record { version = version i; jobs = jobs i; reservations = reservations i })
-    ∙ merged_same joined_record joined_record_reads b d c.args.self.now c.args.other.now c.self.view_is c.other.view_is
+    ∙ merged_same joined_record joined_jobs_read b d c.args.self.now c.args.other.now c.self.view_is c.other.view_is
 
 pub returns-clause-joined : goal.returns-clause-joined
 returns-clause-joined c =
@@ -39,7 +40,7 @@ returns-clause-joined c =
     let jobs = c.in_ok-jobs.ensures.joined in
     let reservations = c.in_ok-reservations.ensures.joined in
     (λ i. reads (record { version = version i; jobs = jobs i; reservations = reservations i }))
-    ∙ merged_reads joined_record joined_record_reads (λ v w i. record { fields = no_operation.fields; holds = []; sites = []; stages = no_operation.stages; touched = joined_zeros 16 (replicate 16 0) refl i }) b d
+    ∙ merged_reads joined_record joined_jobs_read (λ v w i. record { fields = no_operation.fields; holds = []; sites = []; stages = no_operation.stages; touched = joined_zeros 16 (replicate 16 0) refl i }) b d
     ∙ ap₂ (λ x y. join_views (reads x) (reads y)) c.self.view_is c.other.view_is
 
 pub returns-clause-stands : goal.returns-clause-stands

@@ -1,7 +1,7 @@
 -- How the record of a job takes a change and joins another, part by part.
 use Rattle.std.specs.Option.{option_cmp}
 use Rattle.std.specs.Ordering.{ord_max, nat_cmp, int_cmp}
-use Rattle.std.proofs.Common.{◌≡◌, ℕ, List, true, ◌||◌, Some}
+use Rattle.std.proofs.Common.{ℕ, List, true, ◌||◌, Some}
 use Rattle.fed_stamp.specs.Stamp.{StampValue}
 use Rattle.fed_stamp.specs.Version.{joined, raised}
 use Rattle.fed_lattice.specs.Both.{applied_option}
@@ -12,11 +12,9 @@ use Rattle.fed_record.specs.Changes.{hold_change, site_change}
 use Rattle.fed_record.specs.Field.{owner_in, name_in, priority_in, nodes_in, limit_in, account_in, deletion_in, begin_in, finish_in}
 use Rattle.fed_record.specs.Grant.{grant_cmp, grant_in}
 use Rattle.fed_record.specs.Hold.{kind_cmp}
-use Rattle.fed_record.specs.JobRecord.{JobRecordValue, reads as reads_job}
-use Rattle.fed_record.specs.JobSteps.{add_to_job, join_jobs}
+use Rattle.fed_record.specs.JobRecord.{JobRecordValue}
 use Rattle.fed_record.specs.Operation.{body_of}
 use Rattle.fed_record.specs.ValueOrders.{name_cmp, account_cmp, beginning_cmp, ending_cmp}
-use Rattle.fed_record.proofs.JobRecordReads.{applied_job_reads, joined_jobs_read}
 
 abbrev pub changed_record : JobRecordValue → StampValue → Operation → JobRecordValue
 changed_record r s d = record {
@@ -51,9 +49,6 @@ changed_record r s d = record {
   touched = raised r.touched s;
 }
 
-pub changed_record_reads : (r : JobRecordValue) (s : StampValue) (d : Operation) → reads_job (changed_record r s d) ≡ add_to_job s (body_of d) (reads_job r)
-changed_record_reads = applied_job_reads
-
 abbrev pub joined_record : JobRecordValue → List ℕ → JobRecordValue → List ℕ → JobRecordValue
 joined_record r v q w = record {
   fields = record {
@@ -86,6 +81,3 @@ joined_record r v q w = record {
   };
   touched = joined r.touched q.touched;
 }
-
-pub joined_record_reads : (r q : JobRecordValue) (v w : List ℕ) → reads_job (joined_record r v q w) ≡ join_jobs v (reads_job r) w (reads_job q)
-joined_record_reads = joined_jobs_read
