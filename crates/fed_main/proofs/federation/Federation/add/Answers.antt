@@ -18,5 +18,5 @@ returns c =
     let read = ap reads_board here ∙ board_read c.args.self.now c.args.site c.requires.site in
     on_ok_then c.apply.result
     (λ e. with_board_read c.args.self.now _ c.args.site c.apply.new.self _ (rw (c.get.ensures.same, ← c.self.view_is) refl)
-        (e ∙ ap (λ v. add_to_view v (c.args.at, body_of c.args.operation.now)) read))
+    (e ∙ ap (λ v. add_to_view v (c.args.at, body_of c.args.operation.now)) read))
     c.apply.ensures.added

@@ -22,5 +22,5 @@ returns c =
     let packet_reads = ap reads_board packet ∙ packet_read c.args.self.now c.args.place c.requires.made in
     on_ok_then c.merge.result
     (λ e. with_board_read c.args.self.now _ c.args.site c.merge.new.self _ (rw (c.get.ensures.same, ← c.self.view_is) refl)
-        (e ∙ ap₂ join_views board_reads packet_reads))
+    (e ∙ ap₂ join_views board_reads packet_reads))
     c.merge.ensures.joined
