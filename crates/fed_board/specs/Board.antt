@@ -26,15 +26,24 @@ pub record BoardValue : Type 0 where
 -- the record of a job that has no operation
 abbrev pub no_operation : JobRecordValue
 no_operation = record {
-  fields = record { first = None; second = record { first = None; second = record { first = None; second = record { first = None; second = record { first = None; second = None } } } } };
+  fields = record {
+    first = None;
+    second = record {
+      first = None;
+      second = record {
+        first = None;
+        second = record { first = None; second = record { first = None; second = None } };
+      };
+    };
+  };
   holds = [];
   sites = [];
   stages = record { first = false; second = record { first = None; second = record { first = None; second = None } } };
   touched = replicate 16 0;
 }
 
--- a board stands for a set of operations where it reads as the set's view. A job that is not on the board reads as one without
--- operations, and so does a reservation
+-- a board stands for a set of operations where it reads as the set's view. A job that is not on the board reads as
+-- one without operations, and so does a reservation
 abbrev pub reads : BoardValue → View
 reads b = record {
   version = b.version;
@@ -81,15 +90,18 @@ HasNamed b (Cancel name) = HasReservation b name
 
 -- what two boards merge to, where the records of a job join as said: at each name what the two boards have there,
 -- each beside its version
-abbrev pub merged : (JobRecordValue → List ℕ → JobRecordValue → List ℕ → JobRecordValue) → BoardValue → BoardValue → BoardValue
+abbrev pub merged : (JobRecordValue → List ℕ → JobRecordValue → List ℕ → JobRecordValue) →
+    BoardValue → BoardValue → BoardValue
 merged join_records b c = record {
   version = joined b.version c.version;
   jobs = joined_tables stamp_cmp no_operation join_records b.jobs b.version c.jobs c.version;
-  reservations = joined_tables stamp_cmp None (λ x v y w. joined_registers option_window_cmp x y) b.reservations b.version c.reservations c.version;
+  reservations = joined_tables stamp_cmp None (λ x v y w. joined_registers option_window_cmp x y)
+      b.reservations b.version c.reservations c.version;
 }
 
 -- the board with a change of the record of one job, by the operation with the stamp
-abbrev pub changed_job : (JobRecordValue → StampValue → Operation → JobRecordValue) → BoardValue → StampValue → Operation → StampValue → BoardValue
+abbrev pub changed_job : (JobRecordValue → StampValue → Operation → JobRecordValue) →
+    BoardValue → StampValue → Operation → StampValue → BoardValue
 changed_job applied b at op job = record {
   version = raised b.version at;
   jobs = applied_table stamp_cmp no_operation applied b.jobs at (job, op);
@@ -101,5 +113,7 @@ abbrev pub changed_reservation : BoardValue → StampValue → Operation → Sta
 changed_reservation b at op name = record {
   version = raised b.version at;
   jobs = b.jobs;
-  reservations = applied_table stamp_cmp None (λ r s c. joined_registers option_window_cmp r (with_stamp s (window_change c))) b.reservations at (name, op);
+  reservations = applied_table stamp_cmp None
+      (λ r s c. joined_registers option_window_cmp r (with_stamp s (window_change c)))
+      b.reservations at (name, op);
 }

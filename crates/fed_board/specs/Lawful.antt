@@ -18,14 +18,16 @@ HasBefore ops t s body = Has ops (s, body) × (is_before s t ≡ true)
 
 -- the job that the operation at t names was submitted before
 abbrev pub IsSubmitted : History Body → StampValue → StampValue → Type 0
-IsSubmitted ops t job = (owner : List ℕ) × (values : JobValues) × (held : Bool) × HasBefore ops t job (Submit owner values held)
+IsSubmitted ops t job = (owner : List ℕ) × (values : JobValues) × (held : Bool) ×
+    HasBefore ops t job (Submit owner values held)
 
 -- the reservation that the operation at t names was made before
 abbrev pub IsReserved : History Body → StampValue → StampValue → Type 0
 IsReserved ops t name = (window : Window) × HasBefore ops t name (Reserve window)
 
 -- each pair that the operation at t removes was added before, by an operation of the same job
-abbrev pub HasAdded : {E : Type 0} → (Body → E → Bool) → History Body → StampValue → StampValue → (E → StampValue → Bool) → Type 0
+abbrev pub HasAdded : {E : Type 0} → (Body → E → Bool) → History Body →
+    StampValue → StampValue → (E → StampValue → Bool) → Type 0
 HasAdded {E} adds ops t job removed =
     (element : E) (tag : StampValue) → removed element tag ≡ true →
     (body : Body) × HasBefore ops t tag body × (is_of_job job (tag, body) ≡ true) × (adds body element ≡ true)
@@ -44,9 +46,11 @@ IsGrounded ops t (Hold job kinds) = IsSubmitted ops t job
 IsGrounded ops t (Release job removed) = IsSubmitted ops t job × HasAdded adds_hold ops t job removed
 IsGrounded ops t (Delete job) = IsSubmitted ops t job
 IsGrounded ops t (Grant job site term) = IsSubmitted ops t job × IsNextTerm ops t job term
-IsGrounded ops t (HandBack job term) = IsSubmitted ops t job × ((s : StampValue) × HasBefore ops t s (Grant job t.site term))
+IsGrounded ops t (HandBack job term) =
+    IsSubmitted ops t job × ((s : StampValue) × HasBefore ops t s (Grant job t.site term))
 IsGrounded ops t (Begin job beginning) = IsSubmitted ops t job
-IsGrounded ops t (Finish job ending) = IsSubmitted ops t job × ((s : StampValue) × (beginning : Beginning) × Has ops (s, Begin job beginning))
+IsGrounded ops t (Finish job ending) =
+    IsSubmitted ops t job × ((s : StampValue) × (beginning : Beginning) × Has ops (s, Begin job beginning))
 IsGrounded ops t (Reserve window) = Unit {0}
 IsGrounded ops t (Cancel name) = IsReserved ops t name
 
@@ -67,8 +71,10 @@ pub record IsLawful (ops : History Body) : Type 0 where
   pub grounded : (e : StampValue × Body) → Has ops e → IsGrounded ops e.0 e.1
   pub one_begin : (job s t : StampValue) (a b : Beginning) → Has ops (s, Begin job a) → Has ops (t, Begin job b) → s ≡ t
   pub one_finish : (job s t : StampValue) (a b : Ending) → Has ops (s, Finish job a) → Has ops (t, Finish job b) → s ≡ t
-  pub one_grant : (job s t : StampValue) (a b term : ℕ) → Has ops (s, Grant job a term) → Has ops (t, Grant job b term) → s ≡ t
-  pub one_return : (job s t : StampValue) (term : ℕ) → Has ops (s, HandBack job term) → Has ops (t, HandBack job term) → s ≡ t
+  pub one_grant : (job s t : StampValue) (a b term : ℕ) →
+      Has ops (s, Grant job a term) → Has ops (t, Grant job b term) → s ≡ t
+  pub one_return : (job s t : StampValue) (term : ℕ) →
+      Has ops (s, HandBack job term) → Has ops (t, HandBack job term) → s ≡ t
   pub begun_held : (job s : StampValue) (a : Beginning) → Has ops (s, Begin job a) → IsHolder ops job s.site
 
 -- Two sets are kin where both and their union are lawful and each operation of the one whose stamp the other's
@@ -84,7 +90,10 @@ pub record AreKin (ops others : History Body) : Type 0 where
 -- already, a job begins at the site that holds its grant, and no grant is handed back once the job has begun
 abbrev pub MayFollow : History Body → StampValue → Body → Type 0
 MayFollow ops t (Grant job site term) = (s : StampValue) (other : ℕ) → Has ops (s, Grant job other term) → ⊥
-MayFollow ops t (HandBack job term) = ((s : StampValue) → Has ops (s, HandBack job term) → ⊥) × ((s : StampValue) (a : Beginning) → Has ops (s, Begin job a) → ⊥)
-MayFollow ops t (Begin job beginning) = ((s : StampValue) (a : Beginning) → Has ops (s, Begin job a) → ⊥) × IsHolder ops job t.site
+MayFollow ops t (HandBack job term) =
+    ((s : StampValue) → Has ops (s, HandBack job term) → ⊥) ×
+    ((s : StampValue) (a : Beginning) → Has ops (s, Begin job a) → ⊥)
+MayFollow ops t (Begin job beginning) =
+    ((s : StampValue) (a : Beginning) → Has ops (s, Begin job a) → ⊥) × IsHolder ops job t.site
 MayFollow ops t (Finish job ending) = (s : StampValue) (a : Ending) → Has ops (s, Finish job a) → ⊥
 MayFollow ops t _ = Unit {0}

@@ -15,7 +15,9 @@ unfoldable pub add_to_view : View → StampValue × Body → View
 add_to_view v e = record {
   version = raised v.version e.0;
   job = λ job. if is_of_job job e then add_to_job e.0 e.1 (v.job job) else v.job job;
-  reservation = λ name. if is_of_reservation name e then joined_registers option_window_cmp (v.reservation name) (with_stamp e.0 (window_in e.1)) else v.reservation name;
+  reservation = λ name. if is_of_reservation name e
+      then joined_registers option_window_cmp (v.reservation name) (with_stamp e.0 (window_in e.1))
+      else v.reservation name;
 }
 
 unfoldable pub join_views : View → View → View

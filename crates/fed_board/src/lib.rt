@@ -10,6 +10,3 @@ pub mod readings;
 pub use boards::Board;
 pub use merging::{merging_is_associative, merging_is_commutative, merging_is_idempotent};
 pub use readings::boards_that_read_the_same_are_equal;
-
-#[cfg(test)]
-mod tests;

@@ -10,4 +10,5 @@ is_numeral word = nat_lt 0 (length word) && list_all is_ascii_digit word
 
 -- the number that a word of decimal digits writes, where it is below 2 to the 64
 abbrev pub decimal_of : List ℕ → Option ℕ
-decimal_of word = if is_numeral word && nat_lt (digits_value 10 word) (2 ^ 64) then Some (digits_value 10 word) else None
+decimal_of word = if is_numeral word && nat_lt (digits_value 10 word) (2 ^ 64)
+    then Some (digits_value 10 word) else None

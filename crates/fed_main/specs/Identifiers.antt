@@ -15,7 +15,8 @@ site_named roster name = least_index (is_named roster name) (length roster)
 
 -- the job of a site and a sequence number from 1 to 1,000,000,000
 abbrev pub job_of : Option ℕ → Option ℕ → Option StampValue
-job_of sequence site = option_and_then (λ n. option_and_then (λ s. if nat_le 1 n && nat_le n 1_000_000_000 then Some (record { counter = n; site = s }) else None) site) sequence
+job_of sequence site = option_and_then (λ n. option_and_then (λ s. if nat_le 1 n && nat_le n 1_000_000_000
+    then Some (record { counter = n; site = s }) else None) site) sequence
 
 abbrev pub is_dot : ℕ → Bool
 is_dot byte = byte == 46

@@ -1,10 +1,10 @@
 -- What the words of a line say, after the line that names the sites.
 --
--- For now a part of the script language is run, and this file, `specs/Session.antt` and the sources that meet them alone say which part.
--- After the line `roster NAME:NODES ..` these lines are run: `SITE USER qsub`, `SITE USER qalter -p PRIORITY JOB`, `SITE USER qstat` with
--- one JOB or none, `SITE ship SITE`, `SITE take PACKET` and `equal SITE SITE`. All other words after USER are answered by `usage 1`, also
--- where PRIORITY or JOB is none. A USER with a role can't be read, and neither can `grant`, `begin`, `finish`, `handback` or `plan` behind
--- a site.
+-- For now a part of the script language is run, and this file, `specs/Session.antt` and the sources that meet them
+-- alone say which part. After the line `roster NAME:NODES ..` these lines are run: `SITE USER qsub`,
+-- `SITE USER qalter -p PRIORITY JOB`, `SITE USER qstat` with one JOB or none, `SITE ship SITE`, `SITE take PACKET`
+-- and `equal SITE SITE`. All other words after USER are answered by `usage 1`, also where PRIORITY or JOB is none. A
+-- USER with a role can't be read, and neither can `grant`, `begin`, `finish`, `handback` or `plan` behind a site.
 use Rattle.std.specs.Prelude.{ℕ, Bool, ◌||◌, List, [], ◌∷◌, codes, Some, None, Option, option_map, option_and_then, unwrap_or, if◌then◌else◌}
 use Rattle.std.specs.Str.{bytes_eq}
 use Rattle.fed_stamp.specs.Word.{is_name}
@@ -30,12 +30,15 @@ list_of roster here (job ∷ word ∷ words) = Request.Misused
 abbrev pub prioritize_of : List (List ℕ × ℕ) → ℕ → List (List ℕ) → Request
 prioritize_of roster here [] = Request.Misused
 prioritize_of roster here (priority ∷ []) = Request.Misused
-prioritize_of roster here (priority ∷ job ∷ []) = unwrap_or (option_and_then (λ p. option_map (Request.Prioritize p) (identifier_of roster here job)) (priority_of priority)) Request.Misused
+prioritize_of roster here (priority ∷ job ∷ []) = unwrap_or
+    (option_and_then (λ p. option_map (Request.Prioritize p) (identifier_of roster here job)) (priority_of priority))
+    Request.Misused
 prioritize_of roster here (priority ∷ job ∷ word ∷ words) = Request.Misused
 
 abbrev pub alter_of : List (List ℕ × ℕ) → ℕ → List (List ℕ) → Request
 alter_of roster here [] = Request.Misused
-alter_of roster here (option ∷ words) = if bytes_eq option (codes "-p") then prioritize_of roster here words else Request.Misused
+alter_of roster here (option ∷ words) =
+    if bytes_eq option (codes "-p") then prioritize_of roster here words else Request.Misused
 
 -- what the words after a user ask
 abbrev pub request_of : List (List ℕ × ℕ) → ℕ → List (List ℕ) → Request
@@ -46,7 +49,8 @@ request_of roster here (utility ∷ words) = if bytes_eq utility (codes "qsub") 
 
 -- words behind a site that can't be read yet
 abbrev pub is_unread_verb : List ℕ → Bool
-is_unread_verb word = bytes_eq word (codes "grant") || bytes_eq word (codes "begin") || bytes_eq word (codes "finish") || bytes_eq word (codes "handback") || bytes_eq word (codes "plan")
+is_unread_verb word = bytes_eq word (codes "grant") || bytes_eq word (codes "begin") ||
+    bytes_eq word (codes "finish") || bytes_eq word (codes "handback") || bytes_eq word (codes "plan")
 
 abbrev pub ship_of : List (List ℕ × ℕ) → ℕ → List (List ℕ) → Option Instruction
 ship_of roster site [] = None
@@ -61,7 +65,8 @@ take_of site (number ∷ word ∷ words) = None
 abbrev pub compare_of : List (List ℕ × ℕ) → List (List ℕ) → Option Instruction
 compare_of roster [] = None
 compare_of roster (first ∷ []) = None
-compare_of roster (first ∷ second ∷ []) = option_and_then (λ site. option_map (Compare site) (site_named roster second)) (site_named roster first)
+compare_of roster (first ∷ second ∷ []) =
+    option_and_then (λ site. option_map (Compare site) (site_named roster second)) (site_named roster first)
 compare_of roster (first ∷ second ∷ word ∷ words) = None
 
 abbrev pub ask_of : List (List ℕ × ℕ) → ℕ → List ℕ → List (List ℕ) → Option Instruction
@@ -76,4 +81,6 @@ at_site roster site (word ∷ words) = if bytes_eq word (codes "ship") then ship
 
 -- the words of a line
 abbrev pub instruction_of : List (List ℕ × ℕ) → List ℕ → List (List ℕ) → Option Instruction
-instruction_of roster first words = if bytes_eq first (codes "equal") then compare_of roster words else option_and_then (λ site. at_site roster site words) (site_named roster first)
+instruction_of roster first words = if bytes_eq first (codes "equal")
+    then compare_of roster words
+    else option_and_then (λ site. at_site roster site words) (site_named roster first)

@@ -37,14 +37,17 @@ granted_text roster (Some site) = site_text roster site
 
 -- the fields of a job's line, in their columns
 abbrev pub names : List ℕ → List ℕ → List ℕ → ℕ → List (List ℕ)
-names identifier name owner letter = left_in 18 identifier ∷ left_in 16 name ∷ left_in 16 owner ∷ encode_utf8 letter ∷ []
+names identifier name owner letter =
+    left_in 18 identifier ∷ left_in 16 name ∷ left_in 16 owner ∷ encode_utf8 letter ∷ []
 
 abbrev pub numbers : ℤ → ℕ → ℕ → List ℕ → List (List ℕ)
-numbers priority nodes limit granted = right_in 6 (signed_decimal priority) ∷ right_in 8 (decimal nodes) ∷ right_in 9 (decimal limit) ∷ granted ∷ []
+numbers priority nodes limit granted =
+    right_in 6 (signed_decimal priority) ∷ right_in 8 (decimal nodes) ∷ right_in 9 (decimal limit) ∷ granted ∷ []
 
 -- the line that shows a job: its fields, parted by one space, and a line feed
 abbrev pub line_of : List (List ℕ × ℕ) → ShownJob → List ℕ
-line_of roster job = join_with_byte 32 (names (identifier_text roster job.id) job.name job.owner job.letter ++ numbers job.priority job.nodes job.limit (granted_text roster job.granted)) ++ 10 ∷ []
+line_of roster job = join_with_byte 32 (names (identifier_text roster job.id) job.name job.owner job.letter ++
+    numbers job.priority job.nodes job.limit (granted_text roster job.granted)) ++ 10 ∷ []
 
 -- the letter that stands for the state of a job
 abbrev pub letter_sign : Letter → ℕ
@@ -62,7 +65,16 @@ shown_of id j = if is_submitted j then
     option_and_then (λ (name : StampValue × List ℕ).
     option_and_then (λ (priority : StampValue × ℤ).
     option_and_then (λ (nodes : StampValue × ℕ).
-    option_map (λ (limit : StampValue × ℕ). record { id = id; name = name.1; owner = owner.1; letter = letter_sign letter; priority = priority.1; nodes = nodes.1; limit = limit.1; granted = holder_in j.grant })
+    option_map (λ (limit : StampValue × ℕ). record {
+      id = id;
+      name = name.1;
+      owner = owner.1;
+      letter = letter_sign letter;
+      priority = priority.1;
+      nodes = nodes.1;
+      limit = limit.1;
+      granted = holder_in j.grant;
+    })
     j.limit) j.nodes) j.priority) j.name) j.owner) (letter_of j)
     else None
 

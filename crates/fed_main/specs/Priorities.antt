@@ -9,4 +9,5 @@ is_priority number = int_le (negsuc 1023) number && int_le number (pos 1023)
 
 -- an optional sign, and one or more decimal digits
 abbrev pub priority_of : List ℕ → Option ℤ
-priority_of word = if is_numeral (without_leading_sign word) && is_priority (signed_digits_value 10 word) then Some (signed_digits_value 10 word) else None
+priority_of word = if is_numeral (without_leading_sign word) && is_priority (signed_digits_value 10 word)
+    then Some (signed_digits_value 10 word) else None

@@ -11,7 +11,9 @@ is_colon byte = byte == 58
 
 -- `NAME:NODES`
 abbrev pub site_of : List ℕ → Option (List ℕ × ℕ)
-site_of word = if is_some (position is_colon word) then option_map (λ nodes. (before_first is_colon word, nodes)) (decimal_of (after_first is_colon word)) else None
+site_of word = if is_some (position is_colon word)
+    then option_map (λ nodes. (before_first is_colon word, nodes)) (decimal_of (after_first is_colon word))
+    else None
 
 -- the sites that the words name, where each names one
 abbrev pub sites_in : List (List ℕ) → Option (List (List ℕ × ℕ))
@@ -23,4 +25,5 @@ is_reserved name = bytes_eq name (codes "roster") || bytes_eq name (codes "equal
 
 -- the roster that the words name
 abbrev pub roster_of : List (List ℕ) → Option (List (List ℕ × ℕ))
-roster_of words = option_and_then (λ sites. if list_any (λ site. is_reserved site.0) sites then None else result_ok (ok_unless (first_fault sites) sites)) (sites_in words)
+roster_of words = option_and_then (λ sites. if list_any (λ site. is_reserved site.0) sites
+    then None else result_ok (ok_unless (first_fault sites) sites)) (sites_in words)

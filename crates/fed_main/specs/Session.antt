@@ -1,5 +1,6 @@
--- What the lines of a script do, and the texts that answer them. Both are said over what the boards and packets read as. Of the refusals 1
--- (the job isn't on the board) and 15 (there is no greater counter) are made. A packet is a copy of the whole board.
+-- What the lines of a script do, and the texts that answer them. Both are said over what the boards and packets read
+-- as. Of the refusals 1 (the job isn't on the board) and 15 (there is no greater counter) are made. A packet is a
+-- copy of the whole board.
 use Rattle.std.specs.Prelude.{◌≡◌, ◌≢◌, ℕ, ◌+◌, ◌==◌, nat_le, nat_lt, ℤ, pos, Bool, true, false, ◌&&◌, ◌⊎◌, List, [], ◌∷◌, ◌++◌, length, replicate, codes, slice_index, Some, None, Option, option_map, option_and_then, MatchResult, if◌then◌else◌}
 use Rattle.std.specs.Bool.{MatchBool}
 use Rattle.std.specs.List.{range_with_len}
@@ -44,7 +45,8 @@ can_run f (Compare site other) = nat_lt site (length f.boards) && nat_lt other (
 -- the words of a line, the first of which begins no comment. The first such line names the sites
 abbrev pub told_line : State → List ℕ → List (List ℕ) → Option Line
 told_line None first words = if bytes_eq first (codes "roster") then option_map Begin (roster_of words) else None
-told_line (Some f) first words = option_and_then (λ i. if can_run f i then Some (Run i) else None) (instruction_of f.roster first words)
+told_line (Some f) first words =
+    option_and_then (λ i. if can_run f i then Some (Run i) else None) (instruction_of f.roster first words)
 
 -- a line that is empty or a comment is skipped
 abbrev pub word_line : State → List (List ℕ) → Option Line
@@ -79,20 +81,32 @@ Adds f site body said new text = MatchResult (next_stamp (view_of f site).versio
 
 -- what a job is submitted with
 abbrev pub first_values : List (List ℕ × ℕ) → JobValues
-first_values roster = record { name = codes "STDIN"; priority = pos 0; nodes = 1; limit = 3600; account = None; sites = set_of (range_with_len 0 (length roster)) }
+first_values roster = record {
+  name = codes "STDIN";
+  priority = pos 0;
+  nodes = 1;
+  limit = 3600;
+  account = None;
+  sites = set_of (range_with_len 0 (length roster));
+}
 
 abbrev pub only_priority : ℤ → Changes
-only_priority priority = record { name = None; priority = Some priority; nodes = None; limit = None; account = None; sites = None }
+only_priority priority =
+    record { name = None; priority = Some priority; nodes = None; limit = None; account = None; sites = None }
 
 abbrev pub no_pairs : ℕ → StampValue → Bool
 no_pairs site tag = false
 
 -- what a request does at a site
 abbrev pub Asks : FederationView → ℕ → List ℕ → Request → FederationView → List ℕ → Type 0
-Asks f site user Request.Submit new text = Adds f site (Submit user (first_values f.roster) false) (λ t. answer_line (identifier_text f.roster t)) new text
+Asks f site user Request.Submit new text =
+    Adds f site (Submit user (first_values f.roster) false) (λ t. answer_line (identifier_text f.roster t)) new text
 Asks f site user (Request.Prioritize priority job) new text =
-    MatchBool (is_submitted ((view_of f site).job job)) (Adds f site (Set job (only_priority priority) no_pairs) (λ t. answer_line (codes "done")) new text) (Says f (answer_line (codes "refused 1")) new text)
-Asks f site user Request.ListAll new text = (jobs : List StampValue) × AreJobs (view_of f site) jobs × Says f (listing f.roster (view_of f site) jobs) new text
+    MatchBool (is_submitted ((view_of f site).job job))
+    (Adds f site (Set job (only_priority priority) no_pairs) (λ t. answer_line (codes "done")) new text)
+    (Says f (answer_line (codes "refused 1")) new text)
+Asks f site user Request.ListAll new text =
+    (jobs : List StampValue) × AreJobs (view_of f site) jobs × Says f (listing f.roster (view_of f site) jobs) new text
 Asks f site user (Request.ListOne job) new text = Says f (job_text f.roster job ((view_of f site).job job)) new text
 Asks f site user Request.Misused new text = Says f (answer_line (codes "usage 1")) new text
 
@@ -102,15 +116,19 @@ taken_text old new = answer_line (if is_below new.version old.version then codes
 
 -- a site merges what reads so into its board
 abbrev pub Takes : FederationView → ℕ → View → FederationView → List ℕ → Type 0
-Takes f site v new text = Turns f site (join_views (view_of f site) v) (taken_text (view_of f site) (join_views (view_of f site) v)) new text
+Takes f site v new text =
+    Turns f site (join_views (view_of f site) v) (taken_text (view_of f site) (join_views (view_of f site) v)) new text
 
 -- what an instruction does
 abbrev pub Does : FederationView → Instruction → FederationView → List ℕ → Type 0
 Does f (Ask site user request) new text = Asks f site user request new text
-Does f (Ship site to) new text = (new ≡ record { roster = f.roster; boards = f.boards; packets = f.packets ++ view_of f site ∷ [] }) × (text ≡ answer_line (codes "packet " ++ decimal (length f.packets + 1)))
+Does f (Ship site to) new text =
+    (new ≡ record { roster = f.roster; boards = f.boards; packets = f.packets ++ view_of f site ∷ [] }) ×
+    (text ≡ answer_line (codes "packet " ++ decimal (length f.packets + 1)))
 Does f (Take site packet) new text = Takes f site (packet_of f packet) new text
 Does f (Compare site other) new text =
-    ((view_of f site ≡ view_of f other) × Says f (answer_line (codes "equal")) new text) ⊎ ((view_of f site ≢ view_of f other) × Says f (answer_line (codes "different")) new text)
+    ((view_of f site ≡ view_of f other) × Says f (answer_line (codes "equal")) new text) ⊎
+    ((view_of f site ≢ view_of f other) × Says f (answer_line (codes "different")) new text)
 
 -- what a line does
 abbrev pub Step : State → Line → State → List ℕ → Type 0

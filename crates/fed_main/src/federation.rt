@@ -1,7 +1,7 @@
 //! The sites of a script with their boards, and the packets that were made.
 //!
-//! For now a packet is a copy of the whole board, and of the refusals 1 (the job isn't on the board) and 15 (there is no greater
-//! counter) are made.
+//! For now a packet is a copy of the whole board, and of the refusals 1 (the job isn't on the board) and 15 (there is
+//! no greater counter) are made.
 ghost use Rattle.std.specs.Prelude.{◌≡◌, ◌<◌, ◌≤◌, [], IfOk, OnOk, length, slice_index_or, string_bytes, true, false};
 ghost use Rattle.fed_stamp.specs.Version.{covers};
 ghost use Rattle.fed_record.specs.Operation.{body_of};
@@ -94,7 +94,8 @@ impl Federation {
         requires site { site < length self.old.boards }
         requires fresh { covers (view_of (reads self.old) site).version at ≡ false }
         requires named { HasNamed (board_of self.old site) (body_of operation.now) }
-        ensures { OnOk result (reads self.new ≡ with_view (reads self.old) site (add_to_view (view_of (reads self.old) site) (at, body_of operation.now))) }
+        ensures { OnOk result (reads self.new ≡ with_view (reads self.old) site
+            (add_to_view (view_of (reads self.old) site) (at, body_of operation.now))) }
     {
         let board = &mut self.boards[site.get() as usize];
         board.apply(at, operation)
@@ -103,7 +104,8 @@ impl Federation {
     /// Submits a job.
     fn submit(&mut self, alloc: Global, site: SiteId, user: Word) -> Result<String, NoMemory>
         requires { site < length self.old.boards }
-        ensures { IfOk result (λ text. Asks (reads self.old) site user Request.Submit (reads self.new) (string_bytes text)) }
+        ensures { IfOk result (λ text. Asks (reads self.old) site user Request.Submit (reads self.new)
+            (string_bytes text)) }
     {
         match self.board(site).version().next(site) {
             Ok(at) => {
@@ -128,7 +130,8 @@ impl Federation {
         job: JobId,
     ) -> Result<String, NoMemory>
         requires { site < length self.old.boards }
-        ensures { IfOk result (λ text. Asks (reads self.old) site user (Request.Prioritize priority job) (reads self.new) (string_bytes text)) }
+        ensures { IfOk result (λ text. Asks (reads self.old) site user (Request.Prioritize priority job)
+            (reads self.new) (string_bytes text)) }
     {
         if self.board(site).job(job).is_none() {
             return Ok(String::from_str(alloc, "refused 1\n")?);
@@ -147,7 +150,8 @@ impl Federation {
     /// Lists one job, or nothing where it is not on the board.
     fn list_one(&self, alloc: Global, site: SiteId, job: JobId) -> Result<String, AllocError>
         requires { site < length self.now.boards }
-        ensures { IfOk result (λ text. string_bytes text ≡ text_of_job self.now.roster job ((view_of (reads self.now) site).job job)) }
+        ensures { IfOk result (λ text. string_bytes text ≡ text_of_job self.now.roster job
+            ((view_of (reads self.now) site).job job)) }
     {
         match self.board(site).job(job) {
             Some(held) => job_text(alloc, &self.roster, job, held),
@@ -158,7 +162,8 @@ impl Federation {
     /// Makes a packet of the board of a site.
     fn ship(&mut self, alloc: Global, site: SiteId, to: SiteId) -> Result<String, NoMemory>
         requires { site < length self.old.boards }
-        ensures { IfOk result (λ text. Does (reads self.old) (Instruction.Ship site to) (reads self.new) (string_bytes text)) }
+        ensures { IfOk result (λ text. Does (reads self.old) (Instruction.Ship site to) (reads self.new)
+            (string_bytes text)) }
     {
         let number = self.packets.len() + 1;
         let text = format!(in alloc; "packet {number}\n")?;
@@ -171,7 +176,8 @@ impl Federation {
     fn merge(&mut self, site: SiteId, place: usize) -> Result<(), NoMemory>
         requires site { site < length self.old.boards }
         requires made { place < length self.old.packets }
-        ensures { OnOk result (reads self.new ≡ with_view (reads self.old) site (join_views (view_of (reads self.old) site) (slice_index_or (reads self.old).packets place (view [])))) }
+        ensures { OnOk result (reads self.new ≡ with_view (reads self.old) site
+            (join_views (view_of (reads self.old) site) (slice_index_or (reads self.old).packets place (view [])))) }
     {
         let packet = &self.packets[place];
         let board = &mut self.boards[site.get() as usize];
@@ -183,7 +189,8 @@ impl Federation {
         requires site { site < length self.old.boards }
         requires from_1 { 1 ≤ packet }
         requires made { packet ≤ length self.old.packets }
-        ensures { IfOk result (λ text. Does (reads self.old) (Instruction.Take site packet) (reads self.new) (string_bytes text)) }
+        ensures { IfOk result (λ text. Does (reads self.old) (Instruction.Take site packet) (reads self.new)
+            (string_bytes text)) }
     {
         let before = self.board(site).version();
         self.merge(site, packet as usize - 1)?;
@@ -198,7 +205,8 @@ impl Federation {
     fn compare(&self, alloc: Global, site: SiteId, other: SiteId) -> Result<String, AllocError>
         requires site { site < length self.now.boards }
         requires other { other < length self.now.boards }
-        ensures { IfOk result (λ text. Does (reads self.now) (Instruction.Compare site other) (reads self.now) (string_bytes text)) }
+        ensures { IfOk result (λ text. Does (reads self.now) (Instruction.Compare site other) (reads self.now)
+            (string_bytes text)) }
     {
         let here = self.board(site);
         let there = self.board(other);

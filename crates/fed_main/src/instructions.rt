@@ -1,10 +1,10 @@
 //! What the words of a line say, after the line that names the sites.
 //!
-//! For now a part of the script language is run, and this module, `session`, `federation` and `specs/` say which part. After the
-//! line `roster NAME:NODES ..` these lines are run: `SITE USER qsub`, `SITE USER qalter -p PRIORITY JOB`, `SITE USER qstat` with
-//! one JOB or none, `SITE ship SITE`, `SITE take PACKET` and `equal SITE SITE`. All other words after USER are answered by
-//! `usage 1`, also where PRIORITY or JOB is none. A USER with a role can't be read, and neither can `grant`, `begin`, `finish`,
-//! `handback` or `plan` behind a site.
+//! For now a part of the script language is run, and this module, `session`, `federation` and `specs/` say which
+//! part. After the line `roster NAME:NODES ..` these lines are run: `SITE USER qsub`,
+//! `SITE USER qalter -p PRIORITY JOB`, `SITE USER qstat` with one JOB or none, `SITE ship SITE`, `SITE take PACKET`
+//! and `equal SITE SITE`. All other words after USER are answered by `usage 1`, also where PRIORITY or JOB is none. A
+//! USER with a role can't be read, and neither can `grant`, `begin`, `finish`, `handback` or `plan` behind a site.
 ghost use Rattle.std.specs.Prelude.{◌≡◌, map};
 ghost use Rattle.fed_main.specs.Instructions.{alter_of, ask_of, at_site, compare_of, instruction_of, is_unread_verb, list_of, prioritize_of, request_of, ship_of, submit_of, take_of};
 

@@ -19,6 +19,3 @@ mod session;
 pub use fault::RunFault;
 pub use laws::lines_have_one_answer;
 pub use run::replay;
-
-#[cfg(test)]
-mod tests;

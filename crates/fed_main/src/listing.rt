@@ -67,7 +67,8 @@ fn names_text(
     owner: &str,
     letter: char,
 ) -> Result<String, AllocError>
-    ensures { IfOk result (λ text. string_bytes text ≡ join_with_byte 32 (names identifier.now name.now owner.now letter)) }
+    ensures { IfOk result (λ text.
+        string_bytes text ≡ join_with_byte 32 (names identifier.now name.now owner.now letter)) }
 {
     format!(in alloc; "{identifier:<18} {name:<16} {owner:<16} {letter}")
 }
@@ -85,9 +86,9 @@ fn numbers_text(
     format!(in alloc; "{priority:>6} {nodes:>8} {limit:>9} {granted}")
 }
 
-/// The line of a short listing that shows a job. Its fields are parted by one space: the identifier left in 18 columns, the
-/// name left in 16, the owner left in 16, the letter, the priority right in 6, the nodes right in 8, the limit right in 9, and
-/// the granted site or `-`. A longer field isn't cut. A line feed ends the line.
+/// The line of a short listing that shows a job. Its fields are parted by one space: the identifier left in 18
+/// columns, the name left in 16, the owner left in 16, the letter, the priority right in 6, the nodes right in 8, the
+/// limit right in 9, and the granted site or `-`. A longer field isn't cut. A line feed ends the line.
 pub fn job_line(alloc: Global, roster: &Roster, job: &ShownJob) -> Result<String, AllocError>
     ensures { IfOk result (λ text. string_bytes text ≡ line_of roster.now job.now) }
 {
@@ -161,7 +162,8 @@ pub fn job_text(
 
 /// A line for each job of a board, in the order of their stamps.
 pub fn list(alloc: Global, roster: &Roster, board: &Board) -> Result<String, AllocError>
-    ensures { IfOk result (λ text. (jobs : List StampValue) × AreJobs (reads_board board.now) jobs × (string_bytes text ≡ listing roster.now (reads_board board.now) jobs)) }
+    ensures { IfOk result (λ text. (jobs : List StampValue) × AreJobs (reads_board board.now) jobs ×
+        (string_bytes text ≡ listing roster.now (reads_board board.now) jobs)) }
 {
     let mut text = String::new(alloc);
     for (id, held) in board.jobs() {

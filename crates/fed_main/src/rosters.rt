@@ -8,9 +8,9 @@ use crate::decimals::read_decimal;
 use fed_stamp::Roster;
 use std::alloc::{AllocError, Global};
 
-/// The roster of these words, each `NAME:NODES`, the name of a site, a colon and its number of nodes in decimal digits.
-/// `None` where a word has another form, `Roster::new` refuses the sites, or one of them is named `roster` or `equal`, which
-/// are the first words of other lines.
+/// The roster of these words, each `NAME:NODES`, the name of a site, a colon and its number of nodes in decimal
+/// digits. `None` where a word has another form, `Roster::new` refuses the sites, or one of them is named `roster` or
+/// `equal`, which are the first words of other lines.
 pub fn read_roster(alloc: Global, words: &[&str]) -> Result<Option<Roster>, AllocError>
     ensures { IfOk result (λ roster. roster ≡ roster_of (map (λ word. word.now) words.now)) }
 {
@@ -41,7 +41,8 @@ fn read_sites<'a>(
     alloc: Global,
     words: &[&'a str],
 ) -> Result<Option<Vec<(&'a str, u64)>>, AllocError>
-    ensures { IfOk result (λ sites. option_map (λ s. sites_of s.items) sites ≡ sites_in (map (λ word. word.now) words.now)) }
+    ensures { IfOk result (λ sites.
+        option_map (λ s. sites_of s.items) sites ≡ sites_in (map (λ word. word.now) words.now)) }
 {
     let mut sites = Vec::new(alloc);
     for word in words {

@@ -70,7 +70,8 @@ impl Session {
         first: &str,
         words: &[&str],
     ) -> Result<Option<Line>, AllocError>
-        ensures same { IfOk result (λ line. line ≡ told_line (state_of self.now.federation) first.now (map (λ word. word.now) words.now)) }
+        ensures same { IfOk result (λ line. line ≡ told_line (state_of self.now.federation) first.now
+            (map (λ word. word.now) words.now)) }
         ensures can { IfOk result (λ line. IfSome line (CanDo (state_of self.now.federation))) }
     {
         match &self.federation {
@@ -97,7 +98,8 @@ impl Session {
     }
 
     fn read_words(&self, alloc: Global, words: &[&str]) -> Result<Option<Line>, AllocError>
-        ensures same { IfOk result (λ line. line ≡ word_line (state_of self.now.federation) (map (λ word. word.now) words.now)) }
+        ensures same { IfOk result (λ line. line ≡ word_line (state_of self.now.federation)
+            (map (λ word. word.now) words.now)) }
         ensures can { IfOk result (λ line. IfSome line (CanDo (state_of self.now.federation))) }
     {
         let Some((first, others)) = words.split_first() else {
@@ -124,7 +126,8 @@ impl Session {
     /// Does what a line says, and gives the text that answers it.
     fn do_line(&mut self, alloc: Global, line: Line) -> Result<String, NoMemory>
         requires { CanDo (state_of self.old.federation) line }
-        ensures { IfOk result (λ text. Step (state_of self.old.federation) line (state_of self.new.federation) (string_bytes text)) }
+        ensures { IfOk result (λ text. Step (state_of self.old.federation) line (state_of self.new.federation)
+            (string_bytes text)) }
     {
         match line {
             Line::Skip => Ok(String::new(alloc)),
@@ -141,8 +144,10 @@ impl Session {
 
     /// Runs one line, and gives the text that answers it.
     pub fn run_line(&mut self, alloc: Global, bytes: &[u8]) -> Result<String, LineFault>
-        ensures ok { IfOk result (λ text. MatchOption (line_in (state_of self.old.federation) bytes.now) ⊥ (λ line. Step (state_of self.old.federation) line (state_of self.new.federation) (string_bytes text))) }
-        ensures unreadable { IsErrOf result LineFault.Unreadable → line_in (state_of self.old.federation) bytes.now ≡ None }
+        ensures ok { IfOk result (λ text. MatchOption (line_in (state_of self.old.federation) bytes.now) ⊥
+            (λ line. Step (state_of self.old.federation) line (state_of self.new.federation) (string_bytes text))) }
+        ensures unreadable { IsErrOf result LineFault.Unreadable →
+            line_in (state_of self.old.federation) bytes.now ≡ None }
     {
         match self.read_line(alloc, bytes) {
             Ok(Some(line)) => match self.do_line(alloc, line) {

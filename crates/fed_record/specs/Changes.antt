@@ -18,17 +18,33 @@ use Rattle.fed_record.specs.Pairs.{adds_site, adds_hold}
 
 -- of the six registers, in the order owner, name, priority, nodes, limit, account
 abbrev pub FieldChange : Type 0
-FieldChange = Option (List ℕ) × Option (Option (List ℕ) × Option (Option ℤ × Option (Option ℕ × Option (Option ℕ × Option (Option (List ℕ))))))
+FieldChange = Option (List ℕ) × Option (Option (List ℕ) × Option (Option ℤ ×
+    Option (Option ℕ × Option (Option ℕ × Option (Option (List ℕ))))))
 
 abbrev pub field_change : Operation → FieldChange
-field_change c = (owner_in (body_of c), Some (name_in (body_of c), Some (priority_in (body_of c), Some (nodes_in (body_of c), Some (limit_in (body_of c), account_in (body_of c))))))
+field_change c = (
+  owner_in (body_of c),
+  Some (
+    name_in (body_of c),
+    Some (
+      priority_in (body_of c),
+      Some (nodes_in (body_of c), Some (limit_in (body_of c), account_in (body_of c))),
+    ),
+  ),
+)
 
 -- of the flag of deletion, the stage of grants, and the registers of Begin and Finish
 abbrev pub StageChange : Type 0
 StageChange = Option (Unit {0}) × Option (Option GrantStage × Option (Option Beginning × Option Ending))
 
 abbrev pub stage_change : StampValue × Operation → StageChange
-stage_change e = (deletion_in (body_of e.1), Some (grant_in (e.0, body_of e.1), Some (begin_in (body_of e.1), finish_in (body_of e.1))))
+stage_change e = (
+  deletion_in (body_of e.1),
+  Some (
+    grant_in (e.0, body_of e.1),
+    Some (begin_in (body_of e.1), finish_in (body_of e.1)),
+  ),
+)
 
 -- the pairs of holds that an operation removes, and those of sites
 abbrev pub removed_holds : Operation → List (HoldKind × StampValue)

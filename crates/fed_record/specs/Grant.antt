@@ -36,7 +36,9 @@ site_or_0 (Returned term stamp) = 0
 
 -- by term, then whether it is handed back, then by stamp and site
 abbrev pub grant_cmp : GrantStage → GrantStage → Ordering
-grant_cmp g h = ordering_then (nat_cmp (term_of g) (term_of h)) (ordering_then (nat_cmp (rank_of g) (rank_of h)) (ordering_then (stamp_cmp (stamp_of g) (stamp_of h)) (nat_cmp (site_or_0 g) (site_or_0 h))))
+grant_cmp g h = ordering_then (nat_cmp (term_of g) (term_of h))
+    (ordering_then (nat_cmp (rank_of g) (rank_of h))
+    (ordering_then (stamp_cmp (stamp_of g) (stamp_of h)) (nat_cmp (site_or_0 g) (site_or_0 h))))
 
 -- the stage that an operation brings, if any
 abbrev pub grant_in : StampValue × Body → Option GrantStage

@@ -13,11 +13,14 @@ use Rattle.fed_record.specs.Record.{RecordValue}
 
 -- the registers of the owner, the name, the priority, the nodes, the limit and the account
 abbrev pub FieldsValue : Type 0
-FieldsValue = Both (Option (StampValue × List ℕ)) (Both (Option (StampValue × List ℕ)) (Both (Option (StampValue × ℤ)) (Both (Option (StampValue × ℕ)) (Both (Option (StampValue × ℕ)) (Option (StampValue × Option (List ℕ)))))))
+FieldsValue = Both (Option (StampValue × List ℕ)) (Both (Option (StampValue × List ℕ))
+    (Both (Option (StampValue × ℤ)) (Both (Option (StampValue × ℕ)) (Both (Option (StampValue × ℕ))
+    (Option (StampValue × Option (List ℕ)))))))
 
 -- the flag of deletion, the stage of grants, and the registers of Begin and Finish
 abbrev pub StagesValue : Type 0
-StagesValue = Both Bool (Both (Option GrantStage) (Both (Option (StampValue × Beginning)) (Option (StampValue × Ending))))
+StagesValue = Both Bool (Both (Option GrantStage)
+    (Both (Option (StampValue × Beginning)) (Option (StampValue × Ending))))
 
 abbrev pub JobRecordValue : Type 0
 JobRecordValue = RecordValue FieldsValue StagesValue

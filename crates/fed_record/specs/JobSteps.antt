@@ -22,8 +22,10 @@ add_to_job t body j = record {
   nodes = joined_registers nat_cmp j.nodes (with_stamp t (nodes_in body));
   limit = joined_registers nat_cmp j.limit (with_stamp t (limit_in body));
   account = joined_registers account_cmp j.account (with_stamp t (account_in body));
-  sites = λ site tag. add_live (j.sites site tag) (adds_pair adds_site removes_site site tag (t, body)) (removes_site body site tag);
-  holds = λ kind tag. add_live (j.holds kind tag) (adds_pair adds_hold removes_hold kind tag (t, body)) (removes_hold body kind tag);
+  sites = λ site tag. add_live (j.sites site tag) (adds_pair adds_site removes_site site tag (t, body))
+      (removes_site body site tag);
+  holds = λ kind tag. add_live (j.holds kind tag) (adds_pair adds_hold removes_hold kind tag (t, body))
+      (removes_hold body kind tag);
   deleted = j.deleted || is_some (deletion_in body);
   grant = ord_max (option_cmp grant_cmp) j.grant (grant_in (t, body));
   begun = joined_registers beginning_cmp j.begun (with_stamp t (begin_in body));

@@ -17,7 +17,8 @@ any_below (suc n) test = test n || any_below n test
 
 -- whether a stamp that the version covers passes the test
 abbrev pub any_covered : List ℕ → (StampValue → Bool) → Bool
-any_covered v test = any_below 16 (λ site. any_below (suc (counter_of v site)) (λ counter. test (record { counter = counter; site = site })))
+any_covered v test = any_below 16
+    (λ site. any_below (suc (counter_of v site)) (λ counter. test (record { counter = counter; site = site })))
 
 -- an element is present where it has a live pair, whose tag is the stamp of an operation of the job
 abbrev pub has_site : JobView → ℕ → Bool
@@ -31,7 +32,8 @@ is_held j = has_hold j User || (has_hold j Operator || has_hold j System)
 
 -- a job is there once it is submitted, which sets all its fields
 abbrev pub is_submitted : JobView → Bool
-is_submitted j = is_some j.owner && (is_some j.name && (is_some j.priority && (is_some j.nodes && (is_some j.limit && is_some j.account))))
+is_submitted j = is_some j.owner &&
+    (is_some j.name && (is_some j.priority && (is_some j.nodes && (is_some j.limit && is_some j.account))))
 
 -- the site that a grant is to that is not handed back
 abbrev pub holder_in : Option GrantStage → Option ℕ

@@ -24,7 +24,8 @@ module _ {C E : Type 0} (adds : C → E → Bool) (removes : C → E → StampVa
 
   -- each pair that is removed was added by the operation with its stamp
   abbrev pub RemovesAdded : History C → Type 0
-  RemovesAdded ops = (e : StampValue × C) (element : E) (tag : StampValue) → Has ops e → removes e.1 element tag ≡ true → (c : C) × Has ops (tag, c) × (adds c element ≡ true)
+  RemovesAdded ops = (e : StampValue × C) (element : E) (tag : StampValue) → Has ops e →
+      removes e.1 element tag ≡ true → (c : C) × Has ops (tag, c) × (adds c element ≡ true)
 
 -- of a pair, once one more operation is there: whether it was live, is added, is removed
 abbrev pub add_live : Bool → Bool → Bool → Bool

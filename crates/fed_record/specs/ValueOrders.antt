@@ -17,13 +17,15 @@ abbrev pub account_cmp : Option (List ℕ) → Option (List ℕ) → Ordering
 account_cmp = option_cmp name_cmp
 
 abbrev pub beginning_cmp : Beginning → Beginning → Ordering
-beginning_cmp a b = ordering_then (nat_cmp a.moment b.moment) (ordering_then (nat_cmp a.nodes b.nodes) (nat_cmp a.end b.end))
+beginning_cmp a b = ordering_then (nat_cmp a.moment b.moment)
+    (ordering_then (nat_cmp a.nodes b.nodes) (nat_cmp a.end b.end))
 
 abbrev pub ending_cmp : Ending → Ending → Ordering
 ending_cmp a b = ordering_then (nat_cmp a.moment b.moment) (nat_cmp a.status b.status)
 
 abbrev pub window_cmp : Window → Window → Ordering
-window_cmp a b = ordering_then (nat_cmp a.site b.site) (ordering_then (nat_cmp a.start b.start) (ordering_then (nat_cmp a.end b.end) (nat_cmp a.nodes b.nodes)))
+window_cmp a b = ordering_then (nat_cmp a.site b.site)
+    (ordering_then (nat_cmp a.start b.start) (ordering_then (nat_cmp a.end b.end) (nat_cmp a.nodes b.nodes)))
 
 -- no window, which is that of a cancelled reservation, is below every window
 abbrev pub option_window_cmp : Option Window → Option Window → Ordering

@@ -45,7 +45,9 @@ pub fn joined_records_read()
         reads (⟦<JobRecord as Causal>⟧.joined r v q w) ≡ join_jobs v (reads r) w (reads q) }
 {}
 
-/// A record that stands for the operations of a job, of which different ones have different stamps, reads as their view.
+/// A record that stands for the operations of a job, of which different ones have different stamps, reads as their
+/// view.
 pub fn standing_records_read()
-    ensures { (r : JobRecordValue) (h : History Operation) → OneEach h → ⟦<JobRecord as Causal>⟧.reads r h → reads r ≡ job_view (bodies h) }
+    ensures { (r : JobRecordValue) (h : History Operation) → OneEach h → ⟦<JobRecord as Causal>⟧.reads r h →
+        reads r ≡ job_view (bodies h) }
 {}

@@ -26,7 +26,8 @@ pub fn additions_are_read()
 /// Where two sets agree beside their versions, and each removes only pairs that it added, their union is read
 /// by joining what is read of each.
 pub fn agreeing_sets_join()
-    ensures { (v w : List ℕ) (ops others : History Body) → Agree v ops w others → IsJobHistory ops → IsJobHistory others →
+    ensures { (v w : List ℕ) (ops others : History Body) → Agree v ops w others →
+        IsJobHistory ops → IsJobHistory others →
         job_view (ops ++ others) ≡ join_jobs v (job_view ops) w (job_view others) }
 {}
 

@@ -50,8 +50,3 @@ pub use reservations::Reservation;
 pub use terms::{MAX_TERM, Term};
 pub use values::{Changes, JobValues};
 pub use windows::Window;
-
-#[cfg(test)]
-mod record_tests;
-#[cfg(test)]
-mod tests;

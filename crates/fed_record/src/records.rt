@@ -91,7 +91,8 @@ fn change_tags(
     at: Stamp,
     operation: &Operation,
 ) -> Result<(), NoMemory>
-    ensures holds { OnOk result (holds.new ≡ applied_tags (pair_cmp kind_cmp) holds.old at (hold_change operation.now)) }
+    ensures holds { OnOk result
+        (holds.new ≡ applied_tags (pair_cmp kind_cmp) holds.old at (hold_change operation.now)) }
     ensures sites { OnOk result (sites.new ≡ applied_tags (pair_cmp nat_cmp) sites.old at (site_change operation.now)) }
     ensures holds_unchanged { OnErr result (holds.new ≡ holds.old) }
     ensures sites_unchanged { OnErr result (sites.new ≡ sites.old) }

@@ -18,8 +18,9 @@ use fed_stamp::{Stamp, Version};
 use std::alloc::Global;
 use std::marker::Model;
 
-/// What is read of the operations of one reservation: its greatest stamp, and its window, or no window where the greatest
-/// stamped operation cancels it. A reservation of no operation is not made, and reads as none. It owns no memory.
+/// What is read of the operations of one reservation: its greatest stamp, and its window, or no window where the
+/// greatest stamped operation cancels it. A reservation of no operation is not made, and reads as none. It owns no
+/// memory.
 #[derive(Clone, Copy, PartialEq, Eq, Debug)]
 pub struct Reservation {
     latest: Register<Option<Window>>,
@@ -36,7 +37,8 @@ impl Model for Reservation {
 }
 
 impl Reservation {
-    /// The reservation whose greatest stamp is this, and that stands with the window, or is cancelled where there is none.
+    /// The reservation whose greatest stamp is this, and that stands with the window, or is cancelled where there is
+    /// none.
     pub fn from_parts(stamp: Stamp, window: Option<Window>) -> Reservation
         ensures { result ≡ Some (stamp, window) }
     {
@@ -76,8 +78,8 @@ impl ExactEq for Reservation {
     ghost exact_eq = { tells_reservations };
 }
 
-/// A change is an operation. A `Reserve` sets its window and a `Cancel` none; every other operation leaves the reservation
-/// as it is. Copies, changes and joins take no memory.
+/// A change is an operation. A `Reserve` sets its window and a `Cancel` none; every other operation leaves the
+/// reservation as it is. Copies, changes and joins take no memory.
 impl Causal for Reservation {
     type Change = Operation;
 

@@ -9,7 +9,8 @@ is_name_byte b = is_ascii_alphanumeric b || (b == 95) || (b == 45) || (b == 46)
 
 -- 1 to 15 of these, and the first a letter
 unfoldable pub is_name : List ℕ → Bool
-is_name text = nat_le 1 (length text) && nat_le (length text) 15 && is_ascii_alphabetic (slice_index text 0) && list_all is_name_byte text
+is_name text = nat_le 1 (length text) && nat_le (length text) 15 && is_ascii_alphabetic (slice_index text 0) &&
+    list_all is_name_byte text
 
 -- the bytes, then zeros up to 15
 abbrev pub padded : List ℕ → List ℕ

@@ -17,14 +17,16 @@ pub fn stamps_are_ordered_by_counter_then_site(a: Stamp, b: Stamp) -> bool
 pub fn order_is_partial()
     ensures reflexive { (v : List ℕ) → IsTrue (is_below v v) }
     ensures transitive { (u v w : List ℕ) → IsTrue (is_below u v) → IsTrue (is_below v w) → IsTrue (is_below u w) }
-    ensures antisymmetric { (v w : List ℕ) → length v ≡ length w → IsTrue (is_below v w) → IsTrue (is_below w v) → v ≡ w }
+    ensures antisymmetric { (v w : List ℕ) → length v ≡ length w →
+        IsTrue (is_below v w) → IsTrue (is_below w v) → v ≡ w }
 {}
 
 /// A join is the least version that is above both.
 pub fn join_is_the_least_upper_bound()
     ensures above_left { (v w : List ℕ) → IsTrue (is_below v (joined v w)) }
     ensures above_right { (v w : List ℕ) → IsTrue (is_below w (joined v w)) }
-    ensures least { (u v w : List ℕ) → IsTrue (is_below u w) → IsTrue (is_below v w) → IsTrue (is_below (joined u v) w) }
+    ensures least { (u v w : List ℕ) → IsTrue (is_below u w) → IsTrue (is_below v w) →
+        IsTrue (is_below (joined u v) w) }
 {}
 
 /// Joins may be made in any order, and any number of times.
@@ -43,7 +45,8 @@ pub fn join_covers_what_either_covers()
 pub fn meet_is_the_greatest_lower_bound()
     ensures below_left { (v w : List ℕ) → IsTrue (is_below (met v w) v) }
     ensures below_right { (v w : List ℕ) → IsTrue (is_below (met v w) w) }
-    ensures greatest { (u v w : List ℕ) → IsTrue (is_below u v) → IsTrue (is_below u w) → IsTrue (is_below u (met v w)) }
+    ensures greatest { (u v w : List ℕ) → IsTrue (is_below u v) → IsTrue (is_below u w) →
+        IsTrue (is_below u (met v w)) }
 {}
 
 /// Meets may be made in any order, and any number of times.

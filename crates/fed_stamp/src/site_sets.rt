@@ -29,7 +29,8 @@ impl SiteSet {
     /// The set of these sites, in any order and with any repeats, or `None` where there are none.
     pub fn new(sites: &[SiteId]) -> Option<SiteSet>
         ensures same { result ≡ (if length sites.now == 0 then None else Some (set_of sites.now)) }
-        ensures members { IfSome result (λ set. (site : ℕ) → site < SITES → IsTrue (is_member set site) ↔ Contains sites.now site) }
+        ensures members { IfSome result
+            (λ set. (site : ℕ) → site < SITES → IsTrue (is_member set site) ↔ Contains sites.now site) }
     {
         if sites.is_empty() {
             return None;

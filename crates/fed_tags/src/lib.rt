@@ -13,6 +13,3 @@ pub use changes::TagChange;
 pub use pairs::Pairs;
 pub use sets::TagSet;
 pub use tags::Tags;
-
-#[cfg(test)]
-mod tests;

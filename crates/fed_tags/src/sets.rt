@@ -215,7 +215,8 @@ impl<T: Exact> TagSet<T> {
 
     /// Adds the pairs of one side of a join that stay beside the other side and its version.
     fn keep(&mut self, side: &Self, other: &Self, theirs: &Version) -> Result<(), NoMemory>
-        ensures kept { OnOk result (self.new ≡ inserted (pair_cmp T.cmp) self.old (kept (pair_cmp T.cmp) other.now theirs.now side.now)) }
+        ensures kept { OnOk result (self.new ≡ inserted (pair_cmp T.cmp) self.old
+            (kept (pair_cmp T.cmp) other.now theirs.now side.now)) }
         ensures ascending { OnOk result (IsStrictlySortedBy (pair_cmp T.cmp) side.now) }
     {
         for (element, stamp) in side.iter() {
@@ -235,7 +236,8 @@ impl<T: Exact> TagSet<T> {
         theirs: &Version,
     ) -> Result<TagSet<T>, NoMemory>
         ensures joined { IfOk result (λ r. r ≡ joined_tags (pair_cmp T.cmp) self.now mine.now other.now theirs.now) }
-        ensures ascending { OnOk result (IsStrictlySortedBy (pair_cmp T.cmp) self.now × IsStrictlySortedBy (pair_cmp T.cmp) other.now) }
+        ensures ascending { OnOk result
+            (IsStrictlySortedBy (pair_cmp T.cmp) self.now × IsStrictlySortedBy (pair_cmp T.cmp) other.now) }
     {
         let mut joined = TagSet::new(self.alloc);
         joined.keep(self, other, theirs)?;

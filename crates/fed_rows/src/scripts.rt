@@ -1,7 +1,7 @@
 //! Replaying through readers and writers of memory: whole, in pieces and with faults.
 ghost use Rattle.std.specs.Prelude.{Some};
 
-use super::*;
+use fed_main::{RunFault, replay};
 use std::alloc::Global;
 use std::io::{self, Cursor, ErrorKind, Read, Write};
 use std::test::Fail;

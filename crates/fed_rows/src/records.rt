@@ -3,11 +3,11 @@ ghost use Rattle.std.specs.Prelude.{◌≡◌, IsTrue, IfOk};
 ghost use Rattle.fed_record.specs.JobRecord.{reads};
 ghost use Rattle.fed_record.specs.Letter.{is_submitted as is_job_submitted};
 
-use crate::{
+use fed_lattice::Causal;
+use fed_record::{
     Account, Beginning, Changes, Ending, GrantStage, HoldKind, HoldKinds, JobParts, JobRecord,
     JobValues, Letter, Limit, Moment, Nodes, Operation, Priority, Progress, Record, Term,
 };
-use fed_lattice::Causal;
 use fed_stamp::{JobId, SiteId, SiteSet, Stamp, Version, Word};
 use std::alloc::Global;
 use std::test::Fail;

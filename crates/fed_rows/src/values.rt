@@ -1,9 +1,9 @@
 //! Examples of values.
-use crate::{
+use bitflags::Flags;
+use fed_record::{
     Account, GrantStage, HoldKind, HoldKinds, Limit, Moment, Nodes, Operation, Priority, Refusal,
     Term,
 };
-use bitflags::Flags;
 use fed_stamp::{SiteId, Stamp};
 use std::test::Fail;
 

@@ -1,5 +1,5 @@
 //! Boards of sites that act apart and exchange what they have.
-use crate::Board;
+use fed_board::Board;
 use fed_record::{
     Account, GrantStage, HoldKind, HoldKinds, JobValues, Letter, Limit, Nodes, Operation, Priority,
     Reservation, Term, Window,
