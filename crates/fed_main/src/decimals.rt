@@ -6,7 +6,6 @@ ghost use Rattle.fed_main.specs.Decimals.{decimal_of, is_numeral as has_form_of_
 
 /// The number that a word writes in one or more decimal digits, of which the first may be zeros, or `None` where it has
 /// another form or the number doesn't fit in 64 bits.
-
 pub fn read_decimal(word: &str) -> Option<u64>
     ensures { result ≡ decimal_of word.now }
 {
