@@ -13,3 +13,6 @@ pub use changes::TagChange;
 pub use pairs::Pairs;
 pub use sets::TagSet;
 pub use tags::Tags;
+
+#[cfg(test)]
+mod tests;
