@@ -1,5 +1,5 @@
 -- Kinds of holds.
-use Rattle.std.specs.Prelude.{ℕ, Bool, true, false, ◌==◌, bit_and}
+use Rattle.std.specs.Prelude.{ℕ, Bool, true, false, if◌then◌else◌, ◌+◌, ◌==◌, bit_and}
 use Rattle.std.specs.declared.cmp.Ordering.{Ordering}
 use Rattle.std.specs.Ordering.{nat_cmp}
 use Rattle.fed_record.specs.declared.holds.HoldKind.{HoldKind}
@@ -11,6 +11,14 @@ abbrev pub bit_of : HoldKind → ℕ
 bit_of User = 1
 bit_of Operator = 2
 bit_of System = 4
+
+-- the bit of a kind that is present, and 0 for one that is not
+abbrev pub bit_where : Bool → HoldKind → ℕ
+bit_where present kind = if present then bit_of kind else 0
+
+-- the number of the set of the kinds for which the argument is true: the sum of their bits, and no other bit
+abbrev pub sum_of_bits : Bool → Bool → Bool → ℕ
+sum_of_bits user operator system = bit_where user User + bit_where operator Operator + bit_where system System
 
 -- the kind is in the set
 abbrev pub has_kind : HoldKinds → HoldKind → Bool

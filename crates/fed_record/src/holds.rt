@@ -2,7 +2,7 @@
 ghost use Rattle.std.specs.Prelude.{⊤, ◌≡◌, [], ◌∷◌, Some, codes, refl};
 ghost use Rattle.std.specs.Ordering.{eq_by_cmp};
 ghost use Rattle.std.specs.Cmp.{partial_equiv_from_equiv, eq_by_cmp_equiv, po};
-ghost use Rattle.fed_record.specs.Hold.{bit_of, has_kind, kind_cmp};
+ghost use Rattle.fed_record.specs.Hold.{bit_of, sum_of_bits, has_kind, kind_cmp};
 ghost use Rattle.fed_record.specs.HoldLaws.{kind_total};
 
 use bitflags::{Flag, Flags, bitflag_items};
@@ -65,11 +65,12 @@ impl HoldKinds {
         }
     }
 
-    /// The set of the kinds for which the argument is true. A set is a sum of bits.
+    /// The set of the kinds for which the argument is true: the sum of their bits, and no other bit.
     pub fn made_of(user: bool, operator: bool, system: bool) -> HoldKinds
         ensures user { has_kind result HoldKind.User ≡ user }
         ensures operator { has_kind result HoldKind.Operator ≡ operator }
         ensures system { has_kind result HoldKind.System ≡ system }
+        ensures sum { result ≡ record { 0 = sum_of_bits user operator system } }
     {
         match (user, operator, system) {
             (false, false, false) => HoldKinds(0),

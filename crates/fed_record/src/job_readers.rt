@@ -7,7 +7,7 @@ ghost use Rattle.fed_lattice.specs.Sets.{Has};
 ghost use Rattle.fed_stamp.specs.declared.sites.SiteId.{SiteId};
 ghost use Rattle.fed_record.specs.declared.holds.HoldKind.{HoldKind};
 ghost use Rattle.fed_tags.specs.Tags.{pair_cmp};
-ghost use Rattle.fed_record.specs.Hold.{kind_cmp, has_kind};
+ghost use Rattle.fed_record.specs.Hold.{kind_cmp, has_kind, sum_of_bits};
 ghost use Rattle.fed_record.specs.Record.{AreCovered};
 ghost use Rattle.fed_record.specs.JobRecord.{reads};
 ghost use Rattle.fed_record.specs.Letter.{is_submitted as is_job_submitted, is_held as is_job_held, has_hold as is_hold_present, has_site as is_site_present, letter as letter_of};
@@ -120,9 +120,11 @@ impl Record<Fields, Stages> {
         self.sites.has(&site)
     }
 
-    /// The kinds of holds that are present.
+    /// The kinds of holds that are present: the sum of their bits, and no other bit.
     pub fn holds(&self) -> HoldKinds
-        ensures { (kind : HoldKind) → has_kind result kind ≡ is_hold_present (reads self.now) kind }
+        ensures kinds { (kind : HoldKind) → has_kind result kind ≡ is_hold_present (reads self.now) kind }
+        ensures sum { let has = is_hold_present (reads self.now) in
+            result ≡ record { 0 = sum_of_bits (has HoldKind.User) (has HoldKind.Operator) (has HoldKind.System) } }
     {
         HoldKinds::made_of(
             self.has_hold(HoldKind::User),

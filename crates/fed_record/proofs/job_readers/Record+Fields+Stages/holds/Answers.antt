@@ -3,7 +3,7 @@ use Rattle.fed_record.specs.declared.holds.HoldKind.TheVariants.{User, Operator,
 use Rattle.fed_record.proofs.job_readers.Record+Fields+Stages.holds.Goals as goal
 
 -- each kind is in the set exactly where a hold of it is present
-pub returns : goal.returns
-returns c User = c.made_of.ensures.user ∙ c.has_hold.ensures
-returns c Operator = c.made_of.ensures.operator ∙ c.has_hold-2.ensures
-returns c System = c.made_of.ensures.system ∙ c.has_hold-3.ensures
+pub returns-clause-kinds : goal.returns-clause-kinds
+returns-clause-kinds c User = c.made_of.ensures.user ∙ c.has_hold.ensures
+returns-clause-kinds c Operator = c.made_of.ensures.operator ∙ c.has_hold-2.ensures
+returns-clause-kinds c System = c.made_of.ensures.system ∙ c.has_hold-3.ensures
