@@ -1,15 +1,18 @@
 //! Reservations of nodes.
 ghost use Rattle.std.specs.Prelude.{◌≡◌, ◌↔◌, None, Some, IsTrue, IsSome, IfSome, refl};
+ghost use Rattle.fed_lattice.specs.History.{History, OneEach};
 ghost use Rattle.fed_lattice.specs.Part.{part};
 ghost use Rattle.fed_lattice.specs.PartLaws.{same_part};
 ghost use Rattle.fed_lattice.specs.Register.{stamped_cmp, joined_registers, register_reads};
 ghost use Rattle.fed_lattice.specs.RegisterLaws.{stamped_total, exact_stamped, register_reads_same};
 ghost use Rattle.fed_lattice.specs.GreatestLaws.{option_max_assoc, option_max_comm, option_max_itself};
 ghost use Rattle.fed_lattice.specs.Stamped.{with_stamp};
-ghost use Rattle.fed_record.specs.Reservation.{window_change};
+ghost use Rattle.fed_record.specs.Operation.{bodies};
+ghost use Rattle.fed_record.specs.Reservation.{ReservationView, reservation_view, window_change};
 ghost use Rattle.fed_record.specs.ReservationLaws.{exact_option_window, tells_reservations, reservation_applied_reads, reservation_joined_reads};
 ghost use Rattle.fed_record.specs.ValueOrders.{option_window_cmp};
 ghost use Rattle.fed_record.specs.ValueOrderLaws.{option_window_total};
+ghost use Rattle.fed_record.specs.declared.operations.Operation.{Operation};
 
 use crate::operations::Operation;
 use crate::windows::Window;
@@ -143,3 +146,11 @@ impl Causal for Reservation {
 
     ghost reads_same = { λ x g h e p. register_reads_same x (part window_change g) (part window_change h) (same_part window_change g h e) p };
 }
+
+/// A reservation that stands for a history of operations, of which different ones have different stamps, is their
+/// view: the greatest stamp among those that reserve or cancel, with the window of that operation, or with no window
+/// where it cancels. Where none of them reserves or cancels, the reservation is not made.
+pub fn standing_reservations_read()
+    ensures { (r : ReservationView) (h : History Operation) → OneEach h → ⟦<Reservation as Causal>⟧.reads r h →
+        r ≡ reservation_view (bodies h) }
+{}
