@@ -4,7 +4,7 @@ use Rattle.std.specs.Map.{keys_of, values_of, lookup}
 use Rattle.std.specs.List.Sorted.{IsStrictlySortedBy}
 use Rattle.std.specs.Option.{option_cmp}
 use Rattle.std.specs.Ordering.{is_lt}
-use Rattle.std.proofs.Common.{◌≡◌, ◌⊎◌, ℕ, List, All, Bool, true, false, cond, ◌||◌, Option, Some, None, is_some, IsSome, IfSome, MatchOption, unwrap_or, refl, sym, ap, subst, ◌∙◌, inl, inr}
+use Rattle.std.proofs.Common.{◌≡◌, ◌⊎◌, ℕ, ◌<◌, List, All, Bool, true, false, cond, ◌||◌, Option, Some, None, is_some, IsSome, IfSome, MatchOption, unwrap_or, refl, sym, ap, subst, ◌∙◌, inl, inr}
 use Rattle.std.proofs.lemmas.Option.{IfSome_then}
 use Rattle.fed_stamp.specs.Stamp.{StampValue}
 use Rattle.fed_stamp.specs.Version.{covers, joined, raised, is_below}
@@ -27,6 +27,8 @@ use Rattle.fed_record.specs.Operation.{body_of}
 use Rattle.fed_record.specs.Reservation.{ReservationView}
 use Rattle.fed_record.specs.ValueOrders.{option_window_cmp}
 use Rattle.fed_board.specs.Board.{BoardValue, IsBoard, IsKnownJob, IsKnownReservation, HasJob, HasNamed, no_operation, merged, changed_job, changed_reservation}
+use Rattle.fed_board.specs.CoveredJob.{IsCoveredJob}
+use Rattle.fed_board.proofs.CoveredJobs.{covered_added, covered_joined, covered_nothing}
 use Rattle.fed_board.proofs.SubmittedJobs.{submitted_added, submitted_by, submitted_left, submitted_right}
 use Rattle.fed_board.proofs.VersionGrowth.{below_raised, covers_raised, raised_below, zeros_below, joined_below}
 
@@ -38,6 +40,10 @@ from_some x y e = cc
 touched_below : (v : List ℕ) (job : StampValue) (a : Option JobRecordValue) → IfSome a (IsKnownJob v job) → is_below (unwrap_or a no_operation).touched v ≡ true
 touched_below v job None p = zeros_below 16 v
 touched_below v job (Some r) p = p.touched
+
+stamps_covered : (v : List ℕ) (job : StampValue) (a : Option JobRecordValue) → IfSome a (IsKnownJob v job) → IsCoveredJob (reads_job (unwrap_or a no_operation))
+stamps_covered v job None p = covered_nothing
+stamps_covered v job (Some r) p = p.stamps
 
 present_known : (v : List ℕ) (job : StampValue) (a : Option JobRecordValue) → IfSome a (IsKnownJob v job) → IsSome a → IsKnownJob v job (unwrap_or a no_operation)
 present_known v job None p i = cc
@@ -68,6 +74,7 @@ later_job v at job r k = record {
   named = covers_raised v at job k.named;
   submitted = k.submitted;
   touched = below_trans r.touched v (raised v at) k.touched (below_raised v at);
+  stamps = k.stamps;
 }
 
 -- ---- reservations
@@ -125,29 +132,32 @@ module _ (applied : JobRecordValue → StampValue → Operation → JobRecordVal
   unfolding add_to_job
   applied_touched r s c = ap (λ (j : JobView). j.touched) (law r s c)
 
-  changed_known : (b : BoardValue) (at job : StampValue) (op : Operation) → IsBoard b → covers (raised b.version at) at ≡ true → job_of at (body_of op) ≡ Some job → HasNamed b (body_of op)
+  changed_known : (b : BoardValue) (at job : StampValue) (op : Operation) → IsBoard b → at.site < 16 → covers (raised b.version at) at ≡ true → job_of at (body_of op) ≡ Some job → HasNamed b (body_of op)
       → IsKnownJob (raised b.version at) job (applied (unwrap_or (lookup (is_at (stamp_cmp job)) b.jobs) no_operation) at op)
-  changed_known b at job op i seen of n =
+  changed_known b at job op i small seen of n =
       let v = b.version in
       let a = lookup (is_at (stamp_cmp job)) b.jobs in
       let r : JobRecordValue = unwrap_or a no_operation in
       let below = subst (λ t. is_below t (raised v at) ≡ true) (sym (applied_touched r at op)) (raised_below r.touched v at seen (touched_below v job a (i.jobs job))) in
+      let stamps = subst IsCoveredJob (sym (law r at op)) (covered_added at (body_of op) (reads_job r) small (stamps_covered v job a (i.jobs job))) in
       elim (named_job b at job (body_of op) of n) [
         | inl here ↦ let k = present_known v job a (i.jobs job) here in record {
           named = covers_raised v at job k.named;
           submitted = ap is_submitted (law r at op) ∙ submitted_added at (body_of op) (reads_job r) k.submitted;
           touched = below;
+          stamps = stamps;
         }
         | inr new ↦ record {
           named = subst (λ s. covers (raised v at) s ≡ true) (sym new.0) seen;
           submitted = ap is_submitted (law r at op) ∙ new.1 at (reads_job r);
           touched = below;
+          stamps = stamps;
         }
       ]
 
-  pub changed_job_keeps : (b : BoardValue) (at job : StampValue) (op : Operation) → IsBoard b → covers (raised b.version at) at ≡ true → job_of at (body_of op) ≡ Some job → HasNamed b (body_of op) → IsBoard (changed_job applied b at op job)
-  changed_job_keeps b at job op i seen of n = record {
-    jobs = each_insert_entry stamp_cmp stamp_total exact_stamp (IsKnownJob (raised b.version at)) b.jobs job _ (λ k. IfSome_then _ (i.jobs k) (λ r. later_job b.version at k r)) (changed_known b at job op i seen of n);
+  pub changed_job_keeps : (b : BoardValue) (at job : StampValue) (op : Operation) → IsBoard b → at.site < 16 → covers (raised b.version at) at ≡ true → job_of at (body_of op) ≡ Some job → HasNamed b (body_of op) → IsBoard (changed_job applied b at op job)
+  changed_job_keeps b at job op i small seen of n = record {
+    jobs = each_insert_entry stamp_cmp stamp_total exact_stamp (IsKnownJob (raised b.version at)) b.jobs job _ (λ k. IfSome_then _ (i.jobs k) (λ r. later_job b.version at k r)) (changed_known b at job op i small seen of n);
     reservations = λ k. IfSome_then _ (i.reservations k) (λ r. later_reservation b.version at k r);
   }
 
@@ -197,20 +207,24 @@ module _ (join : JobRecordValue → List ℕ → JobRecordValue → List ℕ →
       let r : JobRecordValue = unwrap_or x no_operation in
       let s : JobRecordValue = unwrap_or y no_operation in
       let below = subst (λ t. is_below t (joined v w) ≡ true) (sym (join_touched r s v w)) (joined_below r.touched s.touched v w (touched_below v job x p) (touched_below w job y q)) in
-      either x y p q e below where
+      let stamps = subst IsCoveredJob (sym (law r s v w)) (covered_joined v w (reads_job r) (reads_job s) (stamps_covered v job x p) (stamps_covered w job y q)) in
+      either x y p q e below stamps where
         either : (x y : Option JobRecordValue) → IfSome x (IsKnownJob v job) → IfSome y (IsKnownJob w job) → (is_some x || is_some y) ≡ true
             → is_below (join (unwrap_or x no_operation) v (unwrap_or y no_operation) w).touched (joined v w) ≡ true
+            → IsCoveredJob (reads_job (join (unwrap_or x no_operation) v (unwrap_or y no_operation) w))
             → IsKnownJob (joined v w) job (join (unwrap_or x no_operation) v (unwrap_or y no_operation) w)
-        either None None p q e below = cc
-        either None (Some s) p q e below = record {
+        either None None p q e below stamps = cc
+        either None (Some s) p q e below stamps = record {
           named = covers_more w (joined v w) job (below_joined_right v w) q.named;
           submitted = ap is_submitted (law no_operation s v w) ∙ submitted_right v w (reads_job no_operation) (reads_job s) q.submitted;
           touched = below;
+          stamps = stamps;
         }
-        either (Some r) y p q e below = record {
+        either (Some r) y p q e below stamps = record {
           named = covers_more v (joined v w) job (below_joined_left v w) p.named;
           submitted = ap is_submitted (law r (unwrap_or y no_operation) v w) ∙ submitted_left v w (reads_job r) (reads_job (unwrap_or y no_operation)) p.submitted;
           touched = below;
+          stamps = stamps;
         }
 
   joined_known_reservation : (v w : List ℕ) (name : StampValue) (x y : Option ReservationView) → IfSome x (IsKnownReservation v name) → IfSome y (IsKnownReservation w name) → (is_some x || is_some y) ≡ true

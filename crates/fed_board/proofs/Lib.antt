@@ -9,6 +9,7 @@ pub mod KinScene
 pub mod GrantScene
 pub mod VersionGrowth
 pub mod SubmittedJobs
+pub mod CoveredJobs
 pub mod BoardReads
 pub mod BoardKeeps
 pub mod CountLaws

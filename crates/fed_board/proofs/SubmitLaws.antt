@@ -1,23 +1,20 @@
--- Which jobs a set knows.
-use Rattle.std.proofs.Common.{◌≡◌, ℕ, List, [], Bool, true, false, ap, subst}
+-- Which jobs and reservations a set knows.
+use Rattle.std.specs.Prelude.{is_some}
+use Rattle.std.proofs.Common.{◌≡◌, ℕ, List, [], Bool, true, false, Some, refl, ap, subst}
 use Rattle.std.proofs.lemmas.Bool.{both_ways}
 use Rattle.fed_stamp.specs.Stamp.{StampValue}
 use Rattle.fed_lattice.specs.Sets.{Has}
 use Rattle.fed_lattice.specs.SetLaws.{empty_from_none}
 use Rattle.fed_lattice.specs.History.{History}
 use Rattle.fed_lattice.specs.FilterLaws.{Has-filter, filter-Has}
-use Rattle.fed_record.specs.declared.values.JobValues.{JobValues}
-use Rattle.fed_record.specs.Body.{Body, Body.Submit, Body.Set, Body.Hold, Body.Release, Body.Delete, Body.Grant, Body.HandBack, Body.Begin, Body.Finish, same_stamp, is_of_job, of_job}
+use Rattle.fed_record.specs.Body.{Body, Body.Submit, Body.Set, Body.Hold, Body.Release, Body.Delete, Body.Grant, Body.HandBack, Body.Begin, Body.Finish, Body.Reserve, Body.Cancel, same_stamp, is_of_job, of_job, is_of_reservation, of_reservation}
+use Rattle.fed_record.specs.Field.{window_in, field}
 use Rattle.fed_record.specs.JobView.{job_view}
 use Rattle.fed_record.specs.Letter.{is_submitted}
-use Rattle.fed_record.proofs.FoundLaws.{submit_found, submitted_from}
+use Rattle.fed_record.proofs.FoundLaws.{some_found, field_found, said_found, submit_found, submitted_from}
 use Rattle.fed_record.proofs.PairLaws.{same_stamp_is, same_stamp_itself}
-use Rattle.fed_board.specs.View.{view}
+use Rattle.fed_board.specs.View.{view, HasSubmit, HasReserve}
 use Rattle.fed_board.specs.Lawful.{IsSubmitted, IsGrounded, IsLawful}
-
--- the set has the Submit of the job
-abbrev pub HasSubmit : History Body → StampValue → Type 0
-HasSubmit ops job = (owner : List ℕ) × (values : JobValues) × (held : Bool) × Has ops (job, Submit owner values held)
 
 module _ (ops : History Body) (job : StampValue) where
   pub submit_of : is_submitted ((view ops).job job) ≡ true → HasSubmit ops job
@@ -53,3 +50,20 @@ module _ (ops : History Body) (job : StampValue) where
 
   pub unknown_view : IsLawful ops → is_submitted ((view ops).job job) ≡ false → (view ops).job job ≡ job_view []
   unknown_view l e = ap job_view (unknown_job l e)
+
+module _ (ops : History Body) (name : StampValue) where
+  -- the reservation of an operation of a lawful set was made in it
+  made_by : (t : StampValue) (body : Body) → Has ops (t, body) → IsGrounded ops t body → is_of_reservation name (t, body) ≡ true → HasReserve ops name
+  made_by t (Reserve window) h g of = (window, subst (λ (n : StampValue). Has ops (n, Reserve window)) (same_stamp_is t name of) h)
+  made_by t (Cancel other) h g of = (g.0, subst (λ (n : StampValue). Has ops (n, Reserve g.0)) (same_stamp_is other name of) g.1.0)
+  made_by t _ h g of = cc
+
+  pub reserve_of : IsLawful ops → is_some ((view ops).reservation name) ≡ true → HasReserve ops name
+  reserve_of l e =
+      let o = some_found (field window_in (of_reservation name ops)) e in
+      let f = field_found window_in (of_reservation name ops) o.0 o.1 in
+      let m = Has-filter (is_of_reservation name) ops (o.0.0, f.0) f.1 in
+      made_by o.0.0 f.0 m.0 (l.grounded (o.0.0, f.0) m.0) m.1
+
+  pub made_from : HasReserve ops name → is_some ((view ops).reservation name) ≡ true
+  made_from r = said_found window_in (Some r.0) (of_reservation name ops) name (Reserve r.0) (filter-Has (is_of_reservation name) ops (name, Reserve r.0) r.1 (same_stamp_itself name)) refl

@@ -1,6 +1,6 @@
 -- What a version that has grown covers.
-use Rattle.std.proofs.Common.{◌≡◌, ℕ, zero, suc, ◌≤◌, true, replicate, List, refl, subst, arith, inl, inr}
-use Rattle.std.proofs.lemmas.Bool.{leb-true}
+use Rattle.std.proofs.Common.{◌≡◌, ℕ, zero, suc, ◌≤◌, ◌<◌, max, true, replicate, List, length, get_or-set_same, refl, subst, arith, inl, inr}
+use Rattle.std.proofs.lemmas.Bool.{leb-true, le-leb}
 use Rattle.fed_stamp.specs.Stamp.{StampValue}
 use Rattle.fed_stamp.specs.Version.{counter_of, covers, joined, raised, is_below}
 use Rattle.fed_stamp.proofs.VersionLaws.{below_from_each, each_from_below, below_trans, below_joined_left, below_joined_right, covers_more, joined_least}
@@ -14,6 +14,12 @@ below_raised v s = below_from_each v (raised v s) (λ i. elim (raised_cases v s 
 
 pub covers_raised : (v : List ℕ) (s t : StampValue) → covers v t ≡ true → covers (raised v s) t ≡ true
 covers_raised v s t = covers_more v (raised v s) t (below_raised v s)
+
+-- a raised version covers the stamp
+pub own_raised : (v : List ℕ) (s : StampValue) → s.site < length v → covers (raised v s) s ≡ true
+own_raised v s small =
+    let e : counter_of (raised v s) s.site ≡ max (counter_of v s.site) s.counter = get_or-set_same v s.site _ 0 small in
+    le-leb s.counter (counter_of (raised v s) s.site) (omega arith)
 
 -- a version below another stays so where both see one more stamp
 pub raised_below : (t v : List ℕ) (s : StampValue) → covers (raised v s) s ≡ true → is_below t v ≡ true → is_below (raised t s) (raised v s) ≡ true

@@ -15,6 +15,7 @@ use Rattle.fed_record.specs.JobRecord.{JobRecordValue, reads as reads_job}
 use Rattle.fed_record.specs.Letter.{is_submitted}
 use Rattle.fed_record.specs.Reservation.{ReservationView, window_change}
 use Rattle.fed_record.specs.ValueOrders.{option_window_cmp}
+use Rattle.fed_board.specs.CoveredJob.{IsCoveredJob}
 use Rattle.fed_board.specs.View.{View}
 
 -- a version, the records of jobs by the stamps of their Submits, and the reservations by the stamps of their Reserves
@@ -51,11 +52,13 @@ reads b = record {
   reservation = λ name. value_at stamp_cmp None b.reservations name;
 }
 
--- of a board of the version: the job's name is covered, the job is submitted, and its operations are covered
+-- of a board of the version: the job's name is covered, the job is submitted, its operations are covered, and every
+-- stamp and every tag that is read of it is one of its operations', so far as their version tells
 pub record IsKnownJob (version : List ℕ) (job : StampValue) (r : JobRecordValue) : Type 0 where
   pub named : covers version job ≡ true
   pub submitted : is_submitted (reads_job r) ≡ true
   pub touched : is_below r.touched version ≡ true
+  pub stamps : IsCoveredJob (reads_job r)
 
 -- the reservation's name is covered, the reservation is made, and its greatest stamp is covered
 pub record IsKnownReservation (version : List ℕ) (name : StampValue) (r : ReservationView) : Type 0 where

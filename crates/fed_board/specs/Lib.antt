@@ -2,6 +2,7 @@
 pub mod View
 pub mod ViewSteps
 pub mod Lawful
+pub mod CoveredJob
 pub mod Board
 pub mod Counts
 pub mod BoardLaws

@@ -1,9 +1,12 @@
 -- What a set of operations says as a whole.
-use Rattle.std.specs.Prelude.{ℕ, List}
+use Rattle.std.specs.Prelude.{ℕ, Bool, List}
 use Rattle.fed_stamp.specs.Stamp.{StampValue}
+use Rattle.fed_lattice.specs.Sets.{Has}
 use Rattle.fed_lattice.specs.History.{History}
 use Rattle.fed_lattice.specs.VersionOf.{version_of}
-use Rattle.fed_record.specs.Body.{Body, of_job, of_reservation}
+use Rattle.fed_record.specs.declared.values.JobValues.{JobValues}
+use Rattle.fed_record.specs.declared.windows.Window.{Window}
+use Rattle.fed_record.specs.Body.{Body, Body.Submit, Body.Reserve, of_job, of_reservation}
 use Rattle.fed_record.specs.JobView.{JobView, job_view}
 use Rattle.fed_record.specs.Reservation.{ReservationView, reservation_view}
 
@@ -20,3 +23,11 @@ view ops = record {
   job = λ job. job_view (of_job job ops);
   reservation = λ name. reservation_view (of_reservation name ops);
 }
+
+-- the set has the Submit of the job
+abbrev pub HasSubmit : History Body → StampValue → Type 0
+HasSubmit ops job = (owner : List ℕ) × (values : JobValues) × (held : Bool) × Has ops (job, Submit owner values held)
+
+-- the set has the Reserve of the reservation
+abbrev pub HasReserve : History Body → StampValue → Type 0
+HasReserve ops name = (window : Window) × Has ops (name, Reserve window)

@@ -1,15 +1,15 @@
 //! Laws of what is read of sets of operations, over every set. Each function does nothing: its contract is the
 //! law.
-ghost use Rattle.std.specs.Prelude.{◌≡◌, ◌<◌, true, false, [], ◌∷◌, ◌++◌, IfSome};
+ghost use Rattle.std.specs.Prelude.{◌≡◌, ◌<◌, ◌↔◌, true, false, [], ◌∷◌, ◌++◌, IfSome, IsSome, IsTrue};
 ghost use Rattle.fed_stamp.specs.Stamp.{StampValue};
 ghost use Rattle.fed_stamp.specs.Version.{covers, is_below};
 ghost use Rattle.fed_lattice.specs.Sets.{IsSameSet};
 ghost use Rattle.fed_lattice.specs.History.{History, OneEach, IsFresh};
 ghost use Rattle.fed_lattice.specs.VersionOf.{version_of};
-ghost use Rattle.fed_record.specs.Body.{Body};
+ghost use Rattle.fed_record.specs.Body.{Body, of_job};
 ghost use Rattle.fed_record.specs.JobView.{job_view};
 ghost use Rattle.fed_record.specs.Letter.{is_submitted};
-ghost use Rattle.fed_board.specs.View.{view};
+ghost use Rattle.fed_board.specs.View.{view, HasSubmit, HasReserve};
 ghost use Rattle.fed_board.specs.ViewSteps.{add_to_view, join_views};
 ghost use Rattle.fed_board.specs.Lawful.{IsGrounded, IsLawful, AreKin, MayFollow};
 
@@ -55,8 +55,22 @@ pub fn lawful_sets_grow()
         IsGrounded (ops ++ e ∷ []) e.0 e.1 → MayFollow ops e.0 e.1 → IsLawful (ops ++ e ∷ []) }
 {}
 
-/// In a lawful set a job reads as submitted, or no operation is of it and nothing is read of it.
+/// A job reads as submitted exactly where the set has its `Submit`.
+pub fn submitted_jobs_have_their_submit()
+    ensures { (ops : History Body) (job : StampValue) →
+        IsTrue (is_submitted ((view ops).job job)) ↔ HasSubmit ops job }
+{}
+
+/// In a lawful set a reservation reads as made exactly where the set has its `Reserve`.
+pub fn made_reservations_have_their_reserve()
+    ensures { (ops : History Body) (name : StampValue) → IsLawful ops →
+        IsSome ((view ops).reservation name) ↔ HasReserve ops name }
+{}
+
+/// In a lawful set no operation is of a job that is not submitted, and nothing is read of it.
 pub fn jobs_are_submitted_or_unknown()
-    ensures { (ops : History Body) (job : StampValue) → IsLawful ops → is_submitted ((view ops).job job) ≡ false →
-        (view ops).job job ≡ job_view [] }
+    ensures operations { (ops : History Body) (job : StampValue) → IsLawful ops →
+        is_submitted ((view ops).job job) ≡ false → of_job job ops ≡ [] }
+    ensures reads { (ops : History Body) (job : StampValue) → IsLawful ops →
+        is_submitted ((view ops).job job) ≡ false → (view ops).job job ≡ job_view [] }
 {}

@@ -101,7 +101,7 @@ submit_found h e =
     (o.0.0, o.0.1, s.0, s.1, subst (λ (body : Body). Has h (o.0.0, body)) s.2 f.1)
 
 -- an operation that says something of a field leaves the field with a value
-said_found : {T : Type 0} (says : Body → Option T) (v : T) (h : History Body) (t : StampValue) (body : Body) → Has h (t, body) → says body ≡ Some v → is_some (field says h) ≡ true
+pub said_found : {T : Type 0} (says : Body → Option T) (v : T) (h : History Body) (t : StampValue) (body : Body) → Has h (t, body) → says body ≡ Some v → is_some (field says h) ≡ true
 said_found {T} says v h t body k s = go (field says h) refl
   where
     go : (o : Option (StampValue × T)) → field says h ≡ o → is_some o ≡ true

@@ -12,12 +12,12 @@ use Rattle.fed_tags.specs.TagLaws.{has_member, member, has_joined, has_applied, 
 use Rattle.fed_record.specs.Pairs.{join_live}
 use Rattle.fed_record.specs.Record.{IsCoveredStamp, AreCovered}
 
-either_side : (a c b d : Bool) → join_live a c b d ≡ true → (a ≡ true) ⊎ (b ≡ true)
+pub either_side : (a c b d : Bool) → join_live a c b d ≡ true → (a ≡ true) ⊎ (b ≡ true)
 either_side true c b d e = inl refl
 either_side false c true d e = inr refl
 either_side false c false d e = cc
 
-old_or_new : (a b c : Bool) → ((a || b) && not c) ≡ true → (a ≡ true) ⊎ (b ≡ true)
+pub old_or_new : (a b c : Bool) → ((a || b) && not c) ≡ true → (a ≡ true) ⊎ (b ≡ true)
 old_or_new true b c e = inl refl
 old_or_new false true c e = inr refl
 old_or_new false false c e = cc
