@@ -191,6 +191,7 @@ fn tells_how_it_ended(rt: HostRuntime) -> Result<(), Fail> {
         },
         refused(&[]),
         refused(&["federation"]),
+        refused(&["federation", "live"]),
         refused(&["federation", "requeue"]),
         refused(&["federation", "replay", "replay"]),
         refused(&["federation", "--help"]),
