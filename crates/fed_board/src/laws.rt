@@ -1,5 +1,5 @@
-//! Laws of what is read of sets of operations, over every set. Each function does nothing: its contract is the
-//! law.
+//! Laws of what is read of sets of operations, over every set that is as the law asks. Each function does nothing: its
+//! contract is the law.
 ghost use Rattle.std.specs.Prelude.{◌≡◌, ◌<◌, ◌↔◌, true, false, [], ◌∷◌, ◌++◌, IfSome, IsSome, IsTrue};
 ghost use Rattle.fed_stamp.specs.Stamp.{StampValue};
 ghost use Rattle.fed_stamp.specs.Version.{covers, is_below};

@@ -1,7 +1,7 @@
 //! What the words of a line say, after the line that names the sites.
 //!
-//! For now a part of the script language is run, and this module, `session`, `federation` and `specs/` say which
-//! part. After the line `roster NAME:NODES ..` these lines are run: `SITE USER qsub`,
+//! For now a part of the script language is run, and this module, `requests`, `priorities`, `federation`, `session` and
+//! `specs/` say which part. After the line `roster NAME:NODES ..` these lines are run: `SITE USER qsub`,
 //! `SITE USER qalter -p PRIORITY JOB`, `SITE USER qstat` with one JOB or none, `SITE ship SITE`, `SITE take PACKET`
 //! and `equal SITE SITE`. All other words after USER are answered by `usage 1`, also where PRIORITY or JOB is none. A
 //! USER with a role can't be read, and neither can `grant`, `begin`, `finish`, `handback` or `plan` behind a site.

@@ -19,26 +19,6 @@ pub enum LineFault {
     NoMemory,
 }
 
-impl From<AllocError> for LineFault {
-    ghost use Rattle.fed_main.specs.declared.session.LineFault.TheVariants.{NoMemory};
-
-    ghost from_gives = { λ _ fault. fault ≡ NoMemory };
-
-    fn from(_error: AllocError) -> LineFault {
-        LineFault::NoMemory
-    }
-}
-
-impl From<NoMemory> for LineFault {
-    ghost use Rattle.fed_main.specs.declared.session.LineFault.TheVariants.{NoMemory};
-
-    ghost from_gives = { λ _ fault. fault ≡ NoMemory };
-
-    fn from(_error: NoMemory) -> LineFault {
-        LineFault::NoMemory
-    }
-}
-
 /// A line of a script that can be read.
 #[derive(Clone, Copy, Debug, PartialEq, Eq)]
 pub enum Line {

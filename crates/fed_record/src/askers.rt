@@ -5,14 +5,19 @@ use fed_stamp::Word;
 /// all jobs and on reservations, an administrator on system holds too.
 #[derive(Clone, Copy, PartialEq, Eq, PartialOrd, Ord, Debug)]
 pub enum Role {
+    /// Works on jobs of their own, with user holds.
     User,
+    /// Works on all jobs, with user and operator holds, and on reservations.
     Operator,
+    /// Does what an operator does, with system holds too.
     Administrator,
 }
 
 /// Who asks: a user by name, in a role.
 #[derive(Clone, Copy, PartialEq, Eq, Debug)]
 pub struct Who {
+    /// The user's name.
     pub user: Word,
+    /// What the user may do.
     pub role: Role,
 }

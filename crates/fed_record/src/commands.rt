@@ -5,17 +5,20 @@ use crate::values::{Changes, JobValues};
 use crate::windows::Window;
 use fed_stamp::{JobId, SiteId, Stamp};
 
-/// What somebody, or a site's own scheduler, asks a site to do.
+/// What somebody, or a site's own scheduler, asks a site to do. `job` names a job by the stamp of its `Submit`.
 #[derive(Clone, Copy, PartialEq, Eq, Debug)]
 pub enum Command {
     /// Submit a job, with a user hold if `held`.
     Submit {
+        /// What it is submitted with.
         values: JobValues,
+        /// Whether it gets a user hold.
         held: bool,
     },
     /// Set the values named.
     Alter {
         job: JobId,
+        /// The values named; the others stay.
         changes: Changes,
     },
     /// Add holds of these kinds.
@@ -35,6 +38,7 @@ pub enum Command {
     /// Grant the job to the site that asks.
     Grant {
         job: JobId,
+        /// The site that asks.
         asker: SiteId,
     },
     /// Hand back the open grant.
@@ -44,16 +48,20 @@ pub enum Command {
     /// Begin the job.
     Begin {
         job: JobId,
+        /// When it begins, in seconds.
         moment: Moment,
     },
     /// Finish the job, with a status.
     Finish {
         job: JobId,
+        /// When it finished, in seconds.
         moment: Moment,
+        /// The status that it gave, from 0 to 255.
         status: u8,
     },
     /// Make a reservation.
     Reserve {
+        /// The nodes to keep free, and when.
         window: Window,
     },
     /// Cancel a reservation, named by the stamp of its `Reserve`.

@@ -25,18 +25,27 @@ use std::alloc::Global;
 /// sites and its letter follow from these.
 #[derive(Clone, Copy)]
 pub struct JobParts<'a> {
+    /// The user who submitted it.
     pub owner: (Stamp, Word),
+    /// Its name.
     pub name: (Stamp, Word),
+    /// Its priority.
     pub priority: (Stamp, Priority),
+    /// How many nodes it runs on.
     pub nodes: (Stamp, Nodes),
+    /// Its time limit, in seconds.
     pub limit: (Stamp, Limit),
+    /// What it is charged to.
     pub account: (Stamp, Account),
     /// The live pairs of holds, strictly ascending by kind and then by stamp.
     pub hold_tags: &'a [(HoldKind, Stamp)],
     /// The live pairs of sites, strictly ascending by site and then by stamp.
     pub site_tags: &'a [(SiteId, Stamp)],
+    /// Whether it is deleted.
     pub deleted: bool,
+    /// The greatest stage of its grants, or none where it was never granted.
     pub grant: Option<GrantStage>,
+    /// Its Begin and its Finish.
     pub progress: Progress,
     /// For each site the greatest counter among the stamps of the job's operations. It covers every tag.
     pub touched: Version,
@@ -92,7 +101,8 @@ fn stages_of(parts: &JobParts) -> Stages
 }
 
 impl Record<Fields, Stages> {
-    /// The record that reads as the parts.
+    /// The record that reads as the parts. It asks that the pairs of `hold_tags` and of `site_tags` strictly ascend, by
+    /// element and then by stamp, and that `touched` covers the stamp of each pair. The only error is `NoMemory`.
     pub fn from_parts(alloc: Global, parts: &JobParts) -> Result<JobRecord, NoMemory>
         requires holds_ascend { IsStrictlySortedBy (pair_cmp kind_cmp) parts.now.hold_tags.now }
         requires sites_ascend { IsStrictlySortedBy (pair_cmp nat_cmp) parts.now.site_tags.now }

@@ -29,7 +29,9 @@ use std::collections::btree_map::Keys;
 /// How far a job has come: its Begin and its Finish, each with its stamp.
 #[derive(Clone, Copy, PartialEq, Eq, Debug)]
 pub struct Progress {
+    /// The Begin, or none where the job has not begun.
     pub begun: Option<(Stamp, Beginning)>,
+    /// The Finish, or none where the job has not finished.
     pub finished: Option<(Stamp, Ending)>,
 }
 

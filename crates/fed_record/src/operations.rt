@@ -10,24 +10,29 @@ use crate::values::{Changes, JobValues};
 use crate::windows::Window;
 use fed_stamp::{JobId, SiteId, Stamp, Word};
 
-/// What is done, under a stamp, to a job or a reservation. A job is named by the stamp of its `Submit`, a
-/// reservation by that of its `Reserve`. A pair is an element, a site or a kind of hold, beside the stamp of
-/// the operation that added it.
+/// What is done, under a stamp, to a job or a reservation. A job is named by the stamp of its `Submit`, a reservation
+/// by that of its `Reserve`; `job` and `reservation` name the one that the operation is of. A pair is an element, a
+/// site or a kind of hold, beside the stamp of the operation that added it.
 #[derive(Drop, Debug)]
 pub enum Operation {
     /// Submits a job with its sites and, if `held`, a user hold.
     Submit {
+        /// The user who submits it.
         owner: Word,
+        /// What it is submitted with, its sites among them.
         values: JobValues,
+        /// Whether it gets a user hold.
         held: bool,
     },
     /// Sets the values named. Adds the sites named, and removes the pairs.
     Set {
         job: JobId,
+        /// The values named.
         changes: Changes,
+        /// The pairs of sites that it removes.
         removed: Vec<(SiteId, Stamp)>,
     },
-    /// Adds holds.
+    /// Adds holds of these kinds.
     Hold {
         job: JobId,
         kinds: HoldKinds,
@@ -35,6 +40,7 @@ pub enum Operation {
     /// Removes pairs of holds.
     Release {
         job: JobId,
+        /// The pairs of holds that it removes.
         removed: Vec<(HoldKind, Stamp)>,
     },
     /// Deletes the job.
@@ -44,26 +50,32 @@ pub enum Operation {
     /// Grants the job to the site. Only the site that the job was submitted at does so.
     Grant {
         job: JobId,
+        /// The site that the job is granted to.
         site: SiteId,
+        /// 1 where the job has no grant before, else 1 above the term handed back.
         term: Term,
     },
     /// Hands the grant of the term back.
     HandBack {
         job: JobId,
+        /// The term of the grant.
         term: Term,
     },
     /// Begins the job.
     Begin {
         job: JobId,
+        /// When, on how many nodes, and by when it ends.
         beginning: Beginning,
     },
     /// Finishes the job.
     Finish {
         job: JobId,
+        /// When, and with what status.
         ending: Ending,
     },
     /// Makes a reservation.
     Reserve {
+        /// The nodes that are kept free, and when.
         window: Window,
     },
     /// Cancels a reservation.

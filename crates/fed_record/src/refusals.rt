@@ -6,55 +6,58 @@ use fed_stamp::SiteId;
 use thiserror::Error;
 
 /// Why a command is refused, in the order in which the reasons are looked for: the first that applies is
-/// answered, and nothing changes.
+/// answered, and nothing changes. A job is granted where its grant is open: given to a site and not handed back.
 #[derive(Clone, Copy, PartialEq, Eq, Debug, Drop, Error)]
 pub enum Refusal {
-    /// 1: the site knows no such job.
+    /// 1: the job isn't on the site's board. To all commands that name a job.
     #[error("unknown job")]
     UnknownJob,
-    /// 2: the asker's role forbids it.
+    /// 2: the asker's role forbids it. To Alter, Hold, Release, Delete, Reserve and Cancel.
     #[error("not permitted")]
     NotPermitted,
-    /// 3: the job is finished, or was deleted before it began.
+    /// 3: the job has no letter: it is finished, or was deleted before it began. To all commands that name a job.
     #[error("the job is gone")]
     Gone,
-    /// 4: the job is granted to a site.
+    /// 4: the job is granted, to whatever site. To Alter and Hold.
     #[error("the job is granted to a site")]
     Granted,
-    /// 5: the job was submitted at another site.
+    /// 5: the job was submitted at another site than this. To Grant.
     #[error("the job was submitted at another site")]
     NotOrigin,
-    /// 6: a hold is present.
+    /// 6: a hold is present, and the job is not granted (to Grant) or not begun (to Begin).
     #[error("a hold is present")]
     Held,
-    /// 7: the job may not run at the asker.
+    /// 7: the job is not granted, and the asker isn't among its sites. To Grant.
     #[error("the job may not run there")]
     NotEligible,
-    /// 8: the job is granted to this site, which isn't the asker.
+    /// 8: the job is granted to another site than the asker, which this names. To Grant.
     #[error("the job is granted to site {number}", number = .0.get())]
     TakenBy(SiteId),
-    /// 9: the job isn't granted to this site.
+    /// 9: the job isn't granted to the site that is asked. To Begin, Finish and HandBack.
     #[error("the job is not granted to this site")]
     NotGranted,
-    /// 10: the job has begun.
+    /// 10: the job has begun. To Begin and HandBack.
     #[error("the job has begun")]
     Begun,
-    /// 11: the job hasn't begun.
+    /// 11: the job hasn't begun. To Finish.
     #[error("the job has not begun")]
     NotBegun,
-    /// 12: the window's end is not above its start, or a number of it is out of range.
+    /// 12: the window's end is not above its start or is above 1,000,000,000,000, or its nodes are 0 or above
+    /// 1,000,000. To Reserve.
     #[error("bad window")]
     BadWindow,
-    /// 13: the site knows no such reservation, or it is cancelled.
+    /// 13: the reservation isn't on the site's board, or is cancelled. To Cancel.
     #[error("unknown reservation")]
     UnknownReservation,
-    /// 14: the site has as many jobs, or reservations, of its own as it may have.
+    /// 14: 10,000 or more jobs were submitted at this site (to Submit), or 1,000 or more reservations made at it (to
+    /// Reserve). Jobs that are gone and reservations that are cancelled count.
     #[error("the site is full")]
     SiteFull,
-    /// 15: every counter or every term is in use.
+    /// 15: an operation would be added, and the greatest counter that the site has seen is 1,000,000,000. To all
+    /// commands. To Grant also where the term that was handed back is 1,000,000,000.
     #[error("every counter is in use")]
     ClockFull,
-    /// 16: there was no memory.
+    /// 16: a growth was refused memory. To all commands.
     #[error("out of memory")]
     NoMemory,
 }

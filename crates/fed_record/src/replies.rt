@@ -6,6 +6,7 @@ use fed_stamp::{JobId, Stamp};
 pub enum Reply {
     /// The job submitted.
     Submitted(JobId),
+    /// The command is done.
     Done,
     /// The job is granted to the asker, from now on.
     Granted,

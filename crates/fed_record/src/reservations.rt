@@ -82,7 +82,7 @@ impl ExactEq for Reservation {
 }
 
 /// A change is an operation. A `Reserve` sets its window and a `Cancel` none; every other operation leaves the
-/// reservation as it is. Copies, changes and joins take no memory.
+/// reservation as it is. Copies, changes and joins are never refused memory.
 impl Causal for Reservation {
     type Change = Operation;
 

@@ -1,5 +1,5 @@
-//! Examples of the records, the boards and the scripts of a federation, over public calls alone. The crate has tests
-//! and nothing else.
+//! Examples of the values, the records, the boards and the scripts of a federation, over public calls alone. The crate
+//! has tests and nothing else.
 #![tactic(auto)]
 
 #[cfg(test)]

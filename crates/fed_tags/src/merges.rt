@@ -41,7 +41,7 @@ impl<T: Exact> Causal for TagSet<T> {
         ensures unchanged { OnErr result (self.new ≡ self.old) }
         ensures ok { ⊥ → IsOk result }
 
-        // A change that adds nothing takes no memory.
+        // A change that adds nothing is never refused memory.
         ensures removes { change.now.0 ≡ [] → IsOk result }
     {
         self.add(change.added(), at)?;

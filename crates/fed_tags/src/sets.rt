@@ -170,7 +170,8 @@ impl<T: Exact> TagSet<T> {
         true
     }
 
-    /// The set of these pairs. The only error is want of memory.
+    /// The set of these pairs. It asks that they strictly ascend, by element and then by stamp. The only error is
+    /// `NoMemory`.
     pub fn from_pairs(alloc: Global, pairs: &[(T, Stamp)]) -> Result<TagSet<T>, NoMemory>
         requires { IsStrictlySortedBy (pair_cmp T.cmp) pairs.now }
         ensures { IfOk result (λ r. r ≡ pairs.now) }

@@ -179,10 +179,9 @@ fn refused<'a>(words: &'a [&'a str]) -> Case<'a> {
     }
 }
 
-#[test]
-fn tells_how_it_ended(rt: HostRuntime) -> Result<(), Fail> {
+fn cases() -> [Case<'static>; 10] {
     let script = b"roster a:1\na ann qsub\n";
-    let cases = [
+    [
         ran(script, b"1.a\n"),
         Case {
             status: 1,
@@ -210,8 +209,12 @@ fn tells_how_it_ended(rt: HostRuntime) -> Result<(), Fail> {
             errors: b"failed\n",
             ..ran(script, b"")
         },
-    ];
-    for case in cases {
+    ]
+}
+
+#[test]
+fn tells_how_it_ended(rt: HostRuntime) -> Result<(), Fail> {
+    for case in cases() {
         let memory = Memory {
             alloc: rt.alloc(),
             words: case.words,
