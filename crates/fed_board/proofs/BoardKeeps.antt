@@ -14,7 +14,7 @@ use Rattle.fed_lattice.specs.Latest.{stamp_cmp}
 use Rattle.fed_lattice.specs.LatestLaws.{stamp_total}
 use Rattle.fed_lattice.specs.Register.{stamped_cmp, joined_registers}
 use Rattle.fed_lattice.specs.Stamped.{with_stamp}
-use Rattle.fed_lattice.specs.TableValues.{IsAtEach, each_insert_entry, each_joined_tables, values_each}
+use Rattle.fed_lattice.proofs.TableValues.{IsAtEach, each_insert_entry, each_joined_tables, values_each}
 use Rattle.fed_record.specs.declared.operations.Operation.{Operation}
 use Rattle.fed_record.specs.declared.windows.Window.{Window}
 use Rattle.fed_record.specs.Body.{Body, Body.Submit, Body.Set, Body.Hold, Body.Release, Body.Delete, Body.Grant, Body.HandBack, Body.Begin, Body.Finish, Body.Reserve, Body.Cancel, job_of, reservation_of}

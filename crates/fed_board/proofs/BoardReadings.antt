@@ -9,7 +9,7 @@ use Rattle.fed_lattice.specs.ExactLaws.{exact_stamp}
 use Rattle.fed_lattice.specs.Latest.{stamp_cmp}
 use Rattle.fed_lattice.specs.LatestLaws.{stamp_total}
 use Rattle.fed_lattice.specs.Table.{IsTable}
-use Rattle.fed_lattice.specs.TableEntries.{same_tables}
+use Rattle.fed_lattice.specs.TableEntryLaws.{same_tables}
 use Rattle.fed_tags.specs.Tags.{pair_cmp}
 use Rattle.fed_tags.specs.TagLaws.{same_sets}
 use Rattle.fed_record.specs.Hold.{kind_cmp}

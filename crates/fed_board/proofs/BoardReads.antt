@@ -14,7 +14,7 @@ use Rattle.fed_lattice.specs.Laws.{BottomsJoin}
 use Rattle.fed_lattice.specs.Register.{joined_registers}
 use Rattle.fed_lattice.specs.Stamped.{with_stamp}
 use Rattle.fed_lattice.specs.Table.{value_at}
-use Rattle.fed_lattice.specs.TableValues.{value_at-insert_entry, value_at-joined_tables}
+use Rattle.fed_lattice.proofs.TableValues.{value_at-insert_entry, value_at-joined_tables}
 use Rattle.fed_record.specs.declared.operations.Operation.{Operation}
 use Rattle.fed_record.specs.Body.{Body, Body.Submit, Body.Set, Body.Hold, Body.Release, Body.Delete, Body.Grant, Body.HandBack, Body.Begin, Body.Finish, Body.Reserve, Body.Cancel, job_of, reservation_of, is_named, same_stamp, is_of_job, is_of_reservation}
 use Rattle.fed_record.specs.Field.{window_in}

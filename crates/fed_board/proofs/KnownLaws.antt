@@ -10,14 +10,14 @@ use Rattle.fed_stamp.proofs.VersionLaws.{each_from_below}
 use Rattle.fed_lattice.specs.Sets.{Has, IsSameSet}
 use Rattle.fed_lattice.specs.SetLaws.{Has-left, Has-cases}
 use Rattle.fed_lattice.specs.History.{History, OneEach}
-use Rattle.fed_lattice.specs.FilterLaws.{Has-filter, filter-Has, one_each_filter}
+use Rattle.fed_lattice.proofs.FilterLaws.{Has-filter, filter-Has, one_each_filter}
 use Rattle.fed_lattice.specs.Latest.{latest, IsLatest}
 use Rattle.fed_lattice.specs.LatestLaws.{stamp_total, latest_reads, latest_from_reads}
 use Rattle.fed_lattice.specs.Part.{part}
 use Rattle.fed_lattice.specs.PartLaws.{part-append, source, Has-part, one_each_part}
 use Rattle.fed_lattice.specs.Register.{register_reads}
 use Rattle.fed_lattice.specs.VersionOf.{version_of}
-use Rattle.fed_lattice.specs.VersionOfLaws.{version_of-Has}
+use Rattle.fed_lattice.proofs.VersionOfLaws.{version_of-Has}
 use Rattle.fed_record.specs.declared.windows.Window.{Window}
 use Rattle.fed_record.specs.Body.{Body, is_of_job, is_of_reservation, of_job, of_reservation}
 use Rattle.fed_record.specs.Field.{window_in}

@@ -4,9 +4,9 @@ use Rattle.fed_stamp.specs.Stamp.{StampValue}
 use Rattle.fed_lattice.specs.Sets.{Has, Includes, IsSameSet}
 use Rattle.fed_lattice.specs.SetLaws.{same_union_comm}
 use Rattle.fed_lattice.specs.History.{History, Agree}
-use Rattle.fed_lattice.specs.FilterLaws.{Has-filter, filter-Has}
+use Rattle.fed_lattice.proofs.FilterLaws.{Has-filter, filter-Has}
 use Rattle.fed_lattice.specs.VersionOf.{version_of}
-use Rattle.fed_lattice.specs.VersionOfLaws.{version_of-covers}
+use Rattle.fed_lattice.proofs.VersionOfLaws.{version_of-covers}
 use Rattle.fed_record.specs.declared.holds.HoldKind.{HoldKind}
 use Rattle.fed_record.specs.Body.{Body, Body.Submit, Body.Set, Body.Hold, Body.Release, Body.Delete, Body.Grant, Body.HandBack, Body.Begin, Body.Finish, Body.Reserve, Body.Cancel, same_stamp, is_of_job, of_job}
 use Rattle.fed_record.specs.Pairs.{adds_site, removes_site, adds_hold, removes_hold, IsJobHistory}

@@ -11,7 +11,7 @@ use Rattle.fed_lattice.specs.Latest.{stamp_cmp}
 use Rattle.fed_lattice.specs.LatestLaws.{stamp_total}
 use Rattle.fed_lattice.specs.Sets.{Has}
 use Rattle.fed_lattice.specs.SetLaws.{found, any_from}
-use Rattle.fed_lattice.specs.TableEntries.{any_lookup}
+use Rattle.fed_lattice.specs.TableEntryLaws.{any_lookup}
 use Rattle.fed_record.specs.JobRecord.{JobRecordValue, reads as reads_job}
 use Rattle.fed_record.specs.Letter.{is_submitted}
 use Rattle.fed_record.specs.Reservation.{ReservationView}

@@ -6,7 +6,7 @@ use Rattle.fed_stamp.specs.Stamp.{StampValue}
 use Rattle.fed_lattice.specs.Sets.{Has}
 use Rattle.fed_lattice.specs.SetLaws.{empty_from_none}
 use Rattle.fed_lattice.specs.History.{History}
-use Rattle.fed_lattice.specs.FilterLaws.{Has-filter, filter-Has}
+use Rattle.fed_lattice.proofs.FilterLaws.{Has-filter, filter-Has}
 use Rattle.fed_record.specs.Body.{Body, Body.Submit, Body.Set, Body.Hold, Body.Release, Body.Delete, Body.Grant, Body.HandBack, Body.Begin, Body.Finish, Body.Reserve, Body.Cancel, same_stamp, is_of_job, of_job, is_of_reservation, of_reservation}
 use Rattle.fed_record.specs.Field.{window_in, field}
 use Rattle.fed_record.specs.JobView.{job_view}

@@ -4,7 +4,7 @@ use Rattle.std.proofs.lemmas.Bool.{leb-true, le-leb}
 use Rattle.fed_stamp.specs.Stamp.{StampValue}
 use Rattle.fed_stamp.specs.Version.{counter_of, covers, joined, raised, is_below}
 use Rattle.fed_stamp.proofs.VersionLaws.{below_from_each, each_from_below, below_trans, below_joined_left, below_joined_right, covers_more, joined_least}
-use Rattle.fed_lattice.specs.VersionOfLaws.{raised_cases}
+use Rattle.fed_lattice.proofs.VersionOfLaws.{raised_cases}
 
 pub below_raised : (v : List ℕ) (s : StampValue) → is_below v (raised v s) ≡ true
 below_raised v s = below_from_each v (raised v s) (λ i. elim (raised_cases v s i) [

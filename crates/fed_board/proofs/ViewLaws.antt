@@ -10,9 +10,9 @@ use Rattle.fed_lattice.specs.Sets.{IsSameSet}
 use Rattle.fed_lattice.specs.SetLaws.{Has-push}
 use Rattle.fed_lattice.specs.History.{History, IsFresh, OneEach}
 use Rattle.fed_lattice.specs.Stamped.{with_stamp}
-use Rattle.fed_lattice.specs.FilterLaws.{Has-filter, same_filter, one_each_filter, agree_filter}
+use Rattle.fed_lattice.proofs.FilterLaws.{Has-filter, same_filter, one_each_filter, agree_filter}
 use Rattle.fed_lattice.specs.VersionOf.{version_of}
-use Rattle.fed_lattice.specs.VersionOfLaws.{version_of-append, version_of-push, version_of-same, version_of-covers}
+use Rattle.fed_lattice.proofs.VersionOfLaws.{version_of-append, version_of-push, version_of-same, version_of-covers}
 use Rattle.fed_record.specs.Body.{Body, is_of_job, is_of_reservation, of_job, of_reservation}
 use Rattle.fed_record.specs.Field.{window_in}
 use Rattle.fed_record.specs.JobView.{job_view}

@@ -8,7 +8,7 @@ use Rattle.fed_lattice.specs.Latest.{stamp_cmp}
 use Rattle.fed_lattice.specs.Register.{joined_registers}
 use Rattle.fed_lattice.specs.Stamped.{with_stamp}
 use Rattle.fed_lattice.specs.Table.{value_at, joined_tables, applied_table}
-use Rattle.fed_lattice.specs.TableValues.{IsAtEach}
+use Rattle.fed_lattice.specs.Table.{IsAtEach}
 use Rattle.fed_record.specs.declared.operations.Operation.{Operation}
 use Rattle.fed_record.specs.Body.{Body, Body.Submit, Body.Set, Body.Hold, Body.Release, Body.Delete, Body.Grant, Body.HandBack, Body.Begin, Body.Finish, Body.Reserve, Body.Cancel}
 use Rattle.fed_record.specs.JobRecord.{JobRecordValue, reads as reads_job}

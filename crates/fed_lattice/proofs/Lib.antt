@@ -1,3 +1,8 @@
--- The lemmas that proofs of the methods cite.
+-- The lemmas that proofs of the methods cite, and those that the crates above cite.
+pub mod FilterLaws
+pub mod StampedLaws
 pub mod TableLoops
+pub mod TableValues
 pub mod TableWrites
+pub mod UnionLaws
+pub mod VersionOfLaws

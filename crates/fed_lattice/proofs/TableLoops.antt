@@ -9,7 +9,7 @@ use Rattle.std.proofs.Common.{◌≡◌, List, [], ◌∷◌, ◌++◌, Bool, tr
 use Rattle.std.proofs.lemmas.Map.Lookups.{CmpEqualImpliesEq}
 use Rattle.std.proofs.lemmas.Map.Views.{tells_apart}
 use Rattle.fed_lattice.specs.Table.{filled}
-use Rattle.fed_lattice.specs.TableEntries.{sorted_insert, sorted_filled, any_lookup, lookup-insert_entry, lookup-filled, same_tables}
+use Rattle.fed_lattice.specs.TableEntryLaws.{sorted_insert, sorted_filled, any_lookup, lookup-insert_entry, lookup-filled, same_tables}
 
 -- ---- how the methods build tables
 module _ {K X : Type 0} (R : K → K → Ordering) where

@@ -10,8 +10,8 @@ use Rattle.std.proofs.lemmas.Map.Keys.{sorted_tail}
 use Rattle.std.proofs.lemmas.Map.Views.{IfSome-lookup_from_All}
 use Rattle.fed_stamp.specs.Stamp.{StampValue}
 use Rattle.fed_lattice.specs.Table.{IsTable, applied_table}
-use Rattle.fed_lattice.specs.TableEntries.{not_none, below_head}
-use Rattle.fed_lattice.specs.TableJoins.{well_formed_insert}
+use Rattle.fed_lattice.specs.TableEntryLaws.{not_none, below_head}
+use Rattle.fed_lattice.specs.TableJoinLaws.{well_formed_insert}
 
 -- ---- a value that is written in place
 pub on_ok_then : {A E : Type 0} {P Q : Type 0} (r : Result A E) → (P → Q) → OnOk r P → OnOk r Q

@@ -15,8 +15,8 @@ use Rattle.fed_lattice.specs.Register.{joined_registers}
 use Rattle.fed_lattice.specs.Stage.{greatest_value}
 use Rattle.fed_lattice.specs.Flag.{has_changes}
 use Rattle.fed_lattice.specs.Stamped.{with_stamp, stamped}
-use Rattle.fed_lattice.specs.StampedLaws.{stamped-append, same_stamped}
-use Rattle.fed_lattice.specs.UnionLaws.{register_union, latest_same, greatest_union, greatest_same, has_changes_union, has_changes_same}
+use Rattle.fed_lattice.proofs.StampedLaws.{stamped-append, same_stamped}
+use Rattle.fed_lattice.proofs.UnionLaws.{register_union, latest_same, greatest_union, greatest_same, has_changes_union, has_changes_same}
 use Rattle.fed_record.specs.declared.grants.GrantStage.{GrantStage}
 use Rattle.fed_record.specs.Body.{Body}
 use Rattle.fed_record.specs.Field.{deletion_in, field}

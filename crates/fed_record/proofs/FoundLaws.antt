@@ -15,7 +15,7 @@ use Rattle.fed_lattice.specs.Register.{register_reads}
 use Rattle.fed_lattice.specs.Stage.{stage_reads}
 use Rattle.fed_lattice.specs.StageLaws.{stage_reads_greatest}
 use Rattle.fed_lattice.specs.Stamped.{stamped}
-use Rattle.fed_lattice.specs.StampedLaws.{stamped-Has, Has-stamped}
+use Rattle.fed_lattice.proofs.StampedLaws.{stamped-Has, Has-stamped}
 use Rattle.fed_record.specs.declared.grants.GrantStage.{GrantStage}
 use Rattle.fed_record.specs.declared.values.JobValues.{JobValues}
 use Rattle.fed_record.specs.Body.{Body, Body.Submit}

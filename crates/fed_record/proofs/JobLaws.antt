@@ -4,9 +4,9 @@ use Rattle.std.proofs.Common.{◌≡◌, ℕ, List, [], ◌∷◌, ◌++◌, ◌
 use Rattle.fed_stamp.specs.Stamp.{StampValue}
 use Rattle.fed_lattice.specs.Sets.{IsSameSet}
 use Rattle.fed_lattice.specs.SetLaws.{same_union_comm}
-use Rattle.fed_lattice.specs.UnionLaws.{one_each_same}
+use Rattle.fed_lattice.proofs.UnionLaws.{one_each_same}
 use Rattle.fed_lattice.specs.History.{History, IsFresh, OneEach, Agree}
-use Rattle.fed_lattice.specs.VersionOfLaws.{version_of-append, version_of-push, version_of-same}
+use Rattle.fed_lattice.proofs.VersionOfLaws.{version_of-append, version_of-push, version_of-same}
 use Rattle.fed_record.specs.Body.{Body}
 use Rattle.fed_record.specs.Field.{owner_in, name_in, priority_in, nodes_in, limit_in, account_in, begin_in, finish_in}
 use Rattle.fed_record.specs.Pairs.{adds_site, removes_site, adds_hold, removes_hold, IsJobHistory}

@@ -9,7 +9,7 @@ use Rattle.fed_lattice.specs.Sets.{Has}
 use Rattle.fed_lattice.specs.SetLaws.{found}
 use Rattle.fed_lattice.specs.History.{History}
 use Rattle.fed_lattice.specs.VersionOf.{version_of, HasSites}
-use Rattle.fed_lattice.specs.VersionOfLaws.{version_of-Has}
+use Rattle.fed_lattice.proofs.VersionOfLaws.{version_of-Has}
 use Rattle.fed_record.specs.Body.{Body, same_stamp}
 use Rattle.fed_record.specs.Letter.{any_below, any_covered}
 use Rattle.fed_record.specs.Pairs.{adds_pair, is_live}

@@ -4,7 +4,7 @@ use Rattle.std.specs.List.{range_with_len}
 use Rattle.std.specs.Prelude.{ℤ}
 use Rattle.std.proofs.Common.{◌≡◌, ◌↔◌, ℕ, List, Bool, true, Option, Some, refl, sym, ap, subst, ◌∙◌}
 use Rattle.fed_stamp.specs.Stamp.{StampValue}
-use Rattle.fed_lattice.specs.FilterLaws.{Has-filter, filter-Has}
+use Rattle.fed_lattice.proofs.FilterLaws.{Has-filter, filter-Has}
 use Rattle.fed_lattice.specs.Flag.{flag_reads, has_changes}
 use Rattle.fed_lattice.specs.FlagLaws.{flag_from_reads}
 use Rattle.fed_lattice.specs.Sets.{Has}

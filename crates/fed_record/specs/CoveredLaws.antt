@@ -6,7 +6,7 @@ use Rattle.std.proofs.lemmas.Map.Lookups.{CmpEqualImpliesEq}
 use Rattle.fed_stamp.specs.Stamp.{StampValue}
 use Rattle.fed_stamp.specs.Version.{covers, counter_of, joined, raised}
 use Rattle.fed_stamp.proofs.VersionLaws.{covers-joined}
-use Rattle.fed_lattice.specs.VersionOfLaws.{raised_cases}
+use Rattle.fed_lattice.proofs.VersionOfLaws.{raised_cases}
 use Rattle.fed_tags.specs.Tags.{has, stamped, applied_tags, joined_tags}
 use Rattle.fed_tags.specs.TagLaws.{has_member, member, has_joined, has_applied, stamped_at}
 use Rattle.fed_record.specs.Pairs.{join_live}

@@ -15,7 +15,7 @@ use Rattle.fed_lattice.specs.History.{History, IsFresh, OneEach, IsCovered, Shar
 use Rattle.fed_lattice.specs.Part.{part}
 use Rattle.fed_lattice.specs.BothLaws.{part_joined_reads}
 use Rattle.fed_lattice.specs.Stamped.{stamped}
-use Rattle.fed_lattice.specs.StampedLaws.{stamped-append, stamped-Has, Has-stamped}
+use Rattle.fed_lattice.proofs.StampedLaws.{stamped-append, stamped-Has, Has-stamped}
 use Rattle.fed_tags.specs.Tags.{pair_cmp}
 use Rattle.fed_tags.specs.TagLaws.{pair_total, exact_pair}
 use Rattle.fed_record.specs.declared.holds.HoldKind.{HoldKind}

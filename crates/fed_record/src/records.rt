@@ -8,9 +8,9 @@ ghost use Rattle.fed_stamp.proofs.VersionLaws.{joined-assoc, joined-comm, joined
 ghost use Rattle.fed_lattice.specs.BothLaws.{part_joined_reads};
 ghost use Rattle.fed_lattice.specs.PartLaws.{fresh_part, same_part};
 ghost use Rattle.fed_lattice.specs.Stamped.{stamped};
-ghost use Rattle.fed_lattice.specs.StampedLaws.{same_stamped};
+ghost use Rattle.fed_lattice.proofs.StampedLaws.{same_stamped};
 ghost use Rattle.fed_lattice.specs.VersionOf.{version_of};
-ghost use Rattle.fed_lattice.specs.VersionOfLaws.{joined_zeros, version_of-append, version_of-same};
+ghost use Rattle.fed_lattice.proofs.VersionOfLaws.{joined_zeros, version_of-append, version_of-same};
 ghost use Rattle.fed_tags.specs.Tags.{pair_cmp, stamped as with_tag, inserted, applied_tags, joined_tags, IsTagHistory, tags_read};
 ghost use Rattle.fed_tags.specs.TagLaws.{sorted_empty, sorted_applied, sorted_joined, joined_tags_assoc, joined_tags_comm, joined_tags_itself, empty_tags_read, applied_tags_read, joined_tags_read, tags_read_same};
 ghost use Rattle.fed_record.specs.Hold.{kind_cmp};

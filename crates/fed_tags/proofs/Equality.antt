@@ -13,7 +13,7 @@ use Rattle.std.proofs.lemmas.Bool.Decides.{Decides-eqb}
 use Rattle.std.proofs.lemmas.Slice.Eq.{slice_eq-Decides}
 use Rattle.fed_stamp.specs.Stamp.{StampValue}
 use Rattle.fed_lattice.specs.Table.{IsTable}
-use Rattle.fed_lattice.specs.TableEntries.{same_tables}
+use Rattle.fed_lattice.specs.TableEntryLaws.{same_tables}
 use Rattle.fed_tags.specs.Tags.{pair_cmp, tags_of}
 use Rattle.fed_tags.specs.TagLaws.{stamp_eq, pair_total, exact_pair}
 use Rattle.fed_tags.specs.Groups.{pairs, IsGroup}

@@ -19,14 +19,14 @@ use Rattle.std.proofs.lemmas.Map.Views.{tells_apart, IfSome-lookup_from_All, All
 use Rattle.std.proofs.lemmas.List.Kept.{IsStrictlySortedBy-filter}
 use Rattle.fed_lattice.specs.Sets.{Has}
 use Rattle.fed_lattice.specs.SetLaws.{found, any_from}
-use Rattle.fed_lattice.specs.TableJoins.{well_formed_insert}
+use Rattle.fed_lattice.specs.TableJoinLaws.{well_formed_insert}
 use Rattle.fed_lattice.proofs.TableWrites.{set_value-insert, unchanged_present, value_well_formed_present}
 use Rattle.fed_stamp.specs.Stamp.{StampValue}
 use Rattle.fed_lattice.specs.Latest.{stamp_cmp}
 use Rattle.fed_lattice.specs.LatestLaws.{stamp_total}
 use Rattle.fed_lattice.specs.ExactLaws.{exact_stamp}
 use Rattle.fed_lattice.specs.Table.{IsTable, value_at}
-use Rattle.fed_lattice.specs.TableEntries.{lookup-insert_entry}
+use Rattle.fed_lattice.specs.TableEntryLaws.{lookup-insert_entry}
 use Rattle.fed_tags.specs.Tags.{pair_cmp, has, without, tags_of, IsElement}
 use Rattle.fed_tags.specs.TagLaws.{pair_total, exact_pair, same_sets, any_filtered, sorted_insert_key, has_insert_key, has_without, sorted_without, member, has_member}
 use Rattle.fed_tags.specs.Groups.{tagged, pairs, IsGroup}

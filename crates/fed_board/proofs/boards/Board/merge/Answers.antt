@@ -1,5 +1,5 @@
 use Rattle.std.proofs.Common.{[], replicate, refl, ap₂, sym, subst, ◌∙◌}
-use Rattle.fed_lattice.specs.VersionOfLaws.{joined_zeros}
+use Rattle.fed_lattice.proofs.VersionOfLaws.{joined_zeros}
 use Rattle.fed_record.proofs.JobRecordReads.{joined_jobs_read}
 use Rattle.fed_record.proofs.JobRecordSteps.{joined_record}
 use Rattle.fed_board.specs.Board.{BoardValue, IsBoard, reads, no_operation}

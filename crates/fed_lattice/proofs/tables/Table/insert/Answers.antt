@@ -1,6 +1,6 @@
 use Rattle.std.proofs.Common.{sym, subst}
 use Rattle.fed_lattice.specs.Table.{IsTable}
-use Rattle.fed_lattice.specs.TableJoins.{well_formed_insert}
+use Rattle.fed_lattice.specs.TableJoinLaws.{well_formed_insert}
 use Rattle.fed_lattice.proofs.tables.Table.insert.Goals as goal
 
 pub invariant_of-self-2 : goal.invariant_of-self-2

@@ -9,13 +9,9 @@ use Rattle.std.proofs.lemmas.Map.Lookups.{CmpEqualImpliesEq}
 use Rattle.std.proofs.lemmas.Map.Keys.{IsDistinct-from_sorted}
 use Rattle.std.proofs.lemmas.Map.Views.{All-values_from_lookup, tells_apart}
 use Rattle.fed_lattice.specs.Laws.{BottomsJoin}
-use Rattle.fed_lattice.specs.Table.{value_at, joined_tables}
-use Rattle.fed_lattice.specs.TableEntries.{lookup-insert_entry}
-use Rattle.fed_lattice.specs.TableJoins.{joined_options, lookup-joined_tables, value_joined}
-
--- P holds of each key with its value
-abbrev pub IsAtEach : {K X : Type 0} → (K → K → Ordering) → (K → X → Type 0) → List (K × X) → Type 0
-IsAtEach {K} cmp P es = (k : K) → IfSome (lookup (is_at (cmp k)) es) (P k)
+use Rattle.fed_lattice.specs.Table.{IsAtEach, value_at, joined_tables}
+use Rattle.fed_lattice.specs.TableEntryLaws.{lookup-insert_entry}
+use Rattle.fed_lattice.specs.TableJoinLaws.{joined_options, lookup-joined_tables, value_joined}
 
 module _ {K X : Type 0} (R : K → K → Ordering) (o : IsTotalOrder R) (exact : CmpEqualImpliesEq R) where
   unwrap_cond : (b : Bool) (w d : X) (a : Option X) → unwrap_or (cond b (Some w) a) d ≡ cond b w (unwrap_or a d)

@@ -13,7 +13,7 @@ use Rattle.fed_stamp.specs.Version.{joined as joined_versions}
 use Rattle.fed_lattice.specs.Laws.{IsAssociative, IsCommutative, IsIdempotent, JoinsWellFormed, BottomsJoin}
 use Rattle.fed_lattice.specs.Table.{IsTable, value_at, filled, joined_tables, applied_table}
 use Rattle.fed_lattice.specs.FlagLaws.{or_assoc, or_comm}
-use Rattle.fed_lattice.specs.TableEntries.{sorted_insert, sorted_filled, any_lookup, lookup-filled, same_tables}
+use Rattle.fed_lattice.specs.TableEntryLaws.{sorted_insert, sorted_filled, any_lookup, lookup-filled, same_tables}
 
 -- ---- joins
 value_well_formed : {X : Type 0} (bottom : X) (well_formed : X → Type 0) → well_formed bottom → (a : Option X) → IfSome a well_formed → well_formed (unwrap_or a bottom)

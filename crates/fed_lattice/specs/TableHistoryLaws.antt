@@ -16,8 +16,8 @@ use Rattle.fed_lattice.specs.Table.{IsTable, value_at, joined_tables, applied_ta
 use Rattle.fed_lattice.specs.SetLaws.{empty_from_same, not_empty_left, not_empty_right, not_empty_same}
 use Rattle.fed_lattice.specs.PartLaws.{part-append, fresh_part, same_part}
 use Rattle.fed_lattice.specs.BothLaws.{part_joined_reads}
-use Rattle.fed_lattice.specs.TableEntries.{lookup-insert_entry}
-use Rattle.fed_lattice.specs.TableJoins.{joined_options, lookup-joined_tables, value_at_well_formed}
+use Rattle.fed_lattice.specs.TableEntryLaws.{lookup-insert_entry}
+use Rattle.fed_lattice.specs.TableJoinLaws.{joined_options, lookup-joined_tables, value_at_well_formed}
 
 -- ---- what tables read as
 module _ {X C : Type 0} (reads : X → History C → Type 0) where
