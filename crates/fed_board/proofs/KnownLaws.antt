@@ -12,10 +12,10 @@ use Rattle.fed_lattice.specs.SetLaws.{Has-left, Has-cases}
 use Rattle.fed_lattice.specs.History.{History, OneEach}
 use Rattle.fed_lattice.proofs.FilterLaws.{Has-filter, filter-Has, one_each_filter}
 use Rattle.fed_lattice.specs.Latest.{latest, IsLatest}
-use Rattle.fed_lattice.specs.LatestLaws.{stamp_total, latest_reads, latest_from_reads}
+use Rattle.fed_lattice.specs.LatestLaws.{stamp_total, latest_stands, latest_from_stands}
 use Rattle.fed_lattice.specs.Part.{part}
 use Rattle.fed_lattice.specs.PartLaws.{part-append, source, Has-part, one_each_part}
-use Rattle.fed_lattice.specs.Register.{register_reads}
+use Rattle.fed_lattice.specs.Register.{register_stands_for}
 use Rattle.fed_lattice.specs.VersionOf.{version_of}
 use Rattle.fed_lattice.proofs.VersionOfLaws.{version_of-Has}
 use Rattle.fed_record.specs.declared.windows.Window.{Window}
@@ -29,7 +29,7 @@ use Rattle.fed_board.specs.Lawful.{AreKin}
 
 -- a change that h has and that is the latest of h: the latest of g, which has it too, is the latest of both
 module _ {T : Type 0} (g h : History T) (c : StampValue × T) (known : Has g c) (last : IsLatest h c) where
-  kept : (x : Option (StampValue × T)) → register_reads x g → register_reads x (g ++ h)
+  kept : (x : Option (StampValue × T)) → register_stands_for x g → register_stands_for x (g ++ h)
   kept None none = absurd (subst (λ l. Has l c) none known)
   kept (Some p) q = (
     Has-left g h p q.0,
@@ -40,7 +40,7 @@ module _ {T : Type 0} (g h : History T) (c : StampValue × T) (known : Has g c) 
   )
 
   latest_kept : OneEach (g ++ h) → latest (g ++ h) ≡ latest g
-  latest_kept one = latest_from_reads _ _ (g ++ h) one (latest_reads (g ++ h)) (kept (latest g) (latest_reads g))
+  latest_kept one = latest_from_stands _ _ (g ++ h) one (latest_stands (g ++ h)) (kept (latest g) (latest_stands g))
 
 module _ (ops others : History Body) (kin : AreKin ops others) where
   -- of a job that the other set did not touch beyond the version
@@ -89,10 +89,10 @@ module _ (ops others : History Body) (kin : AreKin ops others) where
         let m = Has-filter (is_of_reservation name) others (c.0, s.0) s.1 in
         Has-part window_in (of_reservation name ops) c.0 s.0 c.1 (filter-Has (is_of_reservation name) ops (c.0, s.0) (kin.right_shares (c.0, s.0) m.0 covered) m.1) s.2
 
-    known_latest : (x : ReservationView) → register_reads x h → IfSome x (λ c. covers (version_of ops) c.0 ≡ true) → latest (g ++ h) ≡ latest g
+    known_latest : (x : ReservationView) → register_stands_for x h → IfSome x (λ c. covers (version_of ops) c.0 ≡ true) → latest (g ++ h) ≡ latest g
     known_latest None none covered = ap (λ l. latest (g ++ l)) none ∙ ap latest (append-nil g)
     known_latest (Some c) last covered = latest_kept g h c (known_window c last.0 covered) last one_window
 
     pub covered_reservation : IfSome ((view others).reservation name) (λ c. covers (version_of ops) c.0 ≡ true) → (view (ops ++ others)).reservation name ≡ (view ops).reservation name
     unfolding g h
-    covered_reservation covered = joined_window ∙ known_latest (latest h) (latest_reads h) covered
+    covered_reservation covered = joined_window ∙ known_latest (latest h) (latest_stands h) covered

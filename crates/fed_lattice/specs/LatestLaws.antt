@@ -8,7 +8,7 @@ use Rattle.fed_lattice.specs.SetLaws.{Has-left, Has-right, Has-cases, Has-only}
 use Rattle.fed_lattice.specs.History.{History, OneEach}
 use Rattle.fed_lattice.specs.Order.{IsUpTo}
 use Rattle.fed_lattice.specs.Latest.{stamp_cmp, is_before, later, latest, IsLatest}
-use Rattle.fed_lattice.specs.Register.{register_reads}
+use Rattle.fed_lattice.specs.Register.{register_stands_for}
 use Rattle.fed_lattice.specs.ExactLaws.{exact_stamp}
 use Rattle.fed_lattice.specs.GreatestLaws.{upto_itself, upto_antisymm, upto_from_lt, upto_from_not_lt}
 
@@ -37,23 +37,23 @@ module _ {T : Type 0} where
   cond_later false p q = refl
 
   -- of the latest changes of two histories the later is that of the union
-  pub later_reads : (x y : Option (StampValue × T)) (g h : History T) → register_reads x g → register_reads y h → register_reads (later x y) (g ++ h)
-  later_reads None None g h p q = ap₂ (λ a b. a ++ b) p q
-  later_reads None (Some y) g h p q = subst (λ l. IsLatest (l ++ h) y) (sym p) q
-  later_reads (Some x) None g h p q = subst (λ l. IsLatest l x) (sym (append-nil g) ∙ ap (λ l. g ++ l) (sym q)) p
-  later_reads (Some x) (Some y) g h p q =
-      subst (λ n. register_reads n (g ++ h)) (cond_later (is_before x.0 y.0) x y) (later_joined (is_before x.0 y.0) x y g h refl p q)
+  pub later_stands : (x y : Option (StampValue × T)) (g h : History T) → register_stands_for x g → register_stands_for y h → register_stands_for (later x y) (g ++ h)
+  later_stands None None g h p q = ap₂ (λ a b. a ++ b) p q
+  later_stands None (Some y) g h p q = subst (λ l. IsLatest (l ++ h) y) (sym p) q
+  later_stands (Some x) None g h p q = subst (λ l. IsLatest l x) (sym (append-nil g) ∙ ap (λ l. g ++ l) (sym q)) p
+  later_stands (Some x) (Some y) g h p q =
+      subst (λ n. register_stands_for n (g ++ h)) (cond_later (is_before x.0 y.0) x y) (later_joined (is_before x.0 y.0) x y g h refl p q)
 
-  pub latest_reads : (h : History T) → register_reads (latest h) h
-  latest_reads [] = refl
-  latest_reads (e ∷ h) =
+  pub latest_stands : (h : History T) → register_stands_for (latest h) h
+  latest_stands [] = refl
+  latest_stands (e ∷ h) =
       let one : IsLatest (e ∷ []) e = (inl refl, λ f k. subst (λ (d : StampValue × T). IsUpTo stamp_cmp d.0 e.0) (Has-only e f k) (upto_itself stamp_cmp stamp_total e.0)) in
-      later_reads (Some e) (latest h) (e ∷ []) h one (latest_reads h)
+      later_stands (Some e) (latest h) (e ∷ []) h one (latest_stands h)
 
   -- where different changes have different stamps, one change alone is the latest
-  pub latest_from_reads : (x y : Option (StampValue × T)) (h : History T) → OneEach h → register_reads x h → register_reads y h → x ≡ y
-  latest_from_reads None None h one p q = refl
-  latest_from_reads None (Some y) h one p q = absurd (subst (λ l. Has l y) p q.0)
-  latest_from_reads (Some x) None h one p q = absurd (subst (λ l. Has l x) q p.0)
-  latest_from_reads (Some x) (Some y) h one p q =
+  pub latest_from_stands : (x y : Option (StampValue × T)) (h : History T) → OneEach h → register_stands_for x h → register_stands_for y h → x ≡ y
+  latest_from_stands None None h one p q = refl
+  latest_from_stands None (Some y) h one p q = absurd (subst (λ l. Has l y) p q.0)
+  latest_from_stands (Some x) None h one p q = absurd (subst (λ l. Has l x) q p.0)
+  latest_from_stands (Some x) (Some y) h one p q =
       ap Some (one x y p.0 q.0 (upto_antisymm stamp_cmp stamp_total exact_stamp x.0 y.0 (q.1 x p.0) (p.1 y q.0)))

@@ -8,12 +8,12 @@ use Rattle.fed_lattice.specs.Sets.{Has}
 use Rattle.fed_lattice.specs.History.{History}
 use Rattle.fed_lattice.specs.Order.{IsUpTo}
 use Rattle.fed_lattice.specs.Latest.{stamp_cmp}
-use Rattle.fed_lattice.specs.LatestLaws.{latest_reads}
+use Rattle.fed_lattice.specs.LatestLaws.{latest_stands}
 use Rattle.fed_lattice.specs.Part.{part}
 use Rattle.fed_lattice.specs.PartLaws.{source, Has-part}
-use Rattle.fed_lattice.specs.Register.{register_reads}
-use Rattle.fed_lattice.specs.Stage.{stage_reads}
-use Rattle.fed_lattice.specs.StageLaws.{stage_reads_greatest}
+use Rattle.fed_lattice.specs.Register.{register_stands_for}
+use Rattle.fed_lattice.specs.Stage.{stage_stands_for}
+use Rattle.fed_lattice.specs.StageLaws.{stage_stands_for_greatest}
 use Rattle.fed_lattice.specs.Stamped.{stamped}
 use Rattle.fed_lattice.proofs.StampedLaws.{stamped-Has, Has-stamped}
 use Rattle.fed_record.specs.declared.grants.GrantStage.{GrantStage}
@@ -37,12 +37,12 @@ none_found (Some t) e = cc
 module _ {T : Type 0} (says : Body → Option T) (h : History Body) where
   -- an operation says the value, under the stamp that stands beside it
   pub field_found : (c : StampValue × T) → field says h ≡ Some c → (body : Body) × Has h (c.0, body) × (says body ≡ Some c.1)
-  field_found c e = let r = subst (λ o. register_reads o (part says h)) e (latest_reads (part says h)) in source says h c r.0
+  field_found c e = let r = subst (λ o. register_stands_for o (part says h)) e (latest_stands (part says h)) in source says h c r.0
 
   -- that stamp is the greatest of those of operations that say a value
   pub field_greatest : (c : StampValue × T) → field says h ≡ Some c → (t : StampValue) (body : Body) (d : T) → Has h (t, body) → says body ≡ Some d → IsUpTo stamp_cmp t c.0
   field_greatest c e t body d k s =
-      let r = subst (λ o. register_reads o (part says h)) e (latest_reads (part says h)) in r.1 (t, d) (Has-part says h t body d k s)
+      let r = subst (λ o. register_stands_for o (part says h)) e (latest_stands (part says h)) in r.1 (t, d) (Has-part says h t body d k s)
 
   -- where nothing is read no operation says a value
   pub field_none : field says h ≡ None → (t : StampValue) (body : Body) → Has h (t, body) → says body ≡ None
@@ -51,7 +51,7 @@ module _ {T : Type 0} (says : Body → Option T) (h : History Body) where
       go : (o : Option T) → says body ≡ o → o ≡ None
       go None s = refl
       go (Some d) s =
-          let r : part says h ≡ [] = subst (λ o. register_reads o (part says h)) e (latest_reads (part says h)) in
+          let r : part says h ≡ [] = subst (λ o. register_stands_for o (part says h)) e (latest_stands (part says h)) in
           absurd (subst (λ l. Has l (t, d)) r (Has-part says h t body d k s))
 
 -- ---- grants
@@ -59,9 +59,9 @@ module _ (h : History Body) where
   stages : History GrantStage
   stages = part grant_in (stamped h)
 
-  grant_reads : (o : Option GrantStage) → grant_stage h ≡ o → stage_reads grant_cmp o stages
+  grant_stands : (o : Option GrantStage) → grant_stage h ≡ o → stage_stands_for grant_cmp o stages
   unfolding stages
-  grant_reads o e = subst (λ o. stage_reads grant_cmp o (part grant_in (stamped h))) e (stage_reads_greatest grant_cmp grant_total (part grant_in (stamped h)))
+  grant_stands o e = subst (λ o. stage_stands_for grant_cmp o (part grant_in (stamped h))) e (stage_stands_for_greatest grant_cmp grant_total (part grant_in (stamped h)))
 
   has_stage : (e : StampValue × Body) (g : GrantStage) → Has h e → grant_in e ≡ Some g → Has stages (e.0, g)
   unfolding stages
@@ -71,13 +71,13 @@ module _ (h : History Body) where
   pub grant_found : (g : GrantStage) → grant_stage h ≡ Some g → (e : StampValue × Body) × Has h e × (grant_in e ≡ Some g)
   unfolding stages
   grant_found g e =
-      let r = grant_reads (Some g) e in
+      let r = grant_stands (Some g) e in
       let s = source grant_in (stamped h) (r.0.0, g) r.0.1 in
       (s.0, (Has-stamped h (r.0.0, s.0) s.1).0, s.2)
 
   -- no operation brings a greater one
   pub grant_greatest : (g : GrantStage) → grant_stage h ≡ Some g → (e : StampValue × Body) (k : GrantStage) → Has h e → grant_in e ≡ Some k → IsUpTo grant_cmp k g
-  grant_greatest g is e k m s = (grant_reads (Some g) is).1 (e.0, k) (has_stage e k m s)
+  grant_greatest g is e k m s = (grant_stands (Some g) is).1 (e.0, k) (has_stage e k m s)
 
   -- where there is no stage no operation brings one
   pub grant_none : grant_stage h ≡ None → (e : StampValue × Body) → Has h e → grant_in e ≡ None
@@ -85,7 +85,7 @@ module _ (h : History Body) where
     where
       go : (o : Option GrantStage) → grant_in e ≡ o → o ≡ None
       go None s = refl
-      go (Some g) s = absurd (subst (λ l. Has l (e.0, g)) (grant_reads None is) (has_stage e g m s))
+      go (Some g) s = absurd (subst (λ l. Has l (e.0, g)) (grant_stands None is) (has_stage e g m s))
 
 -- ---- jobs
 submit_body : (body : Body) (w : List ℕ) → owner_in body ≡ Some w → (values : JobValues) × (held : Bool) × (body ≡ Submit w values held)

@@ -5,16 +5,16 @@ use Rattle.std.specs.Prelude.{ℤ}
 use Rattle.std.proofs.Common.{◌≡◌, ◌↔◌, ℕ, List, Bool, true, Option, Some, refl, sym, ap, subst, ◌∙◌}
 use Rattle.fed_stamp.specs.Stamp.{StampValue}
 use Rattle.fed_lattice.proofs.FilterLaws.{Has-filter, filter-Has}
-use Rattle.fed_lattice.specs.Flag.{flag_reads, has_changes}
-use Rattle.fed_lattice.specs.FlagLaws.{flag_from_reads}
+use Rattle.fed_lattice.specs.Flag.{flag_stands_for, has_changes}
+use Rattle.fed_lattice.specs.FlagLaws.{flag_from_stands}
 use Rattle.fed_lattice.specs.Sets.{Has}
 use Rattle.fed_lattice.specs.History.{History, OneEach}
-use Rattle.fed_lattice.specs.LatestLaws.{latest_reads, latest_from_reads}
+use Rattle.fed_lattice.specs.LatestLaws.{latest_stands, latest_from_stands}
 use Rattle.fed_lattice.specs.Part.{part, first_change, second_change}
 use Rattle.fed_lattice.specs.PartLaws.{one_each_part}
-use Rattle.fed_lattice.specs.Register.{register_reads}
-use Rattle.fed_lattice.specs.Stage.{stage_reads}
-use Rattle.fed_lattice.specs.StageLaws.{stage_reads_greatest, stage_from_reads}
+use Rattle.fed_lattice.specs.Register.{register_stands_for}
+use Rattle.fed_lattice.specs.Stage.{stage_stands_for}
+use Rattle.fed_lattice.specs.StageLaws.{stage_stands_for_greatest, stage_from_stands}
 use Rattle.fed_lattice.specs.Stamped.{stamped}
 use Rattle.fed_tags.specs.Tags.{pair_cmp}
 use Rattle.fed_tags.specs.TagLaws.{has_member, member}
@@ -37,10 +37,10 @@ use Rattle.fed_record.proofs.RecordReads.{every_kind, every_site, removed_hold, 
 
 -- ---- registers, over the operations or over a nest of parts of their changes
 pub field_is : {T : Type 0} (says : Body → Option T) (x : Option (StampValue × T)) (h : History Operation) (l : History T)
-    → OneEach h → l ≡ part says (bodies h) → register_reads x l → x ≡ field says (bodies h)
+    → OneEach h → l ≡ part says (bodies h) → register_stands_for x l → x ≡ field says (bodies h)
 field_is says x h l one e p =
-    latest_from_reads x (field says (bodies h)) (part says (bodies h)) (one_each_part says (bodies h) (one_each_bodies h one))
-    (subst (register_reads x) e p) (latest_reads (part says (bodies h)))
+    latest_from_stands x (field says (bodies h)) (part says (bodies h)) (one_each_part says (bodies h) (one_each_bodies h one))
+    (subst (register_stands_for x) e p) (latest_stands (part says (bodies h)))
 
 -- a part of a nest is what the bodies say
 pub said_by : {C D T : Type 0} (f : D → Option T) (k : C → D) (g : C → Option T) (l : History C) (m : History T) → ((c : C) → f (k c) ≡ g c) → part g l ≡ m → part f (part (always k) l) ≡ m
@@ -72,13 +72,13 @@ site_removed c site tag = (
 )
 
 -- ---- stages
-pub deletion_is : (x : Bool) (h : History Operation) (l : History (Unit {0})) → l ≡ part deletion_in (bodies h) → flag_reads x l → x ≡ has_changes (part deletion_in (bodies h))
-deletion_is x h l e p = flag_from_reads x (part deletion_in (bodies h)) (subst (flag_reads x) e p)
+pub deletion_is : (x : Bool) (h : History Operation) (l : History (Unit {0})) → l ≡ part deletion_in (bodies h) → flag_stands_for x l → x ≡ has_changes (part deletion_in (bodies h))
+deletion_is x h l e p = flag_from_stands x (part deletion_in (bodies h)) (subst (flag_stands_for x) e p)
 
-pub grant_is : (x : Option GrantStage) (h : History Operation) (l : History GrantStage) → l ≡ part grant_in (stamped (bodies h)) → stage_reads grant_cmp x l → x ≡ grant_stage (bodies h)
+pub grant_is : (x : Option GrantStage) (h : History Operation) (l : History GrantStage) → l ≡ part grant_in (stamped (bodies h)) → stage_stands_for grant_cmp x l → x ≡ grant_stage (bodies h)
 grant_is x h l e p =
-    stage_from_reads grant_cmp grant_total exact_grant x (grant_stage (bodies h)) (part grant_in (stamped (bodies h)))
-    (subst (stage_reads grant_cmp x) e p) (stage_reads_greatest grant_cmp grant_total (part grant_in (stamped (bodies h))))
+    stage_from_stands grant_cmp grant_total exact_grant x (grant_stage (bodies h)) (part grant_in (stamped (bodies h)))
+    (subst (stage_stands_for grant_cmp x) e p) (stage_stands_for_greatest grant_cmp grant_total (part grant_in (stamped (bodies h))))
 
 -- ---- the nests of parts
 rest_of : {C A B : Type 0} (k : C → Option A × Option B) (r : C → B) (h : History C) → ((c : C) → second_change (k c) ≡ Some (r c)) → part second_change (part (always k) h) ≡ part (always r) h

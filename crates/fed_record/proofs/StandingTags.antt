@@ -11,7 +11,7 @@ use Rattle.fed_lattice.specs.SetLaws.{found, any_from}
 use Rattle.fed_lattice.specs.History.{History}
 use Rattle.fed_lattice.specs.Part.{part}
 use Rattle.fed_lattice.specs.PartLaws.{source, Has-part}
-use Rattle.fed_tags.specs.Tags.{pair_cmp, has, IsAdded, IsRemoved, tags_read}
+use Rattle.fed_tags.specs.Tags.{pair_cmp, has, IsAdded, IsRemoved, tags_stand_for}
 use Rattle.fed_tags.specs.TagLaws.{pair_total, exact_pair, has_member, member}
 use Rattle.fed_record.specs.declared.operations.Operation.{Operation}
 use Rattle.fed_record.specs.Body.{Body, same_stamp}
@@ -60,7 +60,7 @@ module _ {E : Type 0} (cmp : E → E → Ordering) (o : IsTotalOrder cmp) (exact
       let b = Has-bodies h f.0 f.1 in
       ((f.0.0, change b.0), Has-part (always change) h f.0.0 b.0 (change b.0) b.1 refl, (removed_is b.0 e tag).1 (ap (λ x. removes x e tag) b.2 ∙ f.2))
 
-  pub live_is : (xs : List (E × StampValue)) → tags_read xs (part (always change) h) → has (pair_cmp cmp) xs (e, tag) ≡ is_live adds removes (bodies h) e tag
+  pub live_is : (xs : List (E × StampValue)) → tags_stand_for xs (part (always change) h) → has (pair_cmp cmp) xs (e, tag) ≡ is_live adds removes (bodies h) e tag
   live_is xs reads =
       let R = pair_cmp cmp in
       let order = pair_total cmp o in

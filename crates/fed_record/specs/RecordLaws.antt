@@ -13,7 +13,7 @@ use Rattle.fed_stamp.specs.Version.{covers}
 use Rattle.fed_lattice.specs.Sets.{Has}
 use Rattle.fed_lattice.specs.History.{History, IsFresh, OneEach, IsCovered, Shares, Agree}
 use Rattle.fed_lattice.specs.Part.{part}
-use Rattle.fed_lattice.specs.BothLaws.{part_joined_reads}
+use Rattle.fed_lattice.specs.BothLaws.{part_joined_stands}
 use Rattle.fed_lattice.specs.Stamped.{stamped}
 use Rattle.fed_lattice.proofs.StampedLaws.{stamped-append, stamped-Has, Has-stamped}
 use Rattle.fed_tags.specs.Tags.{pair_cmp}
@@ -88,11 +88,11 @@ module _ {C : Type 0} where
   }
 
 -- what joins the parts of two histories whose changes say their stamps
-module _ {X C D : Type 0} (f : StampValue × C → D) (reads : X → History D → Type 0) (is_history : History D → Type 0) where
-  pub stamped_joined_reads : (m : X) (v w : List ℕ) (g h : History C)
+module _ {X C D : Type 0} (f : StampValue × C → D) (stands_for : X → History D → Type 0) (is_history : History D → Type 0) where
+  pub stamped_joined_stands : (m : X) (v w : List ℕ) (g h : History C)
       → (Agree v (part (always f) (stamped g)) w (part (always f) (stamped h)) → is_history (part (always f) (stamped g)) → is_history (part (always f) (stamped h))
-      → reads m (part (always f) (stamped g) ++ part (always f) (stamped h)))
-      → Agree v g w h → is_history (part (always f) (stamped g)) → is_history (part (always f) (stamped h)) → reads m (part (always f) (stamped (g ++ h)))
-  stamped_joined_reads m v w g h law a i j =
-      subst (λ l. reads m (part (always f) l)) (sym (stamped-append g h))
-      (part_joined_reads (always f) reads is_history m v w (stamped g) (stamped h) law (agree_stamped v w g h a) i j)
+      → stands_for m (part (always f) (stamped g) ++ part (always f) (stamped h)))
+      → Agree v g w h → is_history (part (always f) (stamped g)) → is_history (part (always f) (stamped h)) → stands_for m (part (always f) (stamped (g ++ h)))
+  stamped_joined_stands m v w g h law a i j =
+      subst (λ l. stands_for m (part (always f) l)) (sym (stamped-append g h))
+      (part_joined_stands (always f) stands_for is_history m v w (stamped g) (stamped h) law (agree_stamped v w g h a) i j)

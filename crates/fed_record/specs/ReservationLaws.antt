@@ -11,8 +11,8 @@ use Rattle.fed_lattice.specs.ExactLaws.{tells_options, tells_pairs, tells_stamps
 use Rattle.fed_lattice.specs.GreatestLaws.{exact_option}
 use Rattle.fed_lattice.specs.Part.{part}
 use Rattle.fed_lattice.specs.PartLaws.{part-append}
-use Rattle.fed_lattice.specs.Register.{joined_registers, register_reads}
-use Rattle.fed_lattice.specs.RegisterLaws.{register_applied_reads, register_joined_reads}
+use Rattle.fed_lattice.specs.Register.{joined_registers, register_stands_for}
+use Rattle.fed_lattice.specs.RegisterLaws.{register_applied_stands, register_joined_stands}
 use Rattle.fed_lattice.specs.Stamped.{with_stamp}
 use Rattle.fed_record.specs.declared.operations.Operation.{Operation}
 use Rattle.fed_record.specs.declared.windows.Window.{Window}
@@ -48,14 +48,14 @@ same_where_none : (x : ReservationView) (s : StampValue) → joined_registers op
 same_where_none None s = refl
 same_where_none (Some p) s = refl
 
-pub reservation_applied_reads : (x : ReservationView) (h : History Operation) (s : StampValue) (c : Operation) → register_reads x (part window_change h) → register_reads (joined_registers option_window_cmp x (with_stamp s (window_change c))) (part window_change ((s, c) ∷ h))
-reservation_applied_reads x h s c r = go (window_change c)
+pub reservation_applied_stands : (x : ReservationView) (h : History Operation) (s : StampValue) (c : Operation) → register_stands_for x (part window_change h) → register_stands_for (joined_registers option_window_cmp x (with_stamp s (window_change c))) (part window_change ((s, c) ∷ h))
+reservation_applied_stands x h s c r = go (window_change c)
   where
-    go : (w : Option (Option Window)) → register_reads (joined_registers option_window_cmp x (with_stamp s w)) (cons_option (option_map (λ (d : Option Window). (s, d)) w) (part window_change h))
-    go None = subst (λ y. register_reads y (part window_change h)) (sym (same_where_none x s)) r
-    go (Some w) = register_applied_reads option_window_cmp option_window_total exact_option_window x (part window_change h) s w r
+    go : (w : Option (Option Window)) → register_stands_for (joined_registers option_window_cmp x (with_stamp s w)) (cons_option (option_map (λ (d : Option Window). (s, d)) w) (part window_change h))
+    go None = subst (λ y. register_stands_for y (part window_change h)) (sym (same_where_none x s)) r
+    go (Some w) = register_applied_stands option_window_cmp option_window_total exact_option_window x (part window_change h) s w r
 
-pub reservation_joined_reads : (x y : ReservationView) (g h : History Operation) → register_reads x (part window_change g) → register_reads y (part window_change h) → register_reads (joined_registers option_window_cmp x y) (part window_change (g ++ h))
-reservation_joined_reads x y g h p q =
-    subst (register_reads (joined_registers option_window_cmp x y)) (sym (part-append window_change g h))
-    (register_joined_reads option_window_cmp option_window_total x y (part window_change g) (part window_change h) p q)
+pub reservation_joined_stands : (x y : ReservationView) (g h : History Operation) → register_stands_for x (part window_change g) → register_stands_for y (part window_change h) → register_stands_for (joined_registers option_window_cmp x y) (part window_change (g ++ h))
+reservation_joined_stands x y g h p q =
+    subst (register_stands_for (joined_registers option_window_cmp x y)) (sym (part-append window_change g h))
+    (register_joined_stands option_window_cmp option_window_total x y (part window_change g) (part window_change h) p q)

@@ -48,6 +48,6 @@ pub fn joined_records_read()
 /// A record that stands for the operations of a job, of which different ones have different stamps, reads as their
 /// view.
 pub fn standing_records_read()
-    ensures { (r : JobRecordValue) (h : History Operation) → OneEach h → ⟦<JobRecord as Causal>⟧.reads r h →
+    ensures { (r : JobRecordValue) (h : History Operation) → OneEach h → ⟦<JobRecord as Causal>⟧.stands_for r h →
         reads r ≡ job_view (bodies h) }
 {}

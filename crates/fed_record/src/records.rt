@@ -5,16 +5,16 @@ ghost use Rattle.std.specs.Ordering.{nat_cmp};
 ghost use Rattle.std.specs.List.Sorted.{IsStrictlySortedBy};
 ghost use Rattle.fed_stamp.specs.Version.{joined as joined_versions, raised};
 ghost use Rattle.fed_stamp.proofs.VersionLaws.{joined-assoc, joined-comm, joined-itself};
-ghost use Rattle.fed_lattice.specs.BothLaws.{part_joined_reads};
+ghost use Rattle.fed_lattice.specs.BothLaws.{part_joined_stands};
 ghost use Rattle.fed_lattice.specs.PartLaws.{fresh_part, same_part};
 ghost use Rattle.fed_lattice.specs.Stamped.{stamped};
 ghost use Rattle.fed_lattice.proofs.StampedLaws.{same_stamped};
 ghost use Rattle.fed_lattice.specs.VersionOf.{version_of};
 ghost use Rattle.fed_lattice.proofs.VersionOfLaws.{joined_zeros, version_of-append, version_of-same};
-ghost use Rattle.fed_tags.specs.Tags.{pair_cmp, stamped as with_tag, inserted, applied_tags, joined_tags, IsTagHistory, tags_read};
-ghost use Rattle.fed_tags.specs.TagLaws.{sorted_empty, sorted_applied, sorted_joined, joined_tags_assoc, joined_tags_comm, joined_tags_itself, empty_tags_read, applied_tags_read, joined_tags_read, tags_read_same};
+ghost use Rattle.fed_tags.specs.Tags.{pair_cmp, stamped as with_tag, inserted, applied_tags, joined_tags, IsTagHistory, tags_stand_for};
+ghost use Rattle.fed_tags.specs.TagLaws.{sorted_empty, sorted_applied, sorted_joined, joined_tags_assoc, joined_tags_comm, joined_tags_itself, empty_tags_stand, applied_tags_stand, joined_tags_stand, tags_stand_same};
 ghost use Rattle.fed_record.specs.Hold.{kind_cmp};
-ghost use Rattle.fed_record.specs.RecordLaws.{hold_order, hold_exact, site_order, site_exact, fresh_stamped, stamped_joined_reads};
+ghost use Rattle.fed_record.specs.RecordLaws.{hold_order, hold_exact, site_order, site_exact, fresh_stamped, stamped_joined_stands};
 ghost use Rattle.fed_record.specs.Changes.{field_change as change_of_fields, stage_change as change_of_stages, hold_change, site_change, always, field_changes, stage_changes, hold_changes, site_changes};
 
 use crate::changes::{
@@ -195,8 +195,8 @@ impl<F: Causal<Change = FieldChange> + Drop, G: Causal<Change = StageChange> + D
     ghost is_history = { λ h. F.is_history (field_changes h) × G.is_history (stage_changes h) ×
         IsTagHistory (hold_changes h) × IsTagHistory (site_changes h) };
 
-    ghost reads = { λ x h. F.reads x.fields (field_changes h) × G.reads x.stages (stage_changes h) ×
-        tags_read x.holds (hold_changes h) × tags_read x.sites (site_changes h) × (x.touched ≡ version_of h) };
+    ghost stands_for = { λ x h. F.stands_for x.fields (field_changes h) × G.stands_for x.stages (stage_changes h) ×
+        tags_stand_for x.holds (hold_changes h) × tags_stand_for x.sites (site_changes h) × (x.touched ≡ version_of h) };
 
     ghost is_inline = { ⊥ };
 
@@ -298,40 +298,40 @@ impl<F: Causal<Change = FieldChange> + Drop, G: Causal<Change = StageChange> + D
       touched = joined_zeros 16 (replicate 16 0) refl i;
     } };
 
-    ghost bottom_reads = { (F.bottom_reads, G.bottom_reads, empty_tags_read, empty_tags_read, refl) };
+    ghost bottom_stands = { (F.bottom_stands, G.bottom_stands, empty_tags_stand, empty_tags_stand, refl) };
 
-    ghost applied_reads = { λ x h s c p r k f i. (
-      F.applied_reads x.fields (field_changes h) s (change_of_fields c) p.0 r.0 k.0
+    ghost applied_stands = { λ x h s c p r k f i. (
+      F.applied_stands x.fields (field_changes h) s (change_of_fields c) p.0 r.0 k.0
           (fresh_part (always change_of_fields) s h f) i.0,
-      G.applied_reads x.stages (stage_changes h) s (change_of_stages (s, c)) p.1 r.1 k.1
+      G.applied_stands x.stages (stage_changes h) s (change_of_stages (s, c)) p.1 r.1 k.1
           (fresh_part (always change_of_stages) s (stamped h) (fresh_stamped s h f)) i.1,
-      applied_tags_read (pair_cmp kind_cmp) hold_order hold_exact x.holds (hold_changes h) s (hold_change c) p.2 r.2 k.2
+      applied_tags_stand (pair_cmp kind_cmp) hold_order hold_exact x.holds (hold_changes h) s (hold_change c) p.2 r.2 k.2
           (fresh_part (always hold_change) s h f) i.2,
-      applied_tags_read (pair_cmp nat_cmp) site_order site_exact x.sites (site_changes h) s (site_change c) p.3 r.3 k.3
+      applied_tags_stand (pair_cmp nat_cmp) site_order site_exact x.sites (site_changes h) s (site_change c) p.3 r.3 k.3
           (fresh_part (always site_change) s h f) i.3,
       ap (λ t. raised t s) r.4,
     ) };
 
-    ghost joined_reads = { λ x y v w g h p q rx ry a i j. (
-      part_joined_reads (always change_of_fields) F.reads F.is_history (F.joined x.fields v y.fields w) v w g h
-          (F.joined_reads x.fields y.fields v w (field_changes g) (field_changes h) p.0 q.0 rx.0 ry.0) a i.0 j.0,
-      stamped_joined_reads change_of_stages G.reads G.is_history (G.joined x.stages v y.stages w) v w g h
-          (G.joined_reads x.stages y.stages v w (stage_changes g) (stage_changes h) p.1 q.1 rx.1 ry.1) a i.1 j.1,
-      part_joined_reads (always hold_change) tags_read IsTagHistory (joined_tags (pair_cmp kind_cmp) x.holds v y.holds w)
-          v w g h (joined_tags_read (pair_cmp kind_cmp) hold_order hold_exact x.holds y.holds v w (hold_changes g)
+    ghost joined_stands = { λ x y v w g h p q rx ry a i j. (
+      part_joined_stands (always change_of_fields) F.stands_for F.is_history (F.joined x.fields v y.fields w) v w g h
+          (F.joined_stands x.fields y.fields v w (field_changes g) (field_changes h) p.0 q.0 rx.0 ry.0) a i.0 j.0,
+      stamped_joined_stands change_of_stages G.stands_for G.is_history (G.joined x.stages v y.stages w) v w g h
+          (G.joined_stands x.stages y.stages v w (stage_changes g) (stage_changes h) p.1 q.1 rx.1 ry.1) a i.1 j.1,
+      part_joined_stands (always hold_change) tags_stand_for IsTagHistory (joined_tags (pair_cmp kind_cmp) x.holds v y.holds w)
+          v w g h (joined_tags_stand (pair_cmp kind_cmp) hold_order hold_exact x.holds y.holds v w (hold_changes g)
           (hold_changes h) p.2 q.2 rx.2 ry.2) a i.2 j.2,
-      part_joined_reads (always site_change) tags_read IsTagHistory (joined_tags (pair_cmp nat_cmp) x.sites v y.sites w)
-          v w g h (joined_tags_read (pair_cmp nat_cmp) site_order site_exact x.sites y.sites v w (site_changes g)
+      part_joined_stands (always site_change) tags_stand_for IsTagHistory (joined_tags (pair_cmp nat_cmp) x.sites v y.sites w)
+          v w g h (joined_tags_stand (pair_cmp nat_cmp) site_order site_exact x.sites y.sites v w (site_changes g)
           (site_changes h) p.3 q.3 rx.3 ry.3) a i.3 j.3,
       ap₂ joined_versions rx.4 ry.4 ∙ sym (version_of-append g h),
     ) };
 
-    ghost reads_same = { λ x g h e p. (
-      F.reads_same x.fields (field_changes g) (field_changes h) (same_part (always change_of_fields) g h e) p.0,
-      G.reads_same x.stages (stage_changes g) (stage_changes h)
+    ghost stands_same = { λ x g h e p. (
+      F.stands_same x.fields (field_changes g) (field_changes h) (same_part (always change_of_fields) g h e) p.0,
+      G.stands_same x.stages (stage_changes g) (stage_changes h)
           (same_part (always change_of_stages) (stamped g) (stamped h) (same_stamped g h e)) p.1,
-      tags_read_same x.holds (hold_changes g) (hold_changes h) (same_part (always hold_change) g h e) p.2,
-      tags_read_same x.sites (site_changes g) (site_changes h) (same_part (always site_change) g h e) p.3,
+      tags_stand_same x.holds (hold_changes g) (hold_changes h) (same_part (always hold_change) g h e) p.2,
+      tags_stand_same x.sites (site_changes g) (site_changes h) (same_part (always site_change) g h e) p.3,
       p.4 ∙ version_of-same g h e,
     ) };
 }

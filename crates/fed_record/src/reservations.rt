@@ -3,13 +3,13 @@ ghost use Rattle.std.specs.Prelude.{◌≡◌, ◌↔◌, None, Some, IsTrue, Is
 ghost use Rattle.fed_lattice.specs.History.{History, OneEach};
 ghost use Rattle.fed_lattice.specs.Part.{part};
 ghost use Rattle.fed_lattice.specs.PartLaws.{same_part};
-ghost use Rattle.fed_lattice.specs.Register.{stamped_cmp, joined_registers, register_reads};
-ghost use Rattle.fed_lattice.specs.RegisterLaws.{stamped_total, exact_stamped, register_reads_same};
+ghost use Rattle.fed_lattice.specs.Register.{stamped_cmp, joined_registers, register_stands_for};
+ghost use Rattle.fed_lattice.specs.RegisterLaws.{stamped_total, exact_stamped, register_stands_same};
 ghost use Rattle.fed_lattice.specs.GreatestLaws.{option_max_assoc, option_max_comm, option_max_itself};
 ghost use Rattle.fed_lattice.specs.Stamped.{with_stamp};
 ghost use Rattle.fed_record.specs.Operation.{bodies};
 ghost use Rattle.fed_record.specs.Reservation.{ReservationView, reservation_view, window_change};
-ghost use Rattle.fed_record.specs.ReservationLaws.{exact_option_window, tells_reservations, reservation_applied_reads, reservation_joined_reads};
+ghost use Rattle.fed_record.specs.ReservationLaws.{exact_option_window, tells_reservations, reservation_applied_stands, reservation_joined_stands};
 ghost use Rattle.fed_record.specs.ValueOrders.{option_window_cmp};
 ghost use Rattle.fed_record.specs.ValueOrderLaws.{option_window_total};
 ghost use Rattle.fed_record.specs.declared.operations.Operation.{Operation};
@@ -96,7 +96,7 @@ impl Causal for Reservation {
 
     ghost is_history = { λ _. Unit {0} };
 
-    ghost reads = { λ x h. register_reads x (part window_change h) };
+    ghost stands_for = { λ x h. register_stands_for x (part window_change h) };
 
     ghost is_inline = { Unit {0} };
 
@@ -138,19 +138,19 @@ impl Causal for Reservation {
 
     ghost joined_bottoms = { λ _ _. refl };
 
-    ghost bottom_reads = { refl };
+    ghost bottom_stands = { refl };
 
-    ghost applied_reads = { λ x h s c _ r _ _ _. reservation_applied_reads x h s c r };
+    ghost applied_stands = { λ x h s c _ r _ _ _. reservation_applied_stands x h s c r };
 
-    ghost joined_reads = { λ x y _ _ g h _ _ p q _ _ _. reservation_joined_reads x y g h p q };
+    ghost joined_stands = { λ x y _ _ g h _ _ p q _ _ _. reservation_joined_stands x y g h p q };
 
-    ghost reads_same = { λ x g h e p. register_reads_same x (part window_change g) (part window_change h) (same_part window_change g h e) p };
+    ghost stands_same = { λ x g h e p. register_stands_same x (part window_change g) (part window_change h) (same_part window_change g h e) p };
 }
 
 /// A reservation that stands for a history of operations, of which different ones have different stamps, is their
 /// view: the greatest stamp among those that reserve or cancel, with the window of that operation, or with no window
 /// where it cancels. Where none of them reserves or cancels, the reservation is not made.
 pub fn standing_reservations_read()
-    ensures { (r : ReservationView) (h : History Operation) → OneEach h → ⟦<Reservation as Causal>⟧.reads r h →
+    ensures { (r : ReservationView) (h : History Operation) → OneEach h → ⟦<Reservation as Causal>⟧.stands_for r h →
         r ≡ reservation_view (bodies h) }
 {}

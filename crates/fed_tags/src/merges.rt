@@ -1,8 +1,8 @@
 //! Tag sets merge.
 ghost use Rattle.std.specs.Prelude.{◌≡◌, [], IfOk, OnOk, OnErr, IsOk, refl};
 ghost use Rattle.std.specs.List.Sorted.{IsStrictlySortedBy};
-ghost use Rattle.fed_tags.specs.Tags.{pair_cmp, joined_tags, applied_tags, IsTagHistory, tags_read};
-ghost use Rattle.fed_tags.specs.TagLaws.{pair_total, exact_pair, sorted_empty, sorted_applied, sorted_joined, joined_tags_assoc, joined_tags_comm, joined_tags_itself, empty_tags_read, applied_tags_read, joined_tags_read, tags_read_same};
+ghost use Rattle.fed_tags.specs.Tags.{pair_cmp, joined_tags, applied_tags, IsTagHistory, tags_stand_for};
+ghost use Rattle.fed_tags.specs.TagLaws.{pair_total, exact_pair, sorted_empty, sorted_applied, sorted_joined, joined_tags_assoc, joined_tags_comm, joined_tags_itself, empty_tags_stand, applied_tags_stand, joined_tags_stand, tags_stand_same};
 
 use crate::changes::TagChange;
 use crate::sets::TagSet;
@@ -23,7 +23,7 @@ impl<T: Exact> Causal for TagSet<T> {
 
     ghost is_history = { IsTagHistory };
 
-    ghost reads = { tags_read };
+    ghost stands_for = { tags_stand_for };
 
     ghost is_inline = { ⊥ };
 
@@ -67,11 +67,11 @@ impl<T: Exact> Causal for TagSet<T> {
 
     ghost joined_bottoms = { λ _ _. refl };
 
-    ghost bottom_reads = { empty_tags_read };
+    ghost bottom_stands = { empty_tags_stand };
 
-    ghost applied_reads = { applied_tags_read (pair_cmp T.cmp) (pair_total T.cmp T.total) (exact_pair T.cmp T.exact) };
+    ghost applied_stands = { applied_tags_stand (pair_cmp T.cmp) (pair_total T.cmp T.total) (exact_pair T.cmp T.exact) };
 
-    ghost joined_reads = { joined_tags_read (pair_cmp T.cmp) (pair_total T.cmp T.total) (exact_pair T.cmp T.exact) };
+    ghost joined_stands = { joined_tags_stand (pair_cmp T.cmp) (pair_total T.cmp T.total) (exact_pair T.cmp T.exact) };
 
-    ghost reads_same = { tags_read_same };
+    ghost stands_same = { tags_stand_same };
 }
