@@ -2,9 +2,7 @@
 use Rattle.std.specs.BTreeMap.{is_at}
 use Rattle.std.specs.Map.{keys_of, values_of, lookup}
 use Rattle.std.specs.List.Sorted.{IsStrictlySortedBy}
-use Rattle.std.specs.Option.{option_cmp}
-use Rattle.std.specs.Ordering.{is_lt}
-use Rattle.std.proofs.Common.{◌≡◌, ◌⊎◌, ℕ, ◌<◌, List, All, Bool, true, false, cond, ◌||◌, Option, Some, None, is_some, IsSome, IfSome, MatchOption, unwrap_or, refl, sym, ap, subst, ◌∙◌, inl, inr}
+use Rattle.std.proofs.Common.{◌≡◌, ◌⊎◌, ℕ, ◌<◌, List, All, true, ◌||◌, Option, Some, None, is_some, IsSome, IfSome, unwrap_or, refl, sym, ap, subst, ◌∙◌, inl, inr}
 use Rattle.std.proofs.lemmas.Option.{IfSome_then}
 use Rattle.fed_stamp.specs.Stamp.{StampValue}
 use Rattle.fed_stamp.specs.Version.{covers, joined, raised, is_below}
@@ -12,9 +10,10 @@ use Rattle.fed_stamp.proofs.VersionLaws.{covers_more, below_trans, below_joined_
 use Rattle.fed_lattice.specs.ExactLaws.{exact_stamp}
 use Rattle.fed_lattice.specs.Latest.{stamp_cmp}
 use Rattle.fed_lattice.specs.LatestLaws.{stamp_total}
-use Rattle.fed_lattice.specs.Register.{stamped_cmp, joined_registers}
+use Rattle.fed_lattice.specs.Register.{joined_registers}
 use Rattle.fed_lattice.specs.Stamped.{with_stamp}
-use Rattle.fed_lattice.proofs.TableValues.{IsAtEach, each_insert_entry, each_joined_tables, values_each}
+use Rattle.fed_lattice.specs.Table.{IsAtEach}
+use Rattle.fed_lattice.proofs.TableValues.{each_insert_entry, each_joined_tables, values_each}
 use Rattle.fed_record.specs.declared.operations.Operation.{Operation}
 use Rattle.fed_record.specs.declared.windows.Window.{Window}
 use Rattle.fed_record.specs.Body.{Body, Body.Submit, Body.Set, Body.Hold, Body.Release, Body.Delete, Body.Grant, Body.HandBack, Body.Begin, Body.Finish, Body.Reserve, Body.Cancel, job_of, reservation_of}
@@ -27,9 +26,9 @@ use Rattle.fed_record.specs.Operation.{body_of}
 use Rattle.fed_record.specs.Reservation.{ReservationView}
 use Rattle.fed_record.specs.ValueOrders.{option_window_cmp}
 use Rattle.fed_board.specs.Board.{BoardValue, IsBoard, IsKnownJob, IsKnownReservation, HasJob, HasNamed, no_operation, merged, changed_job, changed_reservation}
-use Rattle.fed_board.specs.CoveredJob.{IsCoveredJob}
-use Rattle.fed_board.proofs.CoveredJobs.{covered_added, covered_joined, covered_nothing}
-use Rattle.fed_board.proofs.SubmittedJobs.{submitted_added, submitted_by, submitted_left, submitted_right}
+use Rattle.fed_board.specs.CoveredJob.{IsCoveredRegister, IsCoveredJob}
+use Rattle.fed_board.proofs.CoveredJobs.{covered_added, covered_joined, covered_nothing, later_covered, own_register, register_covered}
+use Rattle.fed_board.proofs.SubmittedJobs.{set_left, set_right, submitted_added, submitted_by, submitted_left, submitted_right}
 use Rattle.fed_board.proofs.VersionGrowth.{below_raised, covers_raised, raised_below, zeros_below, joined_below}
 
 from_some : {X : Type 0} (x y : X) → Some x ≡ Some y → x ≡ y
@@ -71,6 +70,7 @@ named_job b at job (Cancel name) of n = cc
 
 later_job : (v : List ℕ) (at job : StampValue) (r : JobRecordValue) → IsKnownJob v job r → IsKnownJob (raised v at) job r
 later_job v at job r k = record {
+  placed = k.placed;
   named = covers_raised v at job k.named;
   submitted = k.submitted;
   touched = below_trans r.touched v (raised v at) k.touched (below_raised v at);
@@ -78,52 +78,25 @@ later_job v at job r k = record {
 }
 
 -- ---- reservations
--- the greatest stamp is covered, where there is one
-abbrev IsCoveredReservation : List ℕ → ReservationView → Type 0
-IsCoveredReservation v r = MatchOption r (Unit {0}) (λ latest. covers v latest.0 ≡ true)
-
-abbrev IsMade : List ℕ → ReservationView → Type 0
-IsMade v r = MatchOption r ⊥ (λ latest. covers v latest.0 ≡ true)
-
-made_more : (v w : List ℕ) → ((s : StampValue) → covers v s ≡ true → covers w s ≡ true) → (r : ReservationView) → IsMade v r → IsMade w r
-made_more v w f None p = absurd p
-made_more v w f (Some latest) p = f latest.0 p
-
-covered_more : (v w : List ℕ) → ((s : StampValue) → covers v s ≡ true → covers w s ≡ true) → (r : ReservationView) → IsCoveredReservation v r → IsCoveredReservation w r
-covered_more v w f None p = tt
-covered_more v w f (Some latest) p = f latest.0 p
-
-covered_of_made : (v : List ℕ) (r : ReservationView) → IsMade v r → IsCoveredReservation v r
-covered_of_made v None p = tt
-covered_of_made v (Some latest) p = p
-
-made_of_two : (v : List ℕ) (t : Bool) (p q : StampValue × Option Window) → covers v p.0 ≡ true → covers v q.0 ≡ true → IsMade v (cond t (Some p) (Some q))
-made_of_two v true p q i j = i
-made_of_two v false p q i j = j
-
-left_made : (v : List ℕ) (x y : ReservationView) → IsMade v x → IsCoveredReservation v y → IsMade v (joined_registers option_window_cmp x y)
-left_made v None y i j = absurd i
-left_made v (Some p) None i j = i
-left_made v (Some p) (Some q) i j = made_of_two v (is_lt (option_cmp (stamped_cmp option_window_cmp) (Some q) (Some p))) p q i j
-
-right_made : (v : List ℕ) (x y : ReservationView) → IsCoveredReservation v x → IsMade v y → IsMade v (joined_registers option_window_cmp x y)
-right_made v x None i j = absurd j
-right_made v None (Some q) i j = j
-right_made v (Some p) (Some q) i j = made_of_two v (is_lt (option_cmp (stamped_cmp option_window_cmp) (Some q) (Some p))) p q i j
+abbrev latest_stamp : StampValue × Option Window → StampValue
+latest_stamp latest = latest.0
 
 later_reservation : (v : List ℕ) (at name : StampValue) (r : ReservationView) → IsKnownReservation v name r → IsKnownReservation (raised v at) name r
 later_reservation v at name r k = record {
+  placed = k.placed;
   named = covers_raised v at name k.named;
-  made = made_more v (raised v at) (λ s. covers_raised v at s) r k.made;
+  made = k.made;
+  stamp = later_covered latest_stamp v (raised v at) (λ s. covers_raised v at s) r k.stamp;
 }
 
-covered_reservation : (v : List ℕ) (name : StampValue) (a : Option ReservationView) → IfSome a (IsKnownReservation v name) → IsCoveredReservation v (unwrap_or a None)
+-- the greatest stamp is covered, also where the reservation is absent
+covered_reservation : (v : List ℕ) (name : StampValue) (a : Option ReservationView) → IfSome a (IsKnownReservation v name) → IsCoveredRegister v (unwrap_or a None)
 covered_reservation v name None p = tt
-covered_reservation v name (Some r) p = covered_of_made v r p.made
+covered_reservation v name (Some r) p = p.stamp
 
-present_named : (v : List ℕ) (name : StampValue) (a : Option ReservationView) → IfSome a (IsKnownReservation v name) → IsSome a → covers v name ≡ true
-present_named v name None p i = cc
-present_named v name (Some r) p i = p.named
+present_reservation : (v : List ℕ) (name : StampValue) (a : Option ReservationView) → IfSome a (IsKnownReservation v name) → IsSome a → IsKnownReservation v name (unwrap_or a None)
+present_reservation v name None p i = cc
+present_reservation v name (Some r) p i = p
 
 -- ---- a change
 module _ (applied : JobRecordValue → StampValue → Operation → JobRecordValue)
@@ -142,12 +115,14 @@ module _ (applied : JobRecordValue → StampValue → Operation → JobRecordVal
       let stamps = subst IsCoveredJob (sym (law r at op)) (covered_added at (body_of op) (reads_job r) small (stamps_covered v job a (i.jobs job))) in
       elim (named_job b at job (body_of op) of n) [
         | inl here ↦ let k = present_known v job a (i.jobs job) here in record {
+          placed = k.placed;
           named = covers_raised v at job k.named;
           submitted = ap is_submitted (law r at op) ∙ submitted_added at (body_of op) (reads_job r) k.submitted;
           touched = below;
           stamps = stamps;
         }
         | inr new ↦ record {
+          placed = subst (λ (s : StampValue). s.site < 16) (sym new.0) small;
           named = subst (λ s. covers (raised v at) s ≡ true) (sym new.0) seen;
           submitted = ap is_submitted (law r at op) ∙ new.1 at (reads_job r);
           touched = below;
@@ -162,12 +137,15 @@ module _ (applied : JobRecordValue → StampValue → Operation → JobRecordVal
   }
 
 -- an operation of a reservation sets its window or none
-module _ (b : BoardValue) (at name : StampValue) (op : Operation) (i : IsBoard b) (seen : covers (raised b.version at) at ≡ true) where
+module _ (b : BoardValue) (at name : StampValue) (op : Operation) (i : IsBoard b) (small : at.site < 16) (seen : covers (raised b.version at) at ≡ true) where
   abbrev now : Option ReservationView
   now = lookup (is_at (stamp_cmp name)) b.reservations
 
-  before : IsCoveredReservation (raised b.version at) (unwrap_or now None)
-  before = covered_more b.version (raised b.version at) (λ s. covers_raised b.version at s) (unwrap_or now None) (covered_reservation b.version name now (i.reservations name))
+  before : IsCoveredRegister (raised b.version at) (unwrap_or now None)
+  before = later_covered latest_stamp b.version (raised b.version at) (λ s. covers_raised b.version at s) (unwrap_or now None) (covered_reservation b.version name now (i.reservations name))
+
+  stamp_now : (window : Option (Option Window)) → IsCoveredRegister (raised b.version at) (joined_registers option_window_cmp (unwrap_or now None) (with_stamp at window))
+  stamp_now window = register_covered (raised b.version at) option_window_cmp (unwrap_or now None) (with_stamp at window) before (own_register at (raised b.version at) seen window)
 
   changed_known_reservation : (body : Body) → reservation_of at body ≡ Some name → HasNamed b body → IsKnownReservation (raised b.version at) name (joined_registers option_window_cmp (unwrap_or now None) (with_stamp at (window_in body)))
   changed_known_reservation (Submit owner values held) of n = cc
@@ -180,13 +158,19 @@ module _ (b : BoardValue) (at name : StampValue) (op : Operation) (i : IsBoard b
   changed_known_reservation (Begin job beginning) of n = cc
   changed_known_reservation (Finish job ending) of n = cc
   changed_known_reservation (Reserve window) of n = record {
+    placed = subst (λ (s : StampValue). s.site < 16) (from_some at name of) small;
     named = subst (λ s. covers (raised b.version at) s ≡ true) (from_some at name of) seen;
-    made = right_made (raised b.version at) (unwrap_or now None) (Some (at, Some window)) before seen;
+    made = set_right option_window_cmp (unwrap_or now None) (Some (at, Some window)) refl;
+    stamp = stamp_now (Some (Some window));
   }
-  changed_known_reservation (Cancel other) of n = record {
-    named = covers_raised b.version at name (subst (λ t. covers b.version t ≡ true) (from_some other name of) (present_named b.version other (lookup (is_at (stamp_cmp other)) b.reservations) (i.reservations other) n));
-    made = right_made (raised b.version at) (unwrap_or now None) (Some (at, None)) before seen;
-  }
+  changed_known_reservation (Cancel other) of n =
+      let k = present_reservation b.version other (lookup (is_at (stamp_cmp other)) b.reservations) (i.reservations other) n in
+      let same : other ≡ name = from_some other name of in record {
+        placed = subst (λ (s : StampValue). s.site < 16) same k.placed;
+        named = covers_raised b.version at name (subst (λ t. covers b.version t ≡ true) same k.named);
+        made = set_right option_window_cmp (unwrap_or now None) (Some (at, None)) refl;
+        stamp = stamp_now (Some None);
+      }
 
   pub changed_reservation_keeps : reservation_of at (body_of op) ≡ Some name → HasNamed b (body_of op) → IsBoard (changed_reservation b at op name)
   changed_reservation_keeps of n = record {
@@ -215,12 +199,14 @@ module _ (join : JobRecordValue → List ℕ → JobRecordValue → List ℕ →
             → IsKnownJob (joined v w) job (join (unwrap_or x no_operation) v (unwrap_or y no_operation) w)
         either None None p q e below stamps = cc
         either None (Some s) p q e below stamps = record {
+          placed = q.placed;
           named = covers_more w (joined v w) job (below_joined_right v w) q.named;
           submitted = ap is_submitted (law no_operation s v w) ∙ submitted_right v w (reads_job no_operation) (reads_job s) q.submitted;
           touched = below;
           stamps = stamps;
         }
         either (Some r) y p q e below stamps = record {
+          placed = p.placed;
           named = covers_more v (joined v w) job (below_joined_left v w) p.named;
           submitted = ap is_submitted (law r (unwrap_or y no_operation) v w) ∙ submitted_left v w (reads_job r) (reads_job (unwrap_or y no_operation)) p.submitted;
           touched = below;
@@ -229,17 +215,26 @@ module _ (join : JobRecordValue → List ℕ → JobRecordValue → List ℕ →
 
   joined_known_reservation : (v w : List ℕ) (name : StampValue) (x y : Option ReservationView) → IfSome x (IsKnownReservation v name) → IfSome y (IsKnownReservation w name) → (is_some x || is_some y) ≡ true
       → IsKnownReservation (joined v w) name (joined_registers option_window_cmp (unwrap_or x None) (unwrap_or y None))
-  joined_known_reservation v w name None None p q e = cc
-  joined_known_reservation v w name None (Some s) p q e = record {
-    named = covers_more w (joined v w) name (below_joined_right v w) q.named;
-    made = right_made (joined v w) None s tt (made_more w (joined v w) (λ t. covers_more w (joined v w) t (below_joined_right v w)) s q.made);
-  }
-  joined_known_reservation v w name (Some r) y p q e = record {
-    named = covers_more v (joined v w) name (below_joined_left v w) p.named;
-    made = left_made (joined v w) r (unwrap_or y None)
-        (made_more v (joined v w) (λ t. covers_more v (joined v w) t (below_joined_left v w)) r p.made)
-        (covered_more w (joined v w) (λ t. covers_more w (joined v w) t (below_joined_right v w)) (unwrap_or y None) (covered_reservation w name y q));
-  }
+  joined_known_reservation v w name x y p q e =
+      let left = later_covered latest_stamp v (joined v w) (λ t. covers_more v (joined v w) t (below_joined_left v w)) (unwrap_or x None) (covered_reservation v name x p) in
+      let right = later_covered latest_stamp w (joined v w) (λ t. covers_more w (joined v w) t (below_joined_right v w)) (unwrap_or y None) (covered_reservation w name y q) in
+      either x y p q e (register_covered (joined v w) option_window_cmp (unwrap_or x None) (unwrap_or y None) left right) where
+        either : (x y : Option ReservationView) → IfSome x (IsKnownReservation v name) → IfSome y (IsKnownReservation w name) → (is_some x || is_some y) ≡ true
+            → IsCoveredRegister (joined v w) (joined_registers option_window_cmp (unwrap_or x None) (unwrap_or y None))
+            → IsKnownReservation (joined v w) name (joined_registers option_window_cmp (unwrap_or x None) (unwrap_or y None))
+        either None None p q e stamp = cc
+        either None (Some s) p q e stamp = record {
+          placed = q.placed;
+          named = covers_more w (joined v w) name (below_joined_right v w) q.named;
+          made = set_right option_window_cmp None s q.made;
+          stamp = stamp;
+        }
+        either (Some r) y p q e stamp = record {
+          placed = p.placed;
+          named = covers_more v (joined v w) name (below_joined_left v w) p.named;
+          made = set_left option_window_cmp r (unwrap_or y None) p.made;
+          stamp = stamp;
+        }
 
   pub merged_keeps : (b c : BoardValue) → IsBoard b → IsBoard c → IsBoard (merged join b c)
   merged_keeps b c i k = record {
@@ -253,9 +248,5 @@ module _ (join : JobRecordValue → List ℕ → JobRecordValue → List ℕ →
 pub submitted_values : (v : List ℕ) (es : List (StampValue × JobRecordValue)) → IsStrictlySortedBy stamp_cmp (keys_of es) → IsAtEach stamp_cmp (IsKnownJob v) es → All (λ r. is_submitted (reads_job r) ≡ true) (values_of es)
 submitted_values v es s p = values_each stamp_cmp stamp_total exact_stamp (λ r. is_submitted (reads_job r) ≡ true) es s (λ k. IfSome_then _ (p k) (λ (r : JobRecordValue) (i : IsKnownJob v k r). i.submitted))
 
-some_made : (v : List ℕ) (r : ReservationView) → IsMade v r → IsSome r
-some_made v None p = absurd p
-some_made v (Some latest) p = refl
-
 pub made_values : (v : List ℕ) (es : List (StampValue × ReservationView)) → IsStrictlySortedBy stamp_cmp (keys_of es) → IsAtEach stamp_cmp (IsKnownReservation v) es → All IsSome (values_of es)
-made_values v es s p = values_each stamp_cmp stamp_total exact_stamp IsSome es s (λ k. IfSome_then _ (p k) (λ (r : ReservationView) (i : IsKnownReservation v k r). some_made v r i.made))
+made_values v es s p = values_each stamp_cmp stamp_total exact_stamp IsSome es s (λ k. IfSome_then _ (p k) (λ (r : ReservationView) (i : IsKnownReservation v k r). i.made))

@@ -47,9 +47,9 @@ same_jobs_at v w name (Some x) (Some y) p q s t e = ap Some (same_records x y s 
 
 same_reservations_at : (v w : List ℕ) (name : StampValue) (x y : Option ReservationView) → IfSome x (IsKnownReservation v name) → IfSome y (IsKnownReservation w name) → unwrap_or x None ≡ unwrap_or y None → x ≡ y
 same_reservations_at v w name None None p q e = refl
-same_reservations_at v w name None (Some None) p q e = absurd q.made
+same_reservations_at v w name None (Some None) p q e = absurd (let f : false ≡ true = q.made in cc)
 same_reservations_at v w name None (Some (Some y)) p q e = cc
-same_reservations_at v w name (Some None) None p q e = absurd p.made
+same_reservations_at v w name (Some None) None p q e = absurd (let f : false ≡ true = p.made in cc)
 same_reservations_at v w name (Some (Some x)) None p q e = cc
 same_reservations_at v w name (Some x) (Some y) p q e = ap Some e
 

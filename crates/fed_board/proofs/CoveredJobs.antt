@@ -36,15 +36,15 @@ module _ {T : Type 0} (stamp : T → StampValue) (v : List ℕ) where
   greater_covered cmp (Some p) None i j = i
   greater_covered cmp (Some p) (Some q) i j = one_of_two (is_lt (option_cmp cmp (Some q) (Some p))) p q i j
 
-  later_covered : (w : List ℕ) → ((s : StampValue) → covers v s ≡ true → covers w s ≡ true) → (x : Option T) → IsCoveredAt stamp v x → IsCoveredAt stamp w x
+  pub later_covered : (w : List ℕ) → ((s : StampValue) → covers v s ≡ true → covers w s ≡ true) → (x : Option T) → IsCoveredAt stamp v x → IsCoveredAt stamp w x
   later_covered w more x i = IfSome_then x i (λ p. more (stamp p))
 
-register_covered : {T : Type 0} (v : List ℕ) (cmp : T → T → Ordering) (x y : Option (StampValue × T)) → IsCoveredRegister v x → IsCoveredRegister v y → IsCoveredRegister v (joined_registers cmp x y)
+pub register_covered : {T : Type 0} (v : List ℕ) (cmp : T → T → Ordering) (x y : Option (StampValue × T)) → IsCoveredRegister v x → IsCoveredRegister v y → IsCoveredRegister v (joined_registers cmp x y)
 register_covered {T} v cmp x y i j = greater_covered (λ (p : StampValue × T). p.0) v (stamped_cmp cmp) x y i j
 
 -- ---- an operation
 module _ (t : StampValue) (v : List ℕ) (own : covers v t ≡ true) where
-  own_register : {T : Type 0} (o : Option T) → IsCoveredRegister v (with_stamp t o)
+  pub own_register : {T : Type 0} (o : Option T) → IsCoveredRegister v (with_stamp t o)
   own_register None = tt
   own_register (Some x) = own
 

@@ -14,5 +14,6 @@ pub mod BoardReads
 pub mod BoardKeeps
 pub mod CountLaws
 pub mod BoardReadings
+pub mod CoveredStamps
 pub mod ListedNames
 pub mod StandingBoards

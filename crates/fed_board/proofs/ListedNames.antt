@@ -1,11 +1,16 @@
 -- The names that a board lists are those of the jobs that are submitted and of the reservations that are made.
 use Rattle.std.specs.Ordering.{is_eq, eq_by_cmp}
 use Rattle.std.specs.BTreeMap.{is_at}
+use Rattle.std.specs.List.Sorted.{IsStrictlySortedBy}
 use Rattle.std.specs.Map.{keys_of, lookup}
-use Rattle.std.proofs.Common.{◌≡◌, ◌↔◌, ℕ, List, true, Option, Some, None, is_some, IsSome, IfSome, unwrap_or, refl, sym, ap, subst, ◌∙◌}
+use Rattle.std.specs.Prelude.{filter}
+use Rattle.std.proofs.Common.{◌≡◌, ◌<◌, ◌↔◌, ℕ, List, Bool, true, Option, Some, None, is_some, IsSome, IfSome, unwrap_or, refl, sym, ap, subst, ◌∙◌}
 use Rattle.std.proofs.lemmas.Cmp.{tied_itself}
+use Rattle.std.proofs.lemmas.List.Kept.{IsStrictlySortedBy-filter}
 use Rattle.std.proofs.lemmas.Map.Views.{tells_apart}
 use Rattle.fed_stamp.specs.Stamp.{StampValue}
+use Rattle.fed_stamp.specs.Version.{covers}
+use Rattle.fed_lattice.proofs.FilterLaws.{Has-filter, filter-Has}
 use Rattle.fed_lattice.specs.ExactLaws.{exact_stamp}
 use Rattle.fed_lattice.specs.Latest.{stamp_cmp}
 use Rattle.fed_lattice.specs.LatestLaws.{stamp_total}
@@ -16,6 +21,8 @@ use Rattle.fed_record.specs.JobRecord.{JobRecordValue, reads as reads_job}
 use Rattle.fed_record.specs.Letter.{is_submitted}
 use Rattle.fed_record.specs.Reservation.{ReservationView}
 use Rattle.fed_board.specs.Board.{BoardValue, IsBoard, IsKnownJob, IsKnownReservation, no_operation, reads}
+use Rattle.fed_board.specs.Names.{covered_stamps, jobs_in, reservations_in}
+use Rattle.fed_board.proofs.CoveredStamps.{covered_ascend, covered_has, same_stamps}
 
 -- a name is among the keys exactly where a look-up finds a value
 listed : {X : Type 0} (es : List (StampValue × X)) (name : StampValue) → Has (keys_of es) name ↔ (is_some (lookup (is_at (stamp_cmp name)) es) ≡ true)
@@ -33,8 +40,7 @@ submitted_found v job (Some r) p = p.submitted
 
 made_found : (v : List ℕ) (name : StampValue) (a : Option ReservationView) → IfSome a (IsKnownReservation v name) → is_some (unwrap_or a None) ≡ is_some a
 made_found v name None p = refl
-made_found v name (Some None) p = absurd p.made
-made_found v name (Some (Some latest)) p = refl
+made_found v name (Some r) p = p.made
 
 pub listed_jobs : (b : BoardValue) → IsBoard b → (job : StampValue) → Has (keys_of b.jobs) job ↔ (is_submitted ((reads b).job job) ≡ true)
 listed_jobs b i job =
@@ -47,3 +53,28 @@ listed_reservations b i name =
     let l = listed b.reservations name in
     let e = made_found b.version name (lookup (is_at (stamp_cmp name)) b.reservations) (i.reservations name) in
     (λ h. e ∙ l.0 h, λ s. l.1 (sym e ∙ s))
+
+-- ---- the names are those that are computed of what is read
+covered_job : (v : List ℕ) (job : StampValue) (a : Option JobRecordValue) → IfSome a (IsKnownJob v job) → is_some a ≡ true → (job.site < 16) × (covers v job ≡ true)
+covered_job v job None p e = cc
+covered_job v job (Some r) p e = (p.placed, p.named)
+
+covered_name : (v : List ℕ) (name : StampValue) (a : Option ReservationView) → IfSome a (IsKnownReservation v name) → is_some a ≡ true → (name.site < 16) × (covers v name ≡ true)
+covered_name v name None p e = cc
+covered_name v name (Some r) p e = (p.placed, p.named)
+
+-- names that ascend, are covered and are exactly those that pass a test
+names_are : (v : List ℕ) (p : StampValue → Bool) (names : List StampValue) → IsStrictlySortedBy stamp_cmp names → ((name : StampValue) → Has names name ↔ (p name ≡ true))
+    → ((name : StampValue) → Has names name → (name.site < 16) × (covers v name ≡ true)) → names ≡ filter p (covered_stamps v)
+names_are v p names ascending all covered =
+    same_stamps names (filter p (covered_stamps v)) ascending (IsStrictlySortedBy-filter stamp_cmp p (covered_stamps v) (covered_ascend v))
+    (λ name h. let c = covered name h in filter-Has p (covered_stamps v) name (covered_has v name c.0 c.1) ((all name).0 h))
+    (λ name h. (all name).1 (Has-filter p (covered_stamps v) name h).1)
+
+pub jobs_are : (b : BoardValue) → IsBoard b → IsStrictlySortedBy stamp_cmp (keys_of b.jobs) → keys_of b.jobs ≡ jobs_in (reads b)
+jobs_are b i ascending = names_are b.version (λ job. is_submitted ((reads b).job job)) (keys_of b.jobs) ascending (listed_jobs b i)
+    (λ job h. covered_job b.version job (lookup (is_at (stamp_cmp job)) b.jobs) (i.jobs job) ((listed b.jobs job).0 h))
+
+pub reservations_are : (b : BoardValue) → IsBoard b → IsStrictlySortedBy stamp_cmp (keys_of b.reservations) → keys_of b.reservations ≡ reservations_in (reads b)
+reservations_are b i ascending = names_are b.version (λ name. is_some ((reads b).reservation name)) (keys_of b.reservations) ascending (listed_reservations b i)
+    (λ name h. covered_name b.version name (lookup (is_at (stamp_cmp name)) b.reservations) (i.reservations name) ((listed b.reservations name).0 h))

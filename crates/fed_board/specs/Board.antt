@@ -1,5 +1,5 @@
 -- What a board is, and what is read of it.
-use Rattle.std.specs.Prelude.{◌≡◌, ℕ, true, false, replicate, List, [], None, IsSome, MatchOption}
+use Rattle.std.specs.Prelude.{◌≡◌, ◌<◌, ℕ, true, false, replicate, List, [], None, IsSome}
 use Rattle.std.specs.Map.{lookup}
 use Rattle.std.specs.BTreeMap.{is_at}
 use Rattle.fed_stamp.specs.Stamp.{StampValue}
@@ -15,7 +15,7 @@ use Rattle.fed_record.specs.JobRecord.{JobRecordValue, reads as reads_job}
 use Rattle.fed_record.specs.Letter.{is_submitted}
 use Rattle.fed_record.specs.Reservation.{ReservationView, window_change}
 use Rattle.fed_record.specs.ValueOrders.{option_window_cmp}
-use Rattle.fed_board.specs.CoveredJob.{IsCoveredJob}
+use Rattle.fed_board.specs.CoveredJob.{IsCoveredRegister, IsCoveredJob}
 use Rattle.fed_board.specs.View.{View}
 
 -- a version, the records of jobs by the stamps of their Submits, and the reservations by the stamps of their Reserves
@@ -52,18 +52,22 @@ reads b = record {
   reservation = λ name. value_at stamp_cmp None b.reservations name;
 }
 
--- of a board of the version: the job's name is covered, the job is submitted, its operations are covered, and every
--- stamp and every tag that is read of it is one of its operations', so far as their version tells
+-- of a board of the version: the job's name is of one of the 16 sites and is covered, the job is submitted, its
+-- operations are covered, and so is, by the version of its operations, every stamp and every tag that is read of it
 pub record IsKnownJob (version : List ℕ) (job : StampValue) (r : JobRecordValue) : Type 0 where
+  pub placed : job.site < 16
   pub named : covers version job ≡ true
   pub submitted : is_submitted (reads_job r) ≡ true
   pub touched : is_below r.touched version ≡ true
   pub stamps : IsCoveredJob (reads_job r)
 
--- the reservation's name is covered, the reservation is made, and its greatest stamp is covered
+-- the reservation's name is of one of the 16 sites and is covered, the reservation is made, and its greatest stamp is
+-- covered
 pub record IsKnownReservation (version : List ℕ) (name : StampValue) (r : ReservationView) : Type 0 where
+  pub placed : name.site < 16
   pub named : covers version name ≡ true
-  pub made : MatchOption r ⊥ (λ latest. covers version latest.0 ≡ true)
+  pub made : IsSome r
+  pub stamp : IsCoveredRegister version r
 
 -- what holds of every board
 pub record IsBoard (b : BoardValue) : Type 0 where

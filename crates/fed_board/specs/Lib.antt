@@ -1,5 +1,6 @@
 -- What the contracts of this crate cite.
 pub mod View
+pub mod Names
 pub mod ViewSteps
 pub mod Lawful
 pub mod CoveredJob

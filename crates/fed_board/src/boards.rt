@@ -19,6 +19,7 @@ ghost use Rattle.fed_record.specs.Reservation.{ReservationView};
 ghost use Rattle.fed_board.specs.Board.{IsBoard, HasNamed, reads, merged, changed_job, changed_reservation};
 ghost use Rattle.fed_board.specs.Counts.{names_of};
 ghost use Rattle.fed_board.specs.Lawful.{IsLawful, AreKin};
+ghost use Rattle.fed_board.specs.Names.{jobs_in, reservations_in};
 ghost use Rattle.fed_board.specs.View.{view};
 ghost use Rattle.fed_board.specs.ViewSteps.{add_to_view, join_views};
 
@@ -97,6 +98,7 @@ impl Board {
         ensures submitted { All (λ r. IsTrue (is_submitted (reads_job r))) (values_of self.now.jobs) }
         ensures all { (job : StampValue) →
             Has (keys_of self.now.jobs) job ↔ IsTrue (is_submitted ((reads self.now).job job)) }
+        ensures names { keys_of self.now.jobs ≡ jobs_in (reads self.now) }
     {
         self.jobs.iter()
     }
@@ -120,6 +122,7 @@ impl Board {
         ensures made { All IsSome (values_of self.now.reservations) }
         ensures all { (name : StampValue) →
             Has (keys_of self.now.reservations) name ↔ IsSome ((reads self.now).reservation name) }
+        ensures names { keys_of self.now.reservations ≡ reservations_in (reads self.now) }
     {
         self.reservations.iter()
     }
