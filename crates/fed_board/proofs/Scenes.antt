@@ -14,6 +14,7 @@ use Rattle.fed_record.specs.Body.{Body, Body.Submit, Body.Set, Body.Hold, Body.R
 use Rattle.fed_record.specs.Operation.{has_site_pair, has_hold_pair}
 use Rattle.fed_record.specs.JobSteps.{add_to_job, join_jobs}
 use Rattle.fed_record.specs.Letter.{any_below, has_site, is_submitted, letter}
+use Rattle.fed_board.specs.Names.{jobs_in, reservations_in}
 use Rattle.fed_board.specs.View.{view}
 use Rattle.fed_board.specs.ViewSteps.{add_to_view, join_views}
 
@@ -192,3 +193,10 @@ reserved_window = refl
 
 cancelled_window : (view (reserved ++ (at 2 1, Cancel (at 1 0)) ∷ [])).reservation (at 1 0) ≡ Some (at 2 1, None)
 cancelled_window = refl
+
+-- ---- names in the order of their stamps
+exchanged_jobs : jobs_in (view (there ++ here)) ≡ at 1 0 ∷ at 1 1 ∷ []
+exchanged_jobs = refl
+
+reserved_names : reservations_in (view (reserved ++ (at 2 1, Cancel (at 1 0)) ∷ [])) ≡ at 1 0 ∷ []
+reserved_names = refl
