@@ -1,4 +1,7 @@
 -- The lemmas that proofs of the methods cite, and those that the crates above cite.
+pub mod EntryJoins
+pub mod EntryLoops
+pub mod EntryValues
 pub mod FilterLaws
 pub mod StampedLaws
 pub mod TableLoops

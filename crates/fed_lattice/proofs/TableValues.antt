@@ -13,11 +13,17 @@ use Rattle.fed_lattice.specs.Table.{IsAtEach, value_at, joined_tables}
 use Rattle.fed_lattice.specs.TableEntryLaws.{lookup-insert_entry}
 use Rattle.fed_lattice.specs.TableJoinLaws.{joined_options, lookup-joined_tables, value_joined}
 
-module _ {K X : Type 0} (R : K → K → Ordering) (o : IsTotalOrder R) (exact : CmpEqualImpliesEq R) where
-  unwrap_cond : (b : Bool) (w d : X) (a : Option X) → unwrap_or (cond b (Some w) a) d ≡ cond b w (unwrap_or a d)
+-- where a value is written or not
+module _ {X : Type 0} where
+  pub unwrap_cond : (b : Bool) (w d : X) (a : Option X) → unwrap_or (cond b (Some w) a) d ≡ cond b w (unwrap_or a d)
   unwrap_cond true w d a = refl
   unwrap_cond false w d a = refl
 
+  pub at_written : (P : X → Type 0) (b : Bool) (w : X) (a : Option X) → (b ≡ true → P w) → IfSome a P → IfSome (cond b (Some w) a) P
+  at_written P true w a f p = f refl
+  at_written P false w a f p = p
+
+module _ {K X : Type 0} (R : K → K → Ordering) (o : IsTotalOrder R) (exact : CmpEqualImpliesEq R) where
   pub value_at-insert_entry : (bottom : X) (q k : K) (w : X) (es : List (K × X)) → value_at R bottom (insert_entry R es k w) q ≡ cond (is_eq (R q k)) w (value_at R bottom es q)
   value_at-insert_entry bottom q k w es = ap (λ a. unwrap_or a bottom) (lookup-insert_entry R o exact q k w es) ∙ unwrap_cond (is_eq (R q k)) w bottom (lookup (is_at (R q)) es)
 
@@ -26,10 +32,6 @@ module _ {K X : Type 0} (R : K → K → Ordering) (o : IsTotalOrder R) (exact :
   value_at-joined_tables bottom joined n q xs ys v w =
       ap (λ a. unwrap_or a bottom) (lookup-joined_tables R o exact bottom joined q xs ys v w)
       ∙ value_joined bottom joined n v w (lookup (is_at (R q)) xs) (lookup (is_at (R q)) ys)
-
-  at_written : (P : X → Type 0) (b : Bool) (w : X) (a : Option X) → (b ≡ true → P w) → IfSome a P → IfSome (cond b (Some w) a) P
-  at_written P true w a f p = f refl
-  at_written P false w a f p = p
 
   -- where a value is written
   pub each_insert_entry : (P : K → X → Type 0) (es : List (K × X)) (k : K) (w : X) → IsAtEach R P es → P k w → IsAtEach R P (insert_entry R es k w)

@@ -102,7 +102,7 @@ module _ {K X : Type 0} (R : K → K → Ordering) (o : IsTotalOrder R) (well_fo
   pub well_formed_insert : (es : List (K × X)) (k : K) (v : X) → IsTable R well_formed es → well_formed v → IsTable R well_formed (insert_entry R es k v)
   well_formed_insert es k v p q = (sorted_insert R o es k v p.0, All-values-insert_entry R k v well_formed es p.1 q)
 
-  well_formed_filled : (f : K → X) (es : List (K × X)) (ks : List K) → ((k : K) → well_formed (f k)) → IsTable R well_formed es → IsTable R well_formed (filled R f es ks)
+  pub well_formed_filled : (f : K → X) (es : List (K × X)) (ks : List K) → ((k : K) → well_formed (f k)) → IsTable R well_formed es → IsTable R well_formed (filled R f es ks)
   well_formed_filled f es [] g p = p
   well_formed_filled f es (k ∷ ks) g p = well_formed_filled f (insert_entry R es k (f k)) ks g (well_formed_insert es k (f k) p (g k))
 
