@@ -185,7 +185,7 @@ module _ (join : JobRecordValue → List ℕ → JobRecordValue → List ℕ →
   unfolding join_jobs
   join_touched r q v w = ap (λ (j : JobView). j.touched) (law r q v w)
 
-  joined_known : (v w : List ℕ) (job : StampValue) (x y : Option JobRecordValue) → IfSome x (IsKnownJob v job) → IfSome y (IsKnownJob w job) → (is_some x || is_some y) ≡ true
+  pub joined_known : (v w : List ℕ) (job : StampValue) (x y : Option JobRecordValue) → IfSome x (IsKnownJob v job) → IfSome y (IsKnownJob w job) → (is_some x || is_some y) ≡ true
       → IsKnownJob (joined v w) job (join (unwrap_or x no_operation) v (unwrap_or y no_operation) w)
   joined_known v w job x y p q e =
       let r : JobRecordValue = unwrap_or x no_operation in
@@ -213,7 +213,7 @@ module _ (join : JobRecordValue → List ℕ → JobRecordValue → List ℕ →
           stamps = stamps;
         }
 
-  joined_known_reservation : (v w : List ℕ) (name : StampValue) (x y : Option ReservationView) → IfSome x (IsKnownReservation v name) → IfSome y (IsKnownReservation w name) → (is_some x || is_some y) ≡ true
+  pub joined_known_reservation : (v w : List ℕ) (name : StampValue) (x y : Option ReservationView) → IfSome x (IsKnownReservation v name) → IfSome y (IsKnownReservation w name) → (is_some x || is_some y) ≡ true
       → IsKnownReservation (joined v w) name (joined_registers option_window_cmp (unwrap_or x None) (unwrap_or y None))
   joined_known_reservation v w name x y p q e =
       let left = later_covered latest_stamp v (joined v w) (λ t. covers_more v (joined v w) t (below_joined_left v w)) (unwrap_or x None) (covered_reservation v name x p) in

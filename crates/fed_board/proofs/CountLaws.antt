@@ -1,23 +1,23 @@
 -- How counts of names by site follow tables.
-use Rattle.std.specs.Ordering.{match_ordering}
+use Rattle.std.specs.List.{AllByRecursion}
+use Rattle.std.specs.Ordering.{match_ordering, is_eq, ordering_reverse}
 use Rattle.std.specs.BTreeMap.{insert_entry, is_at}
 use Rattle.std.specs.Map.{keys_of, lookup}
 use Rattle.std.specs.List.Sorted.{IsStrictlySortedBy}
-use Rattle.std.proofs.Common.{◌≡◌, ◌==◌, ℕ, ◌+◌, ◌<◌, ◌≤◌, List, [], ◌∷◌, length, Bool, true, false, cond, count_by, slice_index, slice_index_or, slice_set, Option, Some, None, is_some, Ordering, Less, Equal, Greater, Bor, option_copied, refl, sym, ap, subst, ◌∙◌, arith}
+use Rattle.std.proofs.Common.{◌≡◌, ◌==◌, ℕ, ◌+◌, ◌<◌, ◌≤◌, List, [], ◌∷◌, length, Bool, true, false, cond, not, count_by, slice_index, slice_index_or, slice_set, Option, Some, None, is_some, Ordering, Less, Equal, Greater, Bor, option_copied, refl, sym, ap, ap₂, subst, ◌∙◌, arith}
 use Rattle.std.proofs.lemmas.List.Sums.{count_by-le-length, sum_by-cons}
 use Rattle.std.proofs.lemmas.List.{get_or-set_same, get_or-set_other}
 use Rattle.std.proofs.lemmas.Map.{keys-set_value}
 use Rattle.std.proofs.lemmas.Map.Entries.{length-keys_of}
 use Rattle.fed_stamp.specs.Stamp.{StampValue}
-use Rattle.fed_lattice.specs.ExactLaws.{tells_numbers}
+use Rattle.fed_lattice.specs.ExactLaws.{tells_numbers, exact_stamp}
 use Rattle.fed_lattice.specs.Latest.{stamp_cmp}
 use Rattle.fed_lattice.specs.LatestLaws.{stamp_total}
+use Rattle.fed_lattice.specs.Table.{filled}
+use Rattle.fed_lattice.specs.JoinedEntries.{missing_from}
+use Rattle.fed_lattice.specs.TableEntryLaws.{sorted_insert, lookup-insert_entry}
 use Rattle.fed_lattice.proofs.TableWrites.{set_value-insert}
-use Rattle.fed_board.specs.Counts.{names_of, AreCounts}
-
--- what was counted, and the names that are left, are the names
-abbrev pub AreCounting : List ℕ → List StampValue → List StampValue → Type 0
-AreCounting counts left names = (site : ℕ) → site < 16 → slice_index counts site + names_of site left ≡ names_of site names
+use Rattle.fed_board.specs.Counts.{names_of, AreCounts, AreCounting}
 
 -- ---- one name more
 push : (p : StampValue → Bool) (k : StampValue) (ks : List StampValue) → count_by p (k ∷ ks) ≡ cond (p k) 1 0 + count_by p ks
@@ -70,14 +70,14 @@ counted_present {X} counts es k w are sorted present = go (lookup (is_at (stamp_
     go (Some v) h p = subst (AreCounts counts) (sym (ap keys_of (sym (set_value-insert stamp_cmp stamp_total es k v w sorted (sym h))) ∙ keys-set_value (is_at (stamp_cmp k)) es w)) are
 
 -- ---- the loop that counts: what was counted and what is left
-module _ {X : Type 0} (counts : List ℕ) (names : List StampValue) (it rest : List (StampValue × X)) (k : StampValue) (v : X) (i : ℕ) (sixteen : length counts ≡ 16) (small : i < 16) (at : i ≡ k.site) (first : it ≡ (k, v) ∷ rest) where
-  pub counting_more : AreCounting counts (keys_of it) names → AreCounting (slice_set counts i (slice_index_or counts i 0 + 1)) (keys_of rest) names
+module _ (counts : List ℕ) (names ks rest : List StampValue) (k : StampValue) (i : ℕ) (sixteen : length counts ≡ 16) (small : i < 16) (at : i ≡ k.site) (first : ks ≡ k ∷ rest) where
+  pub counting_more : AreCounting counts ks names → AreCounting (slice_set counts i (slice_index_or counts i 0 + 1)) rest names
   counting_more are site below =
-      let before : slice_index counts site + names_of site (k ∷ keys_of rest) ≡ names_of site names = subst (λ (l : List (StampValue × X)). slice_index counts site + names_of site (keys_of l) ≡ names_of site names) first (are site below) in
-      go (k.site == site) refl (names-push site k (keys_of rest)) before
+      let before : slice_index counts site + names_of site (k ∷ rest) ≡ names_of site names = subst (λ (l : List StampValue). slice_index counts site + names_of site l ≡ names_of site names) first (are site below) in
+      go (k.site == site) refl (names-push site k rest) before
     where
-      go : (b : Bool) → (k.site == site) ≡ b → names_of site (k ∷ keys_of rest) ≡ cond b 1 0 + names_of site (keys_of rest) → slice_index counts site + names_of site (k ∷ keys_of rest) ≡ names_of site names
-          → slice_index (slice_set counts i (slice_index_or counts i 0 + 1)) site + names_of site (keys_of rest) ≡ names_of site names
+      go : (b : Bool) → (k.site == site) ≡ b → names_of site (k ∷ rest) ≡ cond b 1 0 + names_of site rest → slice_index counts site + names_of site (k ∷ rest) ≡ names_of site names
+          → slice_index (slice_set counts i (slice_index_or counts i 0 + 1)) site + names_of site rest ≡ names_of site names
       go true e h before =
           let s : i ≡ site = at ∙ (tells_numbers k.site site).0 e in
           let one : slice_index (slice_set counts i (slice_index_or counts i 0 + 1)) site ≡ slice_index counts site + 1 =
@@ -87,13 +87,53 @@ module _ {X : Type 0} (counts : List ℕ) (names : List StampValue) (it rest : L
           let same = get_or-set_other counts i site (slice_index_or counts i 0 + 1) 0 (λ j. let f : true ≡ false = sym ((tells_numbers k.site site).1 (sym at ∙ sym j)) ∙ e in cc) in
           omega (arith, same, h, before)
 
-  pub counting_fits : (n : ℕ) → n ≡ length names → AreCounting counts (keys_of it) names → slice_index_or counts i 0 + 1 ≤ n
+  pub counting_fits : (n : ℕ) → n ≡ length names → AreCounting counts ks names → slice_index_or counts i 0 + 1 ≤ n
   counting_fits n e are =
       let after = counting_more are i small in
       let one = get_or-set_same counts i (slice_index_or counts i 0 + 1) 0 (rw sixteen small) in
       omega (arith, after, one, count_by-le-length (λ (name : StampValue). name.site == i) names, e)
 
-pub counting_end : {X : Type 0} (counts : List ℕ) (names : List StampValue) (it : List (StampValue × X)) → AreCounting counts (keys_of it) names → it ≡ [] → AreCounts counts names
-counting_end {X} counts names it are e site below =
-    let h : slice_index counts site + 0 ≡ names_of site names = subst (λ (l : List (StampValue × X)). slice_index counts site + names_of site (keys_of l) ≡ names_of site names) e (are site below) in
+pub counting_end : (counts : List ℕ) (names ks : List StampValue) → AreCounting counts ks names → ks ≡ [] → AreCounts counts names
+counting_end counts names ks are e site below =
+    let h : slice_index counts site + 0 ≡ names_of site names = subst (λ (l : List StampValue). slice_index counts site + names_of site l ≡ names_of site names) e (are site below) in
     omega (arith, h)
+
+-- ---- the names of a table into which the entries of another are joined
+module _ {X : Type 0} where
+  -- a name above k is found as before
+  missing_above : (es : List (StampValue × X)) (k : StampValue) (w : X) (ks : List StampValue) → AllByRecursion (λ y. stamp_cmp k y ≡ Less) ks → missing_from stamp_cmp (insert_entry stamp_cmp es k w) ks ≡ missing_from stamp_cmp es ks
+  missing_above es k w [] a = refl
+  missing_above es k w (y ∷ ks) a =
+      ap₂ (λ b l. cond (not (is_some b)) (y ∷ l) l) (lookup-insert_entry stamp_cmp stamp_total exact_stamp y k w es ∙ ap (λ r. cond (is_eq r) (Some w) (lookup (is_at (stamp_cmp y)) es)) (stamp_total.antisymm y k ∙ ap ordering_reverse a.0)) (missing_above es k w ks a.1)
+
+  keys-insert_present : (es : List (StampValue × X)) (k : StampValue) (v w : X) → IsStrictlySortedBy stamp_cmp (keys_of es) → lookup (is_at (stamp_cmp k)) es ≡ Some v → keys_of (insert_entry stamp_cmp es k w) ≡ keys_of es
+  keys-insert_present es k v w s h = ap keys_of (sym (set_value-insert stamp_cmp stamp_total es k v w s (sym h))) ∙ keys-set_value (is_at (stamp_cmp k)) es w
+
+  names-filled : (site : ℕ) (f : StampValue → X) (es : List (StampValue × X)) (ks : List StampValue) → IsStrictlySortedBy stamp_cmp (keys_of es) → IsStrictlySortedBy stamp_cmp ks
+      → names_of site (keys_of (filled stamp_cmp f es ks)) ≡ names_of site (keys_of es) + names_of site (missing_from stamp_cmp es ks)
+  unfolding IsStrictlySortedBy
+  names-filled site f es [] s t = omega arith
+  names-filled site f es (k ∷ ks) s t =
+      let more : List (StampValue × X) = insert_entry stamp_cmp es k (f k) in
+      let rest : names_of site (keys_of (filled stamp_cmp f more ks)) ≡ names_of site (keys_of more) + names_of site (missing_from stamp_cmp more ks) = names-filled site f more ks (sorted_insert stamp_cmp stamp_total es k (f k) s) t.1 in
+      rest ∙ ap (λ l. names_of site (keys_of more) + names_of site l) (missing_above es k (f k) ks t.0) ∙ go (lookup (is_at (stamp_cmp k)) es) refl
+    where
+      go : (a : Option X) → lookup (is_at (stamp_cmp k)) es ≡ a
+          → names_of site (keys_of (insert_entry stamp_cmp es k (f k))) + names_of site (missing_from stamp_cmp es ks) ≡ names_of site (keys_of es) + names_of site (cond (not (is_some (lookup (is_at (stamp_cmp k)) es))) (k ∷ missing_from stamp_cmp es ks) (missing_from stamp_cmp es ks))
+      go None h =
+          let none : is_some (lookup (is_at (stamp_cmp k)) es) ≡ false = ap is_some h in
+          let one = count-insert_new (λ (name : StampValue). name.site == site) es k (f k) none ∙ names-push site k (keys_of es) in
+          let two = names-push site k (missing_from stamp_cmp es ks) in
+          rw none (omega (arith, one, two))
+      go (Some v) h =
+          let some : is_some (lookup (is_at (stamp_cmp k)) es) ≡ true = ap is_some h in
+          rw some (ap (λ l. names_of site l + names_of site (missing_from stamp_cmp es ks)) (keys-insert_present es k v (f k) s h))
+
+  counting_missing : (counts : List ℕ) (f : StampValue → X) (es : List (StampValue × X)) (ks : List StampValue) → IsStrictlySortedBy stamp_cmp (keys_of es) → IsStrictlySortedBy stamp_cmp ks
+      → AreCounts counts (keys_of es) → AreCounting counts (missing_from stamp_cmp es ks) (keys_of (filled stamp_cmp f es ks))
+  counting_missing counts f es ks s t are site below = ap (λ n. n + names_of site (missing_from stamp_cmp es ks)) (are site below) ∙ sym (names-filled site f es ks s t)
+
+  pub counting_joined : (counts : List ℕ) (f : StampValue → X) (es all : List (StampValue × X)) (ks names : List StampValue) → IsStrictlySortedBy stamp_cmp (keys_of es) → IsStrictlySortedBy stamp_cmp ks
+      → AreCounts counts (keys_of es) → all ≡ filled stamp_cmp f es ks → names ≡ missing_from stamp_cmp es ks → AreCounting counts names (keys_of all)
+  counting_joined counts f es all ks names s t are joined missing =
+      subst (λ l. AreCounting counts l (keys_of all)) (sym missing) (subst (λ (l : List (StampValue × X)). AreCounting counts (missing_from stamp_cmp es ks) (keys_of l)) (sym joined) (counting_missing counts f es ks s t are))

@@ -1,7 +1,7 @@
 -- Every stamp that is read of a job stays covered after a change and in a join.
 use Rattle.std.specs.Option.{option_cmp}
 use Rattle.std.specs.Ordering.{ord_max, is_lt, nat_cmp, int_cmp}
-use Rattle.std.proofs.Common.{◌≡◌, ◌⊎◌, ℕ, ◌<◌, max, List, length, length-set, Bool, true, false, cond, Option, Some, None, Ordering, refl, sym, subst, ◌∙◌, inl, inr, arith}
+use Rattle.std.proofs.Common.{◌≡◌, ℕ, ◌<◌, max, List, length, length-set, Bool, true, false, cond, Option, Some, None, Ordering, refl, subst, ◌∙◌, inl, inr, arith}
 use Rattle.std.proofs.lemmas.Bool.{and_parts}
 use Rattle.std.proofs.lemmas.Option.{IfSome_then}
 use Rattle.fed_stamp.specs.Stamp.{StampValue}
@@ -9,7 +9,6 @@ use Rattle.fed_stamp.specs.Version.{covers, joined, raised}
 use Rattle.fed_stamp.proofs.VersionLaws.{covers_more, below_joined_left, below_joined_right, length-joined}
 use Rattle.fed_lattice.specs.Register.{stamped_cmp, joined_registers}
 use Rattle.fed_lattice.specs.Stamped.{with_stamp}
-use Rattle.fed_record.specs.declared.grants.GrantStage.{GrantStage}
 use Rattle.fed_record.specs.Body.{Body, Body.Submit, Body.Set, Body.Hold, Body.Release, Body.Delete, Body.Grant, Body.HandBack, Body.Begin, Body.Finish, Body.Reserve, Body.Cancel, same_stamp}
 use Rattle.fed_record.specs.CoveredLaws.{either_side, old_or_new}
 use Rattle.fed_record.specs.Field.{owner_in, name_in, priority_in, nodes_in, limit_in, account_in, begin_in, finish_in}

@@ -17,3 +17,4 @@ pub mod BoardReadings
 pub mod CoveredStamps
 pub mod ListedNames
 pub mod StandingBoards
+pub mod RecordJoins

@@ -34,11 +34,11 @@ listed es name = (
 )
 
 -- a job that is found is submitted, and one that is not reads as one without operations
-submitted_found : (v : List ℕ) (job : StampValue) (a : Option JobRecordValue) → IfSome a (IsKnownJob v job) → is_submitted (reads_job (unwrap_or a no_operation)) ≡ is_some a
+pub submitted_found : (v : List ℕ) (job : StampValue) (a : Option JobRecordValue) → IfSome a (IsKnownJob v job) → is_submitted (reads_job (unwrap_or a no_operation)) ≡ is_some a
 submitted_found v job None p = refl
 submitted_found v job (Some r) p = p.submitted
 
-made_found : (v : List ℕ) (name : StampValue) (a : Option ReservationView) → IfSome a (IsKnownReservation v name) → is_some (unwrap_or a None) ≡ is_some a
+pub made_found : (v : List ℕ) (name : StampValue) (a : Option ReservationView) → IfSome a (IsKnownReservation v name) → is_some (unwrap_or a None) ≡ is_some a
 made_found v name None p = refl
 made_found v name (Some r) p = p.made
 

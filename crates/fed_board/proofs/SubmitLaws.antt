@@ -1,6 +1,6 @@
 -- Which jobs and reservations a set knows.
 use Rattle.std.specs.Prelude.{is_some}
-use Rattle.std.proofs.Common.{◌≡◌, ℕ, List, [], Bool, true, false, Some, refl, ap, subst}
+use Rattle.std.proofs.Common.{◌≡◌, [], true, false, Some, refl, ap, subst}
 use Rattle.std.proofs.lemmas.Bool.{both_ways}
 use Rattle.fed_stamp.specs.Stamp.{StampValue}
 use Rattle.fed_lattice.specs.Sets.{Has}

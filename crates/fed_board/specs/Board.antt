@@ -7,8 +7,8 @@ use Rattle.fed_stamp.specs.Version.{covers, joined, raised, is_below}
 use Rattle.fed_lattice.specs.Latest.{stamp_cmp}
 use Rattle.fed_lattice.specs.Register.{joined_registers}
 use Rattle.fed_lattice.specs.Stamped.{with_stamp}
-use Rattle.fed_lattice.specs.Table.{value_at, joined_tables, applied_table}
-use Rattle.fed_lattice.specs.Table.{IsAtEach}
+use Rattle.fed_lattice.specs.Table.{IsAtEach, value_at, joined_tables, applied_table}
+use Rattle.fed_lattice.specs.JoinedEntries.{joined_entries}
 use Rattle.fed_record.specs.declared.operations.Operation.{Operation}
 use Rattle.fed_record.specs.Body.{Body, Body.Submit, Body.Set, Body.Hold, Body.Release, Body.Delete, Body.Grant, Body.HandBack, Body.Begin, Body.Finish, Body.Reserve, Body.Cancel}
 use Rattle.fed_record.specs.JobRecord.{JobRecordValue, reads as reads_job}
@@ -103,6 +103,17 @@ merged join_records b c = record {
   version = joined b.version c.version;
   jobs = joined_tables stamp_cmp no_operation join_records b.jobs b.version c.jobs c.version;
   reservations = joined_tables stamp_cmp None (λ x v y w. joined_registers option_window_cmp x y)
+      b.reservations b.version c.reservations c.version;
+}
+
+-- the board with the records of another: at each name that the other board has, what the two boards merge to there, and
+-- at every other name what was there
+abbrev pub with_records : (JobRecordValue → List ℕ → JobRecordValue → List ℕ → JobRecordValue) →
+    BoardValue → BoardValue → BoardValue
+with_records join_two b c = record {
+  version = joined b.version c.version;
+  jobs = joined_entries stamp_cmp no_operation join_two b.jobs b.version c.jobs c.version;
+  reservations = joined_entries stamp_cmp None (λ x v y w. joined_registers option_window_cmp x y)
       b.reservations b.version c.reservations c.version;
 }
 

@@ -8,6 +8,7 @@ use Rattle.fed_lattice.specs.Stamped.{with_stamp}
 use Rattle.fed_record.specs.Body.{Body, is_of_job, is_of_reservation}
 use Rattle.fed_record.specs.Field.{window_in}
 use Rattle.fed_record.specs.JobSteps.{add_to_job, join_jobs}
+use Rattle.fed_record.specs.Letter.{is_submitted}
 use Rattle.fed_board.specs.View.{View}
 
 -- an operation of a stamp that is not covered
@@ -24,5 +25,16 @@ unfoldable pub join_views : View → View → View
 join_views v w = record {
   version = joined v.version w.version;
   job = λ job. join_jobs v.version (v.job job) w.version (w.job job);
+  reservation = λ name. joined_registers option_window_cmp (v.reservation name) (w.reservation name);
+}
+
+-- the view with the records of another: each job that the other view knows is joined to it, and every other job stays
+-- as it is
+unfoldable pub join_records : View → View → View
+join_records v w = record {
+  version = joined v.version w.version;
+  job = λ job. if is_submitted (w.job job)
+      then join_jobs v.version (v.job job) w.version (w.job job)
+      else v.job job;
   reservation = λ name. joined_registers option_window_cmp (v.reservation name) (w.reservation name);
 }

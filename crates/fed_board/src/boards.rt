@@ -16,15 +16,15 @@ ghost use Rattle.fed_record.specs.JobRecord.{JobRecordValue, reads as reads_job}
 ghost use Rattle.fed_record.specs.Letter.{is_submitted};
 ghost use Rattle.fed_record.specs.Operation.{body_of};
 ghost use Rattle.fed_record.specs.Reservation.{ReservationView};
-ghost use Rattle.fed_board.specs.Board.{IsBoard, HasNamed, reads, merged, changed_job, changed_reservation};
+ghost use Rattle.fed_board.specs.Board.{IsBoard, HasNamed, reads, merged, with_records, changed_job, changed_reservation};
 ghost use Rattle.fed_board.specs.Counts.{names_of};
 ghost use Rattle.fed_board.specs.Lawful.{IsLawful, AreKin};
 ghost use Rattle.fed_board.specs.Names.{jobs_in, reservations_in};
 ghost use Rattle.fed_board.specs.View.{view};
-ghost use Rattle.fed_board.specs.ViewSteps.{add_to_view, join_views};
+ghost use Rattle.fed_board.specs.ViewSteps.{add_to_view, join_views, join_records};
 
-use crate::counts::{change_at, count_names};
-use fed_lattice::{Causal, ExactEq, NoMemory, Table};
+use crate::counts::{change_at, count_more, count_names};
+use fed_lattice::{Causal, ExactEq, NoMemory, Table, join_entries};
 use fed_record::{JobRecord, Operation, Reservation};
 use fed_stamp::{JobId, SITES, SiteId, Stamp, Version};
 use std::alloc::Global;
@@ -67,6 +67,24 @@ impl Board {
             reservations: Table::bottom(alloc),
             job_counts: [0; SITES],
             reservation_counts: [0; SITES],
+        }
+    }
+
+    /// The board of these records beside the version. It asks for what holds of every board.
+    pub fn from_records(
+        version: Version,
+        jobs: Table<JobId, JobRecord>,
+        reservations: Table<Stamp, Reservation>,
+    ) -> Board
+        requires { IsBoard (record { version = version; jobs = jobs; reservations = reservations }) }
+        ensures { result ≡ record { version = version; jobs = jobs; reservations = reservations } }
+    {
+        Board {
+            version,
+            job_counts: count_names(&jobs),
+            reservation_counts: count_names(&reservations),
+            jobs,
+            reservations,
         }
     }
 
@@ -257,6 +275,36 @@ impl Board {
         self.jobs = jobs;
         self.reservations = reservations;
         self.version = self.version.join(&other.version);
+        Ok(())
+    }
+
+    /// Joins the records that the other board has to those of this one, each job and each reservation by itself, and
+    /// leaves all others as they are. So the other board may be a part of a board: the records in which this one is
+    /// behind. On an error this board is as before. The time that it takes grows with the records of the other, and
+    /// with the logarithm of those that are here.
+    pub fn join_records(&mut self, other: &Board) -> Result<(), NoMemory>
+        ensures value { OnOk result (self.new ≡ with_records ⟦<JobRecord as Causal>⟧.joined self.old other.now) }
+        ensures joined { OnOk result (reads self.new ≡ join_records (reads self.old) (reads other.now)) }
+        ensures unchanged { OnErr result (self.new ≡ self.old) }
+    {
+        self.see_tables();
+        other.see_tables();
+        let (jobs, reservations) = join_entries(
+            &mut self.jobs,
+            &mut self.reservations,
+            &self.version,
+            &other.jobs,
+            &other.reservations,
+            &other.version,
+        )?;
+        self.job_counts = count_more(self.job_counts, &jobs, &self.jobs);
+        self.reservation_counts = count_more(
+            self.reservation_counts,
+            &reservations,
+            &self.reservations,
+        );
+        let reached = self.version.join(&other.version);
+        self.version = reached;
         Ok(())
     }
 }

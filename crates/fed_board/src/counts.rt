@@ -3,7 +3,7 @@ ghost use Rattle.std.specs.Prelude.{◌≡◌, ◌<◌, ℕ, slice_index, OnOk, 
 ghost use Rattle.std.specs.Map.{keys_of};
 ghost use Rattle.fed_lattice.specs.Latest.{stamp_cmp};
 ghost use Rattle.fed_lattice.specs.Table.{applied_table};
-ghost use Rattle.fed_board.specs.Counts.{AreCounts};
+ghost use Rattle.fed_board.specs.Counts.{AreCounts, AreCounting};
 
 use fed_lattice::{Causal, NoMemory, Table};
 use fed_record::Operation;
@@ -19,6 +19,23 @@ pub(crate) fn count_names<V: Causal + Drop>(table: &Table<Stamp, V>) -> [u64; SI
         counts[name.site().get() as usize] += 1;
     }
     counts
+}
+
+/// The counts, with these names counted too, which are the names of the table that were not counted yet.
+pub(crate) fn count_more<V: Causal + Drop>(
+    counts: [u64; SITES],
+    names: &[Stamp],
+    table: &Table<Stamp, V>,
+) -> [u64; SITES]
+    requires { AreCounting counts names.now (keys_of table.now) }
+    ensures { AreCounts result (keys_of table.now) }
+{
+    let _names = table.len();
+    let mut more = counts;
+    for name in names {
+        more[name.site().get() as usize] += 1;
+    }
+    more
 }
 
 /// Changes the value at the name by the operation with the stamp `at`, and counts the name where it is new. On an error

@@ -1,6 +1,6 @@
 use Rattle.std.proofs.Common.{◌≡◌, length}
 use Rattle.std.specs.Map.{keys_of}
-use Rattle.fed_board.proofs.CountLaws.{AreCounting}
+use Rattle.fed_board.specs.Counts.{AreCounting}
 use Rattle.fed_board.proofs.counts.count_names.Given as goal
 
 abbrev pub invariant-loop-name : goal.invariant-loop-name

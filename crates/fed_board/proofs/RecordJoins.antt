@@ -1,0 +1,102 @@
+-- What a board reads as with the records of another, and that what holds of every board is kept.
+use Rattle.std.specs.BTreeMap.{is_at}
+use Rattle.std.specs.Map.{lookup}
+use Rattle.std.proofs.Common.{◌≡◌, ℕ, List, Bool, true, false, cond, ◌||◌, Option, Some, None, is_some, unwrap_or, refl, sym, ap, ap₂, ◌∙◌}
+use Rattle.std.proofs.lemmas.Bool.{or_right}
+use Rattle.std.proofs.lemmas.Option.{IfSome_then}
+use Rattle.fed_stamp.specs.Stamp.{StampValue}
+use Rattle.fed_stamp.specs.Version.{joined}
+use Rattle.fed_stamp.proofs.VersionLaws.{covers_more, below_trans, below_joined_left}
+use Rattle.fed_lattice.specs.ExactLaws.{exact_stamp}
+use Rattle.fed_lattice.specs.Latest.{stamp_cmp}
+use Rattle.fed_lattice.specs.LatestLaws.{stamp_total}
+use Rattle.fed_lattice.specs.Register.{joined_registers}
+use Rattle.fed_lattice.specs.Table.{value_at}
+use Rattle.fed_lattice.proofs.EntryValues.{value_at-joined_entries, each_joined_entries}
+use Rattle.fed_record.specs.JobRecord.{JobRecordValue, reads as reads_job}
+use Rattle.fed_record.specs.JobSteps.{join_jobs}
+use Rattle.fed_record.specs.JobView.{JobView}
+use Rattle.fed_record.specs.Letter.{is_submitted}
+use Rattle.fed_record.specs.Reservation.{ReservationView}
+use Rattle.fed_record.specs.ValueOrders.{option_window_cmp}
+use Rattle.fed_board.specs.Board.{BoardValue, IsBoard, IsKnownJob, IsKnownReservation, no_operation, reads, with_records}
+use Rattle.fed_board.specs.ViewSteps.{join_records}
+use Rattle.fed_board.proofs.BoardKeeps.{joined_known, joined_known_reservation}
+use Rattle.fed_board.proofs.CoveredJobs.{later_covered}
+use Rattle.fed_board.proofs.ListedNames.{submitted_found}
+
+-- ---- beside a greater version
+kept_job : (v w : List ℕ) (job : StampValue) (r : JobRecordValue) → IsKnownJob v job r → IsKnownJob (joined v w) job r
+kept_job v w job r k = record {
+  placed = k.placed;
+  named = covers_more v (joined v w) job (below_joined_left v w) k.named;
+  submitted = k.submitted;
+  touched = below_trans r.touched v (joined v w) k.touched (below_joined_left v w);
+  stamps = k.stamps;
+}
+
+kept_reservation : (v w : List ℕ) (name : StampValue) (r : ReservationView) → IsKnownReservation v name r → IsKnownReservation (joined v w) name r
+kept_reservation v w name r k = record {
+  placed = k.placed;
+  named = covers_more v (joined v w) name (below_joined_left v w) k.named;
+  made = k.made;
+  stamp = later_covered (λ latest. latest.0) v (joined v w) (λ s. covers_more v (joined v w) s (below_joined_left v w)) r k.stamp;
+}
+
+-- joining none adds nothing
+joined_none : (b : Bool) (x y : ReservationView) (a : Option ReservationView) → is_some a ≡ b → y ≡ unwrap_or a None → cond b (joined_registers option_window_cmp x y) x ≡ joined_registers option_window_cmp x y
+joined_none true x y a i e = refl
+joined_none false x y (Some r) i e = cc
+joined_none false None y None i e = ap (λ r. joined_registers option_window_cmp None r) (sym e)
+joined_none false (Some p) y None i e = ap (λ r. joined_registers option_window_cmp (Some p) r) (sym e)
+
+module _ (join : JobRecordValue → List ℕ → JobRecordValue → List ℕ → JobRecordValue)
+    (law : (r q : JobRecordValue) (v w : List ℕ) → reads_job (join r v q w) ≡ join_jobs v (reads_job r) w (reads_job q))
+    (b c : BoardValue) where
+  abbrev version : List ℕ
+  version = joined b.version c.version
+
+  pub with_records_keeps : IsBoard b → IsBoard c → IsBoard (with_records join b c)
+  with_records_keeps i k = record {
+    jobs = each_joined_entries stamp_cmp stamp_total exact_stamp no_operation join b.jobs c.jobs b.version c.version (IsKnownJob version)
+        (λ name e. joined_known join law b.version c.version name (lookup (is_at (stamp_cmp name)) b.jobs) (lookup (is_at (stamp_cmp name)) c.jobs) (i.jobs name) (k.jobs name) (or_right _ _ e))
+        (λ name. IfSome_then _ (i.jobs name) (λ r. kept_job b.version c.version name r));
+    reservations = each_joined_entries stamp_cmp stamp_total exact_stamp None (λ x v y w. joined_registers option_window_cmp x y) b.reservations c.reservations b.version c.version (IsKnownReservation version)
+        (λ name e. joined_known_reservation join law b.version c.version name (lookup (is_at (stamp_cmp name)) b.reservations) (lookup (is_at (stamp_cmp name)) c.reservations) (i.reservations name) (k.reservations name) (or_right _ _ e))
+        (λ name. IfSome_then _ (i.reservations name) (λ r. kept_reservation b.version c.version name r));
+  }
+
+  abbrev old_job : StampValue → JobRecordValue
+  old_job name = value_at stamp_cmp no_operation b.jobs name
+
+  abbrev new_job : StampValue → JobRecordValue
+  new_job name = value_at stamp_cmp no_operation c.jobs name
+
+  abbrev job_by : Bool → StampValue → JobView
+  job_by t name = cond t (join_jobs b.version (reads_job (old_job name)) c.version (reads_job (new_job name))) (reads_job (old_job name))
+
+  job_reads : IsBoard c → (name : StampValue) → reads_job (value_at stamp_cmp no_operation (with_records join b c).jobs name) ≡ job_by (is_submitted (reads_job (new_job name))) name
+  job_reads k name =
+      ap reads_job (value_at-joined_entries stamp_cmp stamp_total exact_stamp no_operation join b.jobs c.jobs b.version c.version name)
+      ∙ go (is_some (lookup (is_at (stamp_cmp name)) c.jobs))
+      ∙ ap (λ t. job_by t name) (sym (submitted_found c.version name (lookup (is_at (stamp_cmp name)) c.jobs) (k.jobs name)))
+    where
+      go : (t : Bool) → reads_job (cond t (join (old_job name) b.version (new_job name) c.version) (old_job name)) ≡ job_by t name
+      go true = law (old_job name) (new_job name) b.version c.version
+      go false = refl
+
+  reservation_reads : (name : StampValue) → value_at stamp_cmp None (with_records join b c).reservations name ≡ joined_registers option_window_cmp (value_at stamp_cmp None b.reservations name) (value_at stamp_cmp None c.reservations name)
+  reservation_reads name =
+      value_at-joined_entries stamp_cmp stamp_total exact_stamp None (λ x v y w. joined_registers option_window_cmp x y) b.reservations c.reservations b.version c.version name
+      ∙ joined_none (is_some (lookup (is_at (stamp_cmp name)) c.reservations)) (value_at stamp_cmp None b.reservations name) (value_at stamp_cmp None c.reservations name) (lookup (is_at (stamp_cmp name)) c.reservations) refl refl
+
+  pub with_records_reads : IsBoard c → reads (with_records join b c) ≡ join_records (reads b) (reads c)
+  unfolding join_records
+  with_records_reads k = λ i. record {
+    version = version;
+    job = λ name. job_reads k name i;
+    reservation = λ name. reservation_reads name i;
+  }
+
+  pub with_records_same : (now other : BoardValue) → b ≡ now → c ≡ other → with_records join b c ≡ with_records join now other
+  with_records_same now other e f = ap₂ (with_records join) e f

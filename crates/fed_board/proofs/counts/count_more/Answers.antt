@@ -1,0 +1,21 @@
+use Rattle.std.proofs.Common.{arith, slice_index_or, ◌+◌, sym, ◌∙◌}
+use Rattle.std.specs.Map.{keys_of}
+use Rattle.std.proofs.lemmas.List.{length-set}
+use Rattle.std.proofs.lemmas.Map.Entries.{length-keys_of}
+use Rattle.fed_lattice.proofs.EntryLoops.{drop_item}
+use Rattle.fed_board.proofs.CountLaws.{counting_more, counting_fits}
+use Rattle.fed_board.proofs.counts.count_more.Goals as goal
+
+pub overflow_add-more : goal.overflow_add-more
+overflow_add-more g c =
+    let fits = counting_fits c.loop-name.more (keys_of c.args.table.now) _ _ c.name-item.result c.get.result c.loop-name.invariant.0 c.get.ensures.in_range (c.get.ensures.same ∙ c.site.ensures)
+    (drop_item c.args.names.now _ _ c.loop-name-test.true c.name-item.is)
+    c.len-names.result (c.len-names.ensures ∙ sym (length-keys_of c.args.table.now)) c.loop-name.invariant.1 in
+    omega (arith, fits, c.len-names.type_inv)
+
+pub loop-name-preserved : goal.loop-name-preserved
+loop-name-preserved g c = (
+  length-set c.loop-name.more c.get.result (slice_index_or c.loop-name.more c.get.result 0 + 1) ∙ c.loop-name.invariant.0,
+  counting_more c.loop-name.more (keys_of c.args.table.now) _ _ c.name-item.result c.get.result c.loop-name.invariant.0 c.get.ensures.in_range (c.get.ensures.same ∙ c.site.ensures)
+      (drop_item c.args.names.now _ _ c.loop-name-test.true c.name-item.is) c.loop-name.invariant.1,
+)
