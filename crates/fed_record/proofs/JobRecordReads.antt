@@ -23,16 +23,16 @@ pub applied_job_reads : (r : JobRecordValue) (s : StampValue) (d : Operation) �
 unfolding add_to_job
 applied_job_reads r s d =
     let b = body_of d in
-    let owner = applied_register name_cmp r.fields.first s (owner_in b) in
-    let name = applied_register name_cmp r.fields.second.first s (name_in b) in
-    let priority = applied_register int_cmp r.fields.second.second.first s (priority_in b) in
-    let nodes = applied_register nat_cmp r.fields.second.second.second.first s (nodes_in b) in
-    let limit = applied_register nat_cmp r.fields.second.second.second.second.first s (limit_in b) in
-    let account = applied_register account_cmp r.fields.second.second.second.second.second s (account_in b) in
-    let deleted = applied_flag r.stages.first s (deletion_in b) in
-    let grant = applied_stage grant_cmp r.stages.second.first s (grant_in (s, b)) in
-    let begun = applied_register beginning_cmp r.stages.second.second.first s (begin_in b) in
-    let finished = applied_register ending_cmp r.stages.second.second.second s (finish_in b) in
+    let owner = applied_register name_cmp r.fields.owner s (owner_in b) in
+    let name = applied_register name_cmp r.fields.name s (name_in b) in
+    let priority = applied_register int_cmp r.fields.priority s (priority_in b) in
+    let nodes = applied_register nat_cmp r.fields.nodes s (nodes_in b) in
+    let limit = applied_register nat_cmp r.fields.limit s (limit_in b) in
+    let account = applied_register account_cmp r.fields.account s (account_in b) in
+    let deleted = applied_flag r.stages.deleted s (deletion_in b) in
+    let grant = applied_stage grant_cmp r.stages.grant s (grant_in (s, b)) in
+    let begun = applied_register beginning_cmp r.stages.begun s (begin_in b) in
+    let finished = applied_register ending_cmp r.stages.finished s (finish_in b) in
     λ i. record {
       owner = owner i;
       name = name i;
@@ -52,17 +52,17 @@ applied_job_reads r s d =
 pub joined_jobs_read : (r q : JobRecordValue) (v w : List ℕ) → reads (joined_record r v q w) ≡ join_jobs v (reads r) w (reads q)
 unfolding join_jobs
 joined_jobs_read r q v w = λ i. record {
-  owner = joined_registers name_cmp r.fields.first q.fields.first;
-  name = joined_registers name_cmp r.fields.second.first q.fields.second.first;
-  priority = joined_registers int_cmp r.fields.second.second.first q.fields.second.second.first;
-  nodes = joined_registers nat_cmp r.fields.second.second.second.first q.fields.second.second.second.first;
-  limit = joined_registers nat_cmp r.fields.second.second.second.second.first q.fields.second.second.second.second.first;
-  account = joined_registers account_cmp r.fields.second.second.second.second.second q.fields.second.second.second.second.second;
+  owner = joined_registers name_cmp r.fields.owner q.fields.owner;
+  name = joined_registers name_cmp r.fields.name q.fields.name;
+  priority = joined_registers int_cmp r.fields.priority q.fields.priority;
+  nodes = joined_registers nat_cmp r.fields.nodes q.fields.nodes;
+  limit = joined_registers nat_cmp r.fields.limit q.fields.limit;
+  account = joined_registers account_cmp r.fields.account q.fields.account;
   sites = λ site tag. has_joined (pair_cmp nat_cmp) site_order site_exact (site, tag) r.sites q.sites v w i;
   holds = λ kind tag. has_joined (pair_cmp kind_cmp) hold_order hold_exact (kind, tag) r.holds q.holds v w i;
-  deleted = r.stages.first || q.stages.first;
-  grant = ord_max (option_cmp grant_cmp) r.stages.second.first q.stages.second.first;
-  begun = joined_registers beginning_cmp r.stages.second.second.first q.stages.second.second.first;
-  finished = joined_registers ending_cmp r.stages.second.second.second q.stages.second.second.second;
+  deleted = r.stages.deleted || q.stages.deleted;
+  grant = ord_max (option_cmp grant_cmp) r.stages.grant q.stages.grant;
+  begun = joined_registers beginning_cmp r.stages.begun q.stages.begun;
+  finished = joined_registers ending_cmp r.stages.finished q.stages.finished;
   touched = joined r.touched q.touched;
 }

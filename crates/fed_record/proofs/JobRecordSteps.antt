@@ -19,32 +19,20 @@ use Rattle.fed_record.specs.ValueOrders.{name_cmp, account_cmp, beginning_cmp, e
 abbrev pub changed_record : JobRecordValue → StampValue → Operation → JobRecordValue
 changed_record r s d = record {
   fields = record {
-    first = applied_option (λ y t c. joined_registers name_cmp y (Some (t, c))) r.fields.first s (owner_in (body_of d));
-    second = record {
-      first = applied_option (λ y t c. joined_registers name_cmp y (Some (t, c))) r.fields.second.first s (name_in (body_of d));
-      second = record {
-        first = applied_option (λ y t c. joined_registers int_cmp y (Some (t, c))) r.fields.second.second.first s (priority_in (body_of d));
-        second = record {
-          first = applied_option (λ y t c. joined_registers nat_cmp y (Some (t, c))) r.fields.second.second.second.first s (nodes_in (body_of d));
-          second = record {
-            first = applied_option (λ y t c. joined_registers nat_cmp y (Some (t, c))) r.fields.second.second.second.second.first s (limit_in (body_of d));
-            second = applied_option (λ y t c. joined_registers account_cmp y (Some (t, c))) r.fields.second.second.second.second.second s (account_in (body_of d));
-          };
-        };
-      };
-    };
+    owner = applied_option (λ y t c. joined_registers name_cmp y (Some (t, c))) r.fields.owner s (owner_in (body_of d));
+    name = applied_option (λ y t c. joined_registers name_cmp y (Some (t, c))) r.fields.name s (name_in (body_of d));
+    priority = applied_option (λ y t c. joined_registers int_cmp y (Some (t, c))) r.fields.priority s (priority_in (body_of d));
+    nodes = applied_option (λ y t c. joined_registers nat_cmp y (Some (t, c))) r.fields.nodes s (nodes_in (body_of d));
+    limit = applied_option (λ y t c. joined_registers nat_cmp y (Some (t, c))) r.fields.limit s (limit_in (body_of d));
+    account = applied_option (λ y t c. joined_registers account_cmp y (Some (t, c))) r.fields.account s (account_in (body_of d));
   };
   holds = applied_tags (pair_cmp kind_cmp) r.holds s (hold_change d);
   sites = applied_tags (pair_cmp nat_cmp) r.sites s (site_change d);
   stages = record {
-    first = applied_option (λ y t c. true) r.stages.first s (deletion_in (body_of d));
-    second = record {
-      first = applied_option (λ y t c. ord_max (option_cmp grant_cmp) y (Some c)) r.stages.second.first s (grant_in (s, body_of d));
-      second = record {
-        first = applied_option (λ y t c. joined_registers beginning_cmp y (Some (t, c))) r.stages.second.second.first s (begin_in (body_of d));
-        second = applied_option (λ y t c. joined_registers ending_cmp y (Some (t, c))) r.stages.second.second.second s (finish_in (body_of d));
-      };
-    };
+    deleted = applied_option (λ y t c. true) r.stages.deleted s (deletion_in (body_of d));
+    grant = applied_option (λ y t c. ord_max (option_cmp grant_cmp) y (Some c)) r.stages.grant s (grant_in (s, body_of d));
+    begun = applied_option (λ y t c. joined_registers beginning_cmp y (Some (t, c))) r.stages.begun s (begin_in (body_of d));
+    finished = applied_option (λ y t c. joined_registers ending_cmp y (Some (t, c))) r.stages.finished s (finish_in (body_of d));
   };
   touched = raised r.touched s;
 }
@@ -52,32 +40,20 @@ changed_record r s d = record {
 abbrev pub joined_record : JobRecordValue → List ℕ → JobRecordValue → List ℕ → JobRecordValue
 joined_record r v q w = record {
   fields = record {
-    first = joined_registers name_cmp r.fields.first q.fields.first;
-    second = record {
-      first = joined_registers name_cmp r.fields.second.first q.fields.second.first;
-      second = record {
-        first = joined_registers int_cmp r.fields.second.second.first q.fields.second.second.first;
-        second = record {
-          first = joined_registers nat_cmp r.fields.second.second.second.first q.fields.second.second.second.first;
-          second = record {
-            first = joined_registers nat_cmp r.fields.second.second.second.second.first q.fields.second.second.second.second.first;
-            second = joined_registers account_cmp r.fields.second.second.second.second.second q.fields.second.second.second.second.second;
-          };
-        };
-      };
-    };
+    owner = joined_registers name_cmp r.fields.owner q.fields.owner;
+    name = joined_registers name_cmp r.fields.name q.fields.name;
+    priority = joined_registers int_cmp r.fields.priority q.fields.priority;
+    nodes = joined_registers nat_cmp r.fields.nodes q.fields.nodes;
+    limit = joined_registers nat_cmp r.fields.limit q.fields.limit;
+    account = joined_registers account_cmp r.fields.account q.fields.account;
   };
   holds = joined_tags (pair_cmp kind_cmp) r.holds v q.holds w;
   sites = joined_tags (pair_cmp nat_cmp) r.sites v q.sites w;
   stages = record {
-    first = r.stages.first || q.stages.first;
-    second = record {
-      first = ord_max (option_cmp grant_cmp) r.stages.second.first q.stages.second.first;
-      second = record {
-        first = joined_registers beginning_cmp r.stages.second.second.first q.stages.second.second.first;
-        second = joined_registers ending_cmp r.stages.second.second.second q.stages.second.second.second;
-      };
-    };
+    deleted = r.stages.deleted || q.stages.deleted;
+    grant = ord_max (option_cmp grant_cmp) r.stages.grant q.stages.grant;
+    begun = joined_registers beginning_cmp r.stages.begun q.stages.begun;
+    finished = joined_registers ending_cmp r.stages.finished q.stages.finished;
   };
   touched = joined r.touched q.touched;
 }

@@ -1,7 +1,6 @@
 -- A record that stands for the operations of a job reads as their view.
 use Rattle.std.specs.Ordering.{nat_cmp}
 use Rattle.std.specs.List.{range_with_len}
-use Rattle.std.specs.Prelude.{ℤ}
 use Rattle.std.proofs.Common.{◌≡◌, ◌↔◌, ℕ, List, Bool, true, Option, Some, refl, sym, ap, subst, ◌∙◌}
 use Rattle.fed_stamp.specs.Stamp.{StampValue}
 use Rattle.fed_lattice.proofs.FilterLaws.{Has-filter, filter-Has}
@@ -10,7 +9,7 @@ use Rattle.fed_lattice.specs.FlagLaws.{flag_from_stands}
 use Rattle.fed_lattice.specs.Sets.{Has}
 use Rattle.fed_lattice.specs.History.{History, OneEach}
 use Rattle.fed_lattice.specs.LatestLaws.{latest_stands, latest_from_stands}
-use Rattle.fed_lattice.specs.Part.{part, first_change, second_change}
+use Rattle.fed_lattice.specs.Part.{part}
 use Rattle.fed_lattice.specs.PartLaws.{one_each_part}
 use Rattle.fed_lattice.specs.Register.{register_stands_for}
 use Rattle.fed_lattice.specs.Stage.{stage_stands_for}
@@ -21,10 +20,10 @@ use Rattle.fed_tags.specs.TagLaws.{has_member, member}
 use Rattle.fed_record.specs.declared.grants.GrantStage.{GrantStage}
 use Rattle.fed_record.specs.declared.holds.HoldKind.{HoldKind}
 use Rattle.fed_record.specs.declared.operations.Operation.{Operation}
-use Rattle.fed_record.specs.declared.progress.Beginning.{Beginning}
-use Rattle.fed_record.specs.declared.progress.Ending.{Ending}
 use Rattle.fed_record.specs.Body.{Body}
-use Rattle.fed_record.specs.Changes.{always, all_kinds, field_change, stage_change, hold_change, site_change, removed_holds, removed_sites, field_changes, stage_changes}
+use Rattle.fed_record.specs.Changes.{always, all_kinds, field_changes_of, stage_changes_of, hold_change, site_change, removed_holds, removed_sites, field_changes, stage_changes}
+use Rattle.fed_record.specs.Fields.{owner_change, name_change, priority_change, nodes_change, limit_change, account_change}
+use Rattle.fed_record.specs.Stages.{deleted_change, grant_change, begun_change, finished_change}
 use Rattle.fed_record.specs.Field.{owner_in, name_in, priority_in, nodes_in, limit_in, account_in, deletion_in, begin_in, finish_in, field}
 use Rattle.fed_record.specs.Grant.{grant_cmp, grant_in, grant_stage}
 use Rattle.fed_record.specs.GrantLaws.{grant_total, exact_grant}
@@ -80,94 +79,37 @@ grant_is x h l e p =
     stage_from_stands grant_cmp grant_total exact_grant x (grant_stage (bodies h)) (part grant_in (stamped (bodies h)))
     (subst (stage_stands_for grant_cmp x) e p) (stage_stands_for_greatest grant_cmp grant_total (part grant_in (stamped (bodies h))))
 
--- ---- the nests of parts
-rest_of : {C A B : Type 0} (k : C → Option A × Option B) (r : C → B) (h : History C) → ((c : C) → second_change (k c) ≡ Some (r c)) → part second_change (part (always k) h) ≡ part (always r) h
-rest_of k r h same = said_by second_change k (always r) h (part (always r) h) same refl
-
-abbrev LimitChange : Type 0
-LimitChange = Option ℕ × Option (Option (List ℕ))
-
-abbrev NodesChange : Type 0
-NodesChange = Option ℕ × Option LimitChange
-
-abbrev PriorityChange : Type 0
-PriorityChange = Option ℤ × Option NodesChange
-
-abbrev NameChange : Type 0
-NameChange = Option (List ℕ) × Option PriorityChange
-
-abbrev limit_change : Operation → LimitChange
-limit_change c = (limit_in (body_of c), account_in (body_of c))
-
-abbrev nodes_change : Operation → NodesChange
-nodes_change c = (nodes_in (body_of c), Some (limit_change c))
-
-abbrev priority_change : Operation → PriorityChange
-priority_change c = (priority_in (body_of c), Some (nodes_change c))
-
-abbrev name_change : Operation → NameChange
-name_change c = (name_in (body_of c), Some (priority_change c))
-
-abbrev ProgressChange : Type 0
-ProgressChange = Option Beginning × Option Ending
-
-abbrev GrantChange : Type 0
-GrantChange = Option GrantStage × Option ProgressChange
-
-abbrev progress_change : StampValue × Operation → ProgressChange
-progress_change e = (begin_in (body_of e.1), finish_in (body_of e.1))
-
-abbrev grant_change : StampValue × Operation → GrantChange
-grant_change e = (grant_in (e.0, body_of e.1), Some (progress_change e))
-
+-- ---- what a history's changes of each part are
 module _ (h : History Operation) where
-  after_owner : part second_change (field_changes h) ≡ part (always name_change) h
-  after_owner = rest_of field_change name_change h (λ c. refl)
-
-  after_name : part second_change (part second_change (field_changes h)) ≡ part (always priority_change) h
-  after_name = ap (part second_change) after_owner ∙ rest_of name_change priority_change h (λ c. refl)
-
-  after_priority : part second_change (part second_change (part second_change (field_changes h))) ≡ part (always nodes_change) h
-  after_priority = ap (part second_change) after_name ∙ rest_of priority_change nodes_change h (λ c. refl)
-
-  after_nodes : part second_change (part second_change (part second_change (part second_change (field_changes h)))) ≡ part (always limit_change) h
-  after_nodes = ap (part second_change) after_priority ∙ rest_of nodes_change limit_change h (λ c. refl)
-
   said : {T : Type 0} (says : Body → Option T) → part (λ c. says (body_of c)) h ≡ part says (bodies h)
   said says = sym (part-bodies says h)
 
-  pub owner_said : part first_change (field_changes h) ≡ part owner_in (bodies h)
-  owner_said = said_by first_change field_change (λ c. owner_in (body_of c)) h _ (λ c. refl) (said owner_in)
+  pub owner_said : part owner_change (field_changes h) ≡ part owner_in (bodies h)
+  owner_said = said_by owner_change field_changes_of (λ c. owner_in (body_of c)) h _ (λ c. refl) (said owner_in)
 
-  pub name_said : part first_change (part second_change (field_changes h)) ≡ part name_in (bodies h)
-  name_said = ap (part first_change) after_owner ∙ said_by first_change name_change (λ c. name_in (body_of c)) h _ (λ c. refl) (said name_in)
+  pub name_said : part name_change (field_changes h) ≡ part name_in (bodies h)
+  name_said = said_by name_change field_changes_of (λ c. name_in (body_of c)) h _ (λ c. refl) (said name_in)
 
-  pub priority_said : part first_change (part second_change (part second_change (field_changes h))) ≡ part priority_in (bodies h)
-  priority_said = ap (part first_change) after_name ∙ said_by first_change priority_change (λ c. priority_in (body_of c)) h _ (λ c. refl) (said priority_in)
+  pub priority_said : part priority_change (field_changes h) ≡ part priority_in (bodies h)
+  priority_said = said_by priority_change field_changes_of (λ c. priority_in (body_of c)) h _ (λ c. refl) (said priority_in)
 
-  pub nodes_said : part first_change (part second_change (part second_change (part second_change (field_changes h)))) ≡ part nodes_in (bodies h)
-  nodes_said = ap (part first_change) after_priority ∙ said_by first_change nodes_change (λ c. nodes_in (body_of c)) h _ (λ c. refl) (said nodes_in)
+  pub nodes_said : part nodes_change (field_changes h) ≡ part nodes_in (bodies h)
+  nodes_said = said_by nodes_change field_changes_of (λ c. nodes_in (body_of c)) h _ (λ c. refl) (said nodes_in)
 
-  pub limit_said : part first_change (part second_change (part second_change (part second_change (part second_change (field_changes h))))) ≡ part limit_in (bodies h)
-  limit_said = ap (part first_change) after_nodes ∙ said_by first_change limit_change (λ c. limit_in (body_of c)) h _ (λ c. refl) (said limit_in)
+  pub limit_said : part limit_change (field_changes h) ≡ part limit_in (bodies h)
+  limit_said = said_by limit_change field_changes_of (λ c. limit_in (body_of c)) h _ (λ c. refl) (said limit_in)
 
-  pub account_said : part second_change (part second_change (part second_change (part second_change (part second_change (field_changes h))))) ≡ part account_in (bodies h)
-  account_said = ap (part second_change) after_nodes ∙ said_by second_change limit_change (λ c. account_in (body_of c)) h _ (λ c. refl) (said account_in)
+  pub account_said : part account_change (field_changes h) ≡ part account_in (bodies h)
+  account_said = said_by account_change field_changes_of (λ c. account_in (body_of c)) h _ (λ c. refl) (said account_in)
 
-  after_deletion : part second_change (stage_changes h) ≡ part (always grant_change) (stamped h)
-  after_deletion = rest_of stage_change grant_change (stamped h) (λ e. refl)
+  pub deletion_said : part deleted_change (stage_changes h) ≡ part deletion_in (bodies h)
+  deletion_said = said_by deleted_change stage_changes_of (λ (e : StampValue × Operation). deletion_in (body_of e.1)) (stamped h) _ (λ e. refl) (part-stamped (λ c. deletion_in (body_of c)) h ∙ said deletion_in)
 
-  after_grant : part second_change (part second_change (stage_changes h)) ≡ part (always progress_change) (stamped h)
-  after_grant = ap (part second_change) after_deletion ∙ rest_of grant_change progress_change (stamped h) (λ e. refl)
+  pub grant_said : part grant_change (stage_changes h) ≡ part grant_in (stamped (bodies h))
+  grant_said = said_by grant_change stage_changes_of (λ (e : StampValue × Operation). grant_in (e.0, body_of e.1)) (stamped h) _ (λ e. refl) (sym (part-stamped_bodies grant_in h))
 
-  pub deletion_said : part first_change (stage_changes h) ≡ part deletion_in (bodies h)
-  deletion_said = said_by first_change stage_change (λ (e : StampValue × Operation). deletion_in (body_of e.1)) (stamped h) _ (λ e. refl) (part-stamped (λ c. deletion_in (body_of c)) h ∙ said deletion_in)
+  pub begin_said : part begun_change (stage_changes h) ≡ part begin_in (bodies h)
+  begin_said = said_by begun_change stage_changes_of (λ (e : StampValue × Operation). begin_in (body_of e.1)) (stamped h) _ (λ e. refl) (part-stamped (λ c. begin_in (body_of c)) h ∙ said begin_in)
 
-  pub grant_said : part first_change (part second_change (stage_changes h)) ≡ part grant_in (stamped (bodies h))
-  grant_said = ap (part first_change) after_deletion ∙ said_by first_change grant_change (λ (e : StampValue × Operation). grant_in (e.0, body_of e.1)) (stamped h) _ (λ e. refl) (sym (part-stamped_bodies grant_in h))
-
-  pub begin_said : part first_change (part second_change (part second_change (stage_changes h))) ≡ part begin_in (bodies h)
-  begin_said = ap (part first_change) after_grant ∙ said_by first_change progress_change (λ (e : StampValue × Operation). begin_in (body_of e.1)) (stamped h) _ (λ e. refl) (part-stamped (λ c. begin_in (body_of c)) h ∙ said begin_in)
-
-  pub finish_said : part second_change (part second_change (part second_change (stage_changes h))) ≡ part finish_in (bodies h)
-  finish_said = ap (part second_change) after_grant ∙ said_by second_change progress_change (λ (e : StampValue × Operation). finish_in (body_of e.1)) (stamped h) _ (λ e. refl) (part-stamped (λ c. finish_in (body_of c)) h ∙ said finish_in)
+  pub finish_said : part finished_change (stage_changes h) ≡ part finish_in (bodies h)
+  finish_said = said_by finished_change stage_changes_of (λ (e : StampValue × Operation). finish_in (body_of e.1)) (stamped h) _ (λ e. refl) (part-stamped (λ c. finish_in (body_of c)) h ∙ said finish_in)

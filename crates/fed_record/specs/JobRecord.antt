@@ -2,25 +2,24 @@
 use Rattle.std.specs.Prelude.{ℕ, ℤ, Bool, List, Option}
 use Rattle.std.specs.Ordering.{nat_cmp}
 use Rattle.fed_stamp.specs.Stamp.{StampValue}
-use Rattle.fed_lattice.specs.declared.pairs.Both.{Both}
 use Rattle.fed_tags.specs.Tags.{pair_cmp, has}
+use Rattle.fed_record.specs.declared.fields.Fields.{Fields}
 use Rattle.fed_record.specs.declared.grants.GrantStage.{GrantStage}
 use Rattle.fed_record.specs.declared.progress.Beginning.{Beginning}
 use Rattle.fed_record.specs.declared.progress.Ending.{Ending}
+use Rattle.fed_record.specs.declared.stages.Stages.{Stages}
 use Rattle.fed_record.specs.Hold.{kind_cmp}
 use Rattle.fed_record.specs.JobView.{JobView}
 use Rattle.fed_record.specs.Record.{RecordValue}
 
 -- the registers of the owner, the name, the priority, the nodes, the limit and the account
 abbrev pub FieldsValue : Type 0
-FieldsValue = Both (Option (StampValue × List ℕ)) (Both (Option (StampValue × List ℕ))
-    (Both (Option (StampValue × ℤ)) (Both (Option (StampValue × ℕ)) (Both (Option (StampValue × ℕ))
-    (Option (StampValue × Option (List ℕ)))))))
+FieldsValue = Fields (Option (StampValue × List ℕ)) (Option (StampValue × List ℕ)) (Option (StampValue × ℤ))
+    (Option (StampValue × ℕ)) (Option (StampValue × ℕ)) (Option (StampValue × Option (List ℕ)))
 
 -- the flag of deletion, the stage of grants, and the registers of Begin and Finish
 abbrev pub StagesValue : Type 0
-StagesValue = Both Bool (Both (Option GrantStage)
-    (Both (Option (StampValue × Beginning)) (Option (StampValue × Ending))))
+StagesValue = Stages Bool (Option GrantStage) (Option (StampValue × Beginning)) (Option (StampValue × Ending))
 
 abbrev pub JobRecordValue : Type 0
 JobRecordValue = RecordValue FieldsValue StagesValue
@@ -28,17 +27,17 @@ JobRecordValue = RecordValue FieldsValue StagesValue
 -- a pair is live where the record keeps it
 abbrev pub reads : JobRecordValue → JobView
 reads r = record {
-  owner = r.fields.first;
-  name = r.fields.second.first;
-  priority = r.fields.second.second.first;
-  nodes = r.fields.second.second.second.first;
-  limit = r.fields.second.second.second.second.first;
-  account = r.fields.second.second.second.second.second;
+  owner = r.fields.owner;
+  name = r.fields.name;
+  priority = r.fields.priority;
+  nodes = r.fields.nodes;
+  limit = r.fields.limit;
+  account = r.fields.account;
   sites = λ site tag. has (pair_cmp nat_cmp) r.sites (site, tag);
   holds = λ kind tag. has (pair_cmp kind_cmp) r.holds (kind, tag);
-  deleted = r.stages.first;
-  grant = r.stages.second.first;
-  begun = r.stages.second.second.first;
-  finished = r.stages.second.second.second;
+  deleted = r.stages.deleted;
+  grant = r.stages.grant;
+  begun = r.stages.begun;
+  finished = r.stages.finished;
   touched = r.touched;
 }

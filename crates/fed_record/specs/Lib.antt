@@ -15,10 +15,16 @@ pub mod GrantLaws
 pub mod ValueLaws
 pub mod HoldLaws
 pub mod Changes
+pub mod NamedPartLaws
+pub mod Fields
+pub mod FieldsLaws
+pub mod Stages
+pub mod StagesLaws
 pub mod Record
 pub mod JobRecord
 pub mod JobParts
 pub mod CoveredLaws
+pub mod RecordSteps
 pub mod RecordLaws
 pub mod ValueOrders
 pub mod ValueOrderLaws

@@ -3,9 +3,10 @@ ghost use Rattle.std.specs.Prelude.{◌≡◌, IfOk, filter};
 ghost use Rattle.std.specs.List.{range_with_len};
 ghost use Rattle.fed_record.specs.Operation.{body_of};
 ghost use Rattle.fed_record.specs.Pairs.{adds_hold as is_hold_added, adds_site as is_site_added};
-ghost use Rattle.fed_record.specs.Changes.{all_kinds, field_change as change_of_fields, stage_change as change_of_stages, removed_holds as holds_removed, removed_sites as sites_removed};
+ghost use Rattle.fed_record.specs.Changes.{all_kinds, field_changes_of, stage_changes_of, removed_holds as holds_removed, removed_sites as sites_removed};
 
 use crate::accounts::Account;
+use crate::fields::FieldChanges;
 use crate::grants::GrantStage;
 use crate::holds::HoldKind;
 use crate::limits::Limit;
@@ -13,104 +14,88 @@ use crate::node_counts::Nodes;
 use crate::operations::Operation;
 use crate::priorities::Priority;
 use crate::progress::{Beginning, Ending};
+use crate::stages::StageChanges;
 use fed_lattice::NoMemory;
 use fed_stamp::{SITES, SiteId, Stamp, Word};
 use std::alloc::Global;
 
-/// A change of the registers: of the owner, the name, the priority, the nodes, the limit and the account.
-pub type FieldChange = (
-    Option<Word>,
-    Option<
-        (
-            Option<Word>,
-            Option<
-                (
-                    Option<Priority>,
-                    Option<(Option<Nodes>, Option<(Option<Limit>, Option<Account>)>)>,
-                ),
-            >,
-        ),
-    >,
-);
+/// A change of the fields of a job.
+pub type JobFieldChanges = FieldChanges<Word, Word, Priority, Nodes, Limit, Account>;
 
-/// A change of the stages: of the deletion, the grant, the Begin and the Finish.
-pub type StageChange = (
-    Option<()>,
-    Option<
-        (
-            Option<GrantStage>,
-            Option<(Option<Beginning>, Option<Ending>)>,
-        ),
-    >,
-);
+/// A change of the stages of a job.
+pub type JobStageChanges = StageChanges<(), GrantStage, Beginning, Ending>;
 
-/// What the operation changes in the registers.
-pub(crate) fn field_change(operation: &Operation) -> FieldChange
-    ensures { result ≡ change_of_fields operation.now }
+/// What the operation changes in the fields.
+pub(crate) fn field_changes(operation: &Operation) -> JobFieldChanges
+    ensures { result ≡ field_changes_of operation.now }
 {
     match operation {
-        Operation::Submit { owner, values, .. } => (
-            Some(*owner),
-            Some((
-                Some(values.name),
-                Some((
-                    Some(values.priority),
-                    Some((
-                        Some(values.nodes),
-                        Some((Some(values.limit), Some(values.account))),
-                    )),
-                )),
-            )),
-        ),
-        Operation::Set { changes, .. } => (
-            None,
-            Some((
-                changes.name,
-                Some((
-                    changes.priority,
-                    Some((changes.nodes, Some((changes.limit, changes.account)))),
-                )),
-            )),
-        ),
-        _ => (
-            None,
-            Some((None, Some((None, Some((None, Some((None, None)))))))),
-        ),
+        Operation::Submit { owner, values, .. } => FieldChanges {
+            owner: Some(*owner),
+            name: Some(values.name),
+            priority: Some(values.priority),
+            nodes: Some(values.nodes),
+            limit: Some(values.limit),
+            account: Some(values.account),
+        },
+        Operation::Set { changes, .. } => FieldChanges {
+            owner: None,
+            name: changes.name,
+            priority: changes.priority,
+            nodes: changes.nodes,
+            limit: changes.limit,
+            account: changes.account,
+        },
+        _ => FieldChanges {
+            owner: None,
+            name: None,
+            priority: None,
+            nodes: None,
+            limit: None,
+            account: None,
+        },
     }
 }
 
 /// What the operation with the stamp changes in the stages.
-pub(crate) fn stage_change(at: Stamp, operation: &Operation) -> StageChange
-    ensures { result ≡ change_of_stages (at, operation.now) }
+pub(crate) fn stage_changes(at: Stamp, operation: &Operation) -> JobStageChanges
+    ensures { result ≡ stage_changes_of (at, operation.now) }
 {
+    let none = StageChanges {
+        deleted: None,
+        grant: None,
+        begun: None,
+        finished: None,
+    };
     match operation {
-        Operation::Delete { .. } => (Some(()), Some((None, Some((None, None))))),
-        Operation::Grant { site, term, .. } => (
-            None,
-            Some((
-                Some(GrantStage::Open {
-                    term: *term,
-                    stamp: at,
-                    site: *site,
-                }),
-                Some((None, None)),
-            )),
-        ),
-        Operation::HandBack { term, .. } => (
-            None,
-            Some((
-                Some(GrantStage::Returned {
-                    term: *term,
-                    stamp: at,
-                }),
-                Some((None, None)),
-            )),
-        ),
-        Operation::Begin { beginning, .. } => {
-            (None, Some((None, Some((Some(*beginning), None)))))
-        }
-        Operation::Finish { ending, .. } => (None, Some((None, Some((None, Some(*ending)))))),
-        _ => (None, Some((None, Some((None, None))))),
+        Operation::Delete { .. } => StageChanges {
+            deleted: Some(()),
+            ..none
+        },
+        Operation::Grant { site, term, .. } => StageChanges {
+            grant: Some(GrantStage::Open {
+                term: *term,
+                stamp: at,
+                site: *site,
+            }),
+            ..none
+        },
+        Operation::HandBack { term, .. } => StageChanges {
+            grant: Some(GrantStage::Returned {
+                term: *term,
+                stamp: at,
+            }),
+            ..none
+        },
+        Operation::Begin { beginning, .. } => StageChanges {
+            begun: Some(*beginning),
+            ..none
+        },
+        Operation::Finish { ending, .. } => StageChanges {
+            finished: Some(*ending),
+            ..none
+        },
+        _ => none,
     }
 }
 

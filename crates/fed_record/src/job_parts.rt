@@ -8,15 +8,17 @@ ghost use Rattle.fed_record.specs.Record.{AreCovered};
 ghost use Rattle.fed_record.specs.JobParts.{IsMadeOf};
 
 use crate::accounts::Account;
+use crate::fields::Fields;
 use crate::grants::GrantStage;
 use crate::holds::HoldKind;
 use crate::job_readers::Progress;
-use crate::job_records::{Fields, JobRecord, Stages};
+use crate::job_records::{JobFields, JobRecord, JobStages};
 use crate::limits::Limit;
 use crate::node_counts::Nodes;
 use crate::priorities::Priority;
 use crate::records::Record;
-use fed_lattice::{Both, Flag, NoMemory, Register, Stage};
+use crate::stages::Stages;
+use fed_lattice::{Flag, NoMemory, Register, Stage};
 use fed_stamp::{SiteId, Stamp, Version, Word};
 use fed_tags::TagSet;
 use std::alloc::Global;
@@ -52,55 +54,40 @@ pub struct JobParts<'a> {
 }
 
 // The registers of a job.
-fn fields_of(parts: &JobParts) -> Fields
-    ensures owner { result.first ≡ Some parts.now.owner }
-    ensures name { result.second.first ≡ Some parts.now.name }
-    ensures priority { result.second.second.first ≡ Some parts.now.priority }
-    ensures nodes { result.second.second.second.first ≡ Some parts.now.nodes }
-    ensures limit { result.second.second.second.second.first ≡ Some parts.now.limit }
-    ensures account { result.second.second.second.second.second ≡ Some parts.now.account }
+fn fields_of(parts: &JobParts) -> JobFields
+    ensures owner { result.owner ≡ Some parts.now.owner }
+    ensures name { result.name ≡ Some parts.now.name }
+    ensures priority { result.priority ≡ Some parts.now.priority }
+    ensures nodes { result.nodes ≡ Some parts.now.nodes }
+    ensures limit { result.limit ≡ Some parts.now.limit }
+    ensures account { result.account ≡ Some parts.now.account }
 {
-    let resources = Both {
-        first: Register::new(Some(parts.limit)),
-        second: Register::new(Some(parts.account)),
-    };
-    let numbers = Both {
-        first: Register::new(Some(parts.priority)),
-        second: Both {
-            first: Register::new(Some(parts.nodes)),
-            second: resources,
-        },
-    };
-    Both {
-        first: Register::new(Some(parts.owner)),
-        second: Both {
-            first: Register::new(Some(parts.name)),
-            second: numbers,
-        },
+    Fields {
+        owner: Register::new(Some(parts.owner)),
+        name: Register::new(Some(parts.name)),
+        priority: Register::new(Some(parts.priority)),
+        nodes: Register::new(Some(parts.nodes)),
+        limit: Register::new(Some(parts.limit)),
+        account: Register::new(Some(parts.account)),
     }
 }
 
 // The stages of a job.
-fn stages_of(parts: &JobParts) -> Stages
-    ensures deleted { result.first ≡ parts.now.deleted }
-    ensures grant { result.second.first ≡ parts.now.grant }
-    ensures begun { result.second.second.first ≡ parts.now.progress.begun }
-    ensures finished { result.second.second.second ≡ parts.now.progress.finished }
+fn stages_of(parts: &JobParts) -> JobStages
+    ensures deleted { result.deleted ≡ parts.now.deleted }
+    ensures grant { result.grant ≡ parts.now.grant }
+    ensures begun { result.begun ≡ parts.now.progress.begun }
+    ensures finished { result.finished ≡ parts.now.progress.finished }
 {
-    let progress = Both {
-        first: Register::new(parts.progress.begun),
-        second: Register::new(parts.progress.finished),
-    };
-    Both {
-        first: Flag::new(parts.deleted),
-        second: Both {
-            first: Stage::new(parts.grant),
-            second: progress,
-        },
+    Stages {
+        deleted: Flag::new(parts.deleted),
+        grant: Stage::new(parts.grant),
+        begun: Register::new(parts.progress.begun),
+        finished: Register::new(parts.progress.finished),
     }
 }
 
-impl Record<Fields, Stages> {
+impl Record<JobFields, JobStages> {
     /// The record that reads as the parts. It asks that the pairs of `hold_tags` and of `site_tags` strictly ascend, by
     /// element and then by stamp, and that `touched` covers the stamp of each pair. The only error is `NoMemory`.
     pub fn from_parts(alloc: Global, parts: &JobParts) -> Result<JobRecord, NoMemory>

@@ -15,7 +15,7 @@ ghost use Rattle.fed_record.specs.Letter.{is_submitted as is_job_submitted, is_h
 use crate::accounts::Account;
 use crate::grants::GrantStage;
 use crate::holds::{HoldKind, HoldKinds};
-use crate::job_records::{Fields, Stages};
+use crate::job_records::{JobFields, JobStages};
 use crate::letters::Letter;
 use crate::limits::Limit;
 use crate::node_counts::Nodes;
@@ -36,21 +36,18 @@ pub struct Progress {
 }
 
 /// The readers of the fields ask that the job is submitted, which holds of every record on a board.
-impl Record<Fields, Stages> {
+impl Record<JobFields, JobStages> {
     /// Whether the job is submitted: a submission sets all fields.
     pub fn is_submitted(&self) -> bool
         ensures { result ≡ is_job_submitted (reads self.now) }
     {
-        let first = &self.fields;
-        let second = &first.second;
-        let third = &second.second;
-        let fourth = &third.second;
-        first.first.get().is_some()
-            && second.first.get().is_some()
-            && third.first.get().is_some()
-            && fourth.first.get().is_some()
-            && fourth.second.first.get().is_some()
-            && fourth.second.second.get().is_some()
+        let fields = &self.fields;
+        fields.owner.get().is_some()
+            && fields.name.get().is_some()
+            && fields.priority.get().is_some()
+            && fields.nodes.get().is_some()
+            && fields.limit.get().is_some()
+            && fields.account.get().is_some()
     }
 
     /// The owner, with the stamp of the submission.
@@ -58,7 +55,7 @@ impl Record<Fields, Stages> {
         requires { IsTrue (is_job_submitted (reads self.now)) }
         ensures { (reads self.now).owner ≡ Some result }
     {
-        self.fields.first.get().unwrap()
+        self.fields.owner.get().unwrap()
     }
 
     /// The name, with the stamp of the operation that set it.
@@ -66,7 +63,7 @@ impl Record<Fields, Stages> {
         requires { IsTrue (is_job_submitted (reads self.now)) }
         ensures { (reads self.now).name ≡ Some result }
     {
-        self.fields.second.first.get().unwrap()
+        self.fields.name.get().unwrap()
     }
 
     /// The priority, with the stamp of the operation that set it.
@@ -74,7 +71,7 @@ impl Record<Fields, Stages> {
         requires { IsTrue (is_job_submitted (reads self.now)) }
         ensures { (reads self.now).priority ≡ Some result }
     {
-        self.fields.second.second.first.get().unwrap()
+        self.fields.priority.get().unwrap()
     }
 
     /// The number of nodes, with the stamp of the operation that set it.
@@ -82,7 +79,7 @@ impl Record<Fields, Stages> {
         requires { IsTrue (is_job_submitted (reads self.now)) }
         ensures { (reads self.now).nodes ≡ Some result }
     {
-        self.fields.second.second.second.first.get().unwrap()
+        self.fields.nodes.get().unwrap()
     }
 
     /// The time limit in seconds, with the stamp of the operation that set it.
@@ -90,7 +87,7 @@ impl Record<Fields, Stages> {
         requires { IsTrue (is_job_submitted (reads self.now)) }
         ensures { (reads self.now).limit ≡ Some result }
     {
-        self.fields.second.second.second.second.first.get().unwrap()
+        self.fields.limit.get().unwrap()
     }
 
     /// The account, with the stamp of the operation that set it.
@@ -98,14 +95,7 @@ impl Record<Fields, Stages> {
         requires { IsTrue (is_job_submitted (reads self.now)) }
         ensures { (reads self.now).account ≡ Some result }
     {
-        self.fields
-            .second
-            .second
-            .second
-            .second
-            .second
-            .get()
-            .unwrap()
+        self.fields.account.get().unwrap()
     }
 
     /// Whether a hold of this kind is present: whether it has a live pair.
@@ -173,14 +163,14 @@ impl Record<Fields, Stages> {
     pub fn deleted(&self) -> bool
         ensures { result ≡ (reads self.now).deleted }
     {
-        self.stages.first.get()
+        self.stages.deleted.get()
     }
 
     /// The greatest stage of the job's grants, or none where it was never granted.
     pub fn grant(&self) -> Option<GrantStage>
         ensures { result ≡ (reads self.now).grant }
     {
-        self.stages.second.first.get()
+        self.stages.grant.get()
     }
 
     /// The Begin and the Finish, each with its stamp.
@@ -189,8 +179,8 @@ impl Record<Fields, Stages> {
         ensures finished { result.finished ≡ (reads self.now).finished }
     {
         Progress {
-            begun: self.stages.second.second.first.get(),
-            finished: self.stages.second.second.second.get(),
+            begun: self.stages.begun.get(),
+            finished: self.stages.finished.get(),
         }
     }
 

@@ -9,29 +9,32 @@ ghost use Rattle.fed_record.specs.JobSteps.{add_to_job, join_jobs};
 ghost use Rattle.fed_record.specs.declared.operations.Operation.{Operation};
 
 use crate::accounts::Account;
+use crate::fields::Fields;
 use crate::grants::GrantStage;
 use crate::limits::Limit;
 use crate::node_counts::Nodes;
 use crate::priorities::Priority;
 use crate::progress::{Beginning, Ending};
 use crate::records::Record;
-use fed_lattice::{Both, Causal, Flag, Register, Stage};
+use crate::stages::Stages;
+use fed_lattice::{Causal, Flag, Register, Stage};
 use fed_stamp::Word;
 
-/// The registers of the owner, the name, the priority, the nodes, the limit and the account.
-pub type Fields = Both<
+/// The fields of a job, each a register.
+pub type JobFields = Fields<
     Register<Word>,
-    Both<
-        Register<Word>,
-        Both<Register<Priority>, Both<Register<Nodes>, Both<Register<Limit>, Register<Account>>>>,
-    >,
+    Register<Word>,
+    Register<Priority>,
+    Register<Nodes>,
+    Register<Limit>,
+    Register<Account>,
 >;
 
 /// The flag of deletion, the stage of grants, and the registers of Begin and Finish.
-pub type Stages = Both<Flag, Both<Stage<GrantStage>, Both<Register<Beginning>, Register<Ending>>>>;
+pub type JobStages = Stages<Flag, Stage<GrantStage>, Register<Beginning>, Register<Ending>>;
 
 /// What is read of the operations of one job.
-pub type JobRecord = Record<Fields, Stages>;
+pub type JobRecord = Record<JobFields, JobStages>;
 
 /// A record with one operation more reads as its view with the operation added.
 pub fn applied_records_read()

@@ -1,27 +1,18 @@
 //! Records of jobs: what is read of a job's operations, without them.
-ghost use Rattle.std.specs.Prelude.{◌≡◌, ◌&&◌, ℕ, [], replicate, IfOk, OnOk, OnErr, refl};
-ghost use Rattle.std.proofs.Common.{ap, ap₂, sym, ◌∙◌};
+ghost use Rattle.std.specs.Prelude.{◌≡◌, ◌&&◌, [], replicate, OnOk, OnErr};
 ghost use Rattle.std.specs.Ordering.{nat_cmp};
-ghost use Rattle.std.specs.List.Sorted.{IsStrictlySortedBy};
-ghost use Rattle.fed_stamp.specs.Version.{joined as joined_versions, raised};
-ghost use Rattle.fed_stamp.proofs.VersionLaws.{joined-assoc, joined-comm, joined-itself};
-ghost use Rattle.fed_lattice.specs.BothLaws.{part_joined_stands};
-ghost use Rattle.fed_lattice.specs.PartLaws.{fresh_part, same_part};
-ghost use Rattle.fed_lattice.specs.Stamped.{stamped};
-ghost use Rattle.fed_lattice.proofs.StampedLaws.{same_stamped};
-ghost use Rattle.fed_lattice.specs.VersionOf.{version_of};
-ghost use Rattle.fed_lattice.proofs.VersionOfLaws.{joined_zeros, version_of-append, version_of-same};
-ghost use Rattle.fed_tags.specs.Tags.{pair_cmp, stamped as with_tag, inserted, applied_tags, joined_tags, IsTagHistory, tags_stand_for};
-ghost use Rattle.fed_tags.specs.TagLaws.{sorted_empty, sorted_applied, sorted_joined, joined_tags_assoc, joined_tags_comm, joined_tags_itself, empty_tags_stand, applied_tags_stand, joined_tags_stand, tags_stand_same};
+ghost use Rattle.fed_tags.specs.Tags.{pair_cmp, stamped as with_tag, inserted, applied_tags};
+ghost use Rattle.fed_record.specs.Changes.{hold_change, site_change};
 ghost use Rattle.fed_record.specs.Hold.{kind_cmp};
-ghost use Rattle.fed_record.specs.RecordLaws.{hold_order, hold_exact, site_order, site_exact, fresh_stamped, stamped_joined_stands};
-ghost use Rattle.fed_record.specs.Changes.{field_change as change_of_fields, stage_change as change_of_stages, hold_change, site_change, always, field_changes, stage_changes, hold_changes, site_changes};
+ghost use Rattle.fed_record.specs.RecordSteps.{same_record, IsRecord, applied_record, joined_records, record_stands_for, IsRecordHistory};
+ghost use Rattle.fed_record.specs.RecordLaws.{tells_records, record_equality, bottom_is_record, applied_is_record, joined_are_records, joined_records_assoc, joined_records_comm, joined_records_itself, bottom_records_join, bottom_record_stands, record_adds_change, record_joins_histories, record_stands_for_sets};
 
 use crate::changes::{
-    FieldChange, StageChange, added_holds, added_sites, field_change, removed_holds, removed_sites,
-    stage_change,
+    JobFieldChanges, JobStageChanges, added_holds, added_sites, field_changes, removed_holds,
+    removed_sites, stage_changes,
 };
 use crate::holds::HoldKind;
+use crate::inlines::{Inline, apply_inline};
 use crate::operations::Operation;
 use fed_lattice::{Causal, ExactEq, NoMemory};
 use fed_stamp::{SiteId, Stamp, Version};
@@ -29,8 +20,8 @@ use fed_tags::TagSet;
 use std::alloc::Global;
 use std::marker::Model;
 
-/// What is read of a job's operations: its fields in a nest of registers `F`, the live pairs of its holds and sites,
-/// its stages in a nest `G`, and the version of its operations.
+/// What is read of a job's operations: its fields `F`, the live pairs of its holds and sites, its stages `G`, and the
+/// version of its operations.
 #[derive(Drop)]
 pub struct Record<F, G> {
     pub(crate) alloc: Global,
@@ -129,24 +120,9 @@ impl<F, G> Record<F, G> {
 
 /// Records are equal where all their parts are.
 impl<F: PartialEq, G: PartialEq> PartialEq for Record<F, G> {
-    ghost use Rattle.std.specs.Prelude.{◌&&◌, nat_eq};
-    ghost use Rattle.std.specs.Ordering.{eq_by_cmp, nat_cmp};
-    ghost use Rattle.std.specs.Cmp.{on_per, and_per, eq_by_cmp_equiv, partial_equiv_from_equiv, nat_eq_equiv};
-    ghost use Rattle.std.specs.Cmp.Lexicographic.{pointwise, lists_per};
-    ghost use Rattle.fed_tags.specs.Tags.{pair_cmp};
-    ghost use Rattle.fed_record.specs.Hold.{kind_cmp};
-    ghost use Rattle.fed_record.specs.RecordLaws.{hold_order, site_order};
+    ghost eq = { same_record F.eq G.eq };
 
-    ghost eq = { λ x y. (F.eq x.fields y.fields && G.eq x.stages y.stages) &&
-        ((pointwise (eq_by_cmp (pair_cmp kind_cmp)) x.holds y.holds &&
-        pointwise (eq_by_cmp (pair_cmp nat_cmp)) x.sites y.sites) && pointwise nat_eq x.touched y.touched) };
-
-    ghost laws = { and_per
-        (and_per (on_per (λ r. r.fields) F.PartialEq.laws) (on_per (λ r. r.stages) G.PartialEq.laws))
-        (and_per
-        (and_per (on_per (λ r. r.holds) (lists_per (partial_equiv_from_equiv (eq_by_cmp_equiv hold_order))))
-        (on_per (λ r. r.sites) (lists_per (partial_equiv_from_equiv (eq_by_cmp_equiv site_order)))))
-        (on_per (λ r. r.touched) (lists_per (partial_equiv_from_equiv nat_eq_equiv)))) };
+    ghost laws = { record_equality F.eq G.eq F.PartialEq.laws G.PartialEq.laws };
 
     fn eq(&self, other: &Self) -> bool {
         self.has_same_values(other) && self.has_same_tags(other)
@@ -155,18 +131,18 @@ impl<F: PartialEq, G: PartialEq> PartialEq for Record<F, G> {
 
 /// Two records are identical exactly where they are equal.
 impl<F: ExactEq, G: ExactEq> ExactEq for Record<F, G> {
-    ghost use Rattle.fed_record.specs.RecordLaws.{tells_records};
-
     ghost exact_eq = { tells_records F.eq G.eq F.exact_eq G.exact_eq };
 }
 
-/// A change is an operation on the job.
-impl<F: Causal<Change = FieldChange> + Drop, G: Causal<Change = StageChange> + Drop> Causal
-    for Record<F, G> {
+/// A change is an operation on the job. The fields and the stages are changed in place, once the pairs are.
+impl<F, G> Causal for Record<F, G>
+where
+    F: Inline + Causal<Change = JobFieldChanges> + Drop,
+    G: Inline + Causal<Change = JobStageChanges> + Drop,
+{
     type Change = Operation;
 
-    ghost well_formed = { λ x. F.well_formed x.fields × G.well_formed x.stages ×
-        IsStrictlySortedBy (pair_cmp kind_cmp) x.holds × IsStrictlySortedBy (pair_cmp nat_cmp) x.sites };
+    ghost well_formed = { IsRecord F.well_formed G.well_formed };
 
     ghost bottom = { record {
       fields = F.bottom;
@@ -176,27 +152,13 @@ impl<F: Causal<Change = FieldChange> + Drop, G: Causal<Change = StageChange> + D
       touched = replicate 16 0;
     } };
 
-    ghost applied = { λ x s c. record {
-      fields = F.applied x.fields s (change_of_fields c);
-      holds = applied_tags (pair_cmp kind_cmp) x.holds s (hold_change c);
-      sites = applied_tags (pair_cmp nat_cmp) x.sites s (site_change c);
-      stages = G.applied x.stages s (change_of_stages (s, c));
-      touched = raised x.touched s;
-    } };
+    ghost applied = { applied_record F.applied G.applied };
 
-    ghost joined = { λ x v y w. record {
-      fields = F.joined x.fields v y.fields w;
-      holds = joined_tags (pair_cmp kind_cmp) x.holds v y.holds w;
-      sites = joined_tags (pair_cmp nat_cmp) x.sites v y.sites w;
-      stages = G.joined x.stages v y.stages w;
-      touched = joined_versions x.touched y.touched;
-    } };
+    ghost joined = { joined_records F.joined G.joined };
 
-    ghost is_history = { λ h. F.is_history (field_changes h) × G.is_history (stage_changes h) ×
-        IsTagHistory (hold_changes h) × IsTagHistory (site_changes h) };
+    ghost is_history = { IsRecordHistory F.is_history G.is_history };
 
-    ghost stands_for = { λ x h. F.stands_for x.fields (field_changes h) × G.stands_for x.stages (stage_changes h) ×
-        tags_stand_for x.holds (hold_changes h) × tags_stand_for x.sites (site_changes h) × (x.touched ≡ version_of h) };
+    ghost stands_for = { record_stands_for F.stands_for G.stands_for };
 
     ghost is_inline = { ⊥ };
 
@@ -223,13 +185,9 @@ impl<F: Causal<Change = FieldChange> + Drop, G: Causal<Change = StageChange> + D
     }
 
     fn apply(&mut self, at: Stamp, change: &Operation) -> Result<(), NoMemory> {
-        let mut fields = self.fields.copy()?;
-        fields.apply(at, &field_change(change))?;
-        let mut stages = self.stages.copy()?;
-        stages.apply(at, &stage_change(at, change))?;
         change_tags(self.alloc, &mut self.holds, &mut self.sites, at, change)?;
-        self.fields = fields;
-        self.stages = stages;
+        apply_inline(&mut self.fields, at, &field_changes(change));
+        apply_inline(&mut self.stages, at, &stage_changes(at, change));
         self.touched = self.touched.with(at);
         Ok(())
     }
@@ -245,93 +203,25 @@ impl<F: Causal<Change = FieldChange> + Drop, G: Causal<Change = StageChange> + D
         })
     }
 
-    ghost well_formed_bottom = { (
-      F.well_formed_bottom,
-      G.well_formed_bottom,
-      sorted_empty (pair_cmp kind_cmp),
-      sorted_empty (pair_cmp nat_cmp),
-    ) };
+    ghost well_formed_bottom = { bottom_is_record F.well_formed G.well_formed F.bottom G.bottom F.well_formed_bottom G.well_formed_bottom };
 
-    ghost well_formed_applied = { λ x s c p. (
-      F.well_formed_applied x.fields s (change_of_fields c) p.0,
-      G.well_formed_applied x.stages s (change_of_stages (s, c)) p.1,
-      sorted_applied (pair_cmp kind_cmp) hold_order hold_exact x.holds s (hold_change c) p.2,
-      sorted_applied (pair_cmp nat_cmp) site_order site_exact x.sites s (site_change c) p.3,
-    ) };
+    ghost well_formed_applied = { applied_is_record F.well_formed G.well_formed F.applied G.applied F.well_formed_applied G.well_formed_applied };
 
-    ghost well_formed_joined = { λ x y v w p q. (
-      F.well_formed_joined x.fields y.fields v w p.0 q.0,
-      G.well_formed_joined x.stages y.stages v w p.1 q.1,
-      sorted_joined (pair_cmp kind_cmp) hold_order hold_exact x.holds y.holds v w,
-      sorted_joined (pair_cmp nat_cmp) site_order site_exact x.sites y.sites v w,
-    ) };
+    ghost well_formed_joined = { joined_are_records F.well_formed G.well_formed F.joined G.joined F.well_formed_joined G.well_formed_joined };
 
-    ghost joined_assoc = { λ x y z u v w p q r i. record {
-      fields = F.joined_assoc x.fields y.fields z.fields u v w p.0 q.0 r.0 i;
-      holds = joined_tags_assoc (pair_cmp kind_cmp) hold_order hold_exact x.holds y.holds z.holds u v w p.2 q.2 r.2 i;
-      sites = joined_tags_assoc (pair_cmp nat_cmp) site_order site_exact x.sites y.sites z.sites u v w p.3 q.3 r.3 i;
-      stages = G.joined_assoc x.stages y.stages z.stages u v w p.1 q.1 r.1 i;
-      touched = joined-assoc x.touched y.touched z.touched i;
-    } };
+    ghost joined_assoc = { joined_records_assoc F.well_formed G.well_formed F.joined G.joined F.joined_assoc G.joined_assoc };
 
-    ghost joined_comm = { λ x y v w p q i. record {
-      fields = F.joined_comm x.fields y.fields v w p.0 q.0 i;
-      holds = joined_tags_comm (pair_cmp kind_cmp) hold_order hold_exact x.holds y.holds v w p.2 q.2 i;
-      sites = joined_tags_comm (pair_cmp nat_cmp) site_order site_exact x.sites y.sites v w p.3 q.3 i;
-      stages = G.joined_comm x.stages y.stages v w p.1 q.1 i;
-      touched = joined-comm x.touched y.touched i;
-    } };
+    ghost joined_comm = { joined_records_comm F.well_formed G.well_formed F.joined G.joined F.joined_comm G.joined_comm };
 
-    ghost joined_itself = { λ x v p i. record {
-      fields = F.joined_itself x.fields v p.0 i;
-      holds = joined_tags_itself (pair_cmp kind_cmp) hold_order hold_exact x.holds v p.2 i;
-      sites = joined_tags_itself (pair_cmp nat_cmp) site_order site_exact x.sites v p.3 i;
-      stages = G.joined_itself x.stages v p.1 i;
-      touched = joined-itself x.touched i;
-    } };
+    ghost joined_itself = { joined_records_itself F.well_formed G.well_formed F.joined G.joined F.joined_itself G.joined_itself };
 
-    ghost joined_bottoms = { λ v w i. record {
-      fields = F.joined_bottoms v w i;
-      holds = [];
-      sites = [];
-      stages = G.joined_bottoms v w i;
-      touched = joined_zeros 16 (replicate 16 0) refl i;
-    } };
+    ghost joined_bottoms = { bottom_records_join F.bottom G.bottom F.joined G.joined F.joined_bottoms G.joined_bottoms };
 
-    ghost bottom_stands = { (F.bottom_stands, G.bottom_stands, empty_tags_stand, empty_tags_stand, refl) };
+    ghost bottom_stands = { bottom_record_stands F.bottom G.bottom F.stands_for G.stands_for F.bottom_stands G.bottom_stands };
 
-    ghost applied_stands = { λ x h s c p r k f i. (
-      F.applied_stands x.fields (field_changes h) s (change_of_fields c) p.0 r.0 k.0
-          (fresh_part (always change_of_fields) s h f) i.0,
-      G.applied_stands x.stages (stage_changes h) s (change_of_stages (s, c)) p.1 r.1 k.1
-          (fresh_part (always change_of_stages) s (stamped h) (fresh_stamped s h f)) i.1,
-      applied_tags_stand (pair_cmp kind_cmp) hold_order hold_exact x.holds (hold_changes h) s (hold_change c) p.2 r.2 k.2
-          (fresh_part (always hold_change) s h f) i.2,
-      applied_tags_stand (pair_cmp nat_cmp) site_order site_exact x.sites (site_changes h) s (site_change c) p.3 r.3 k.3
-          (fresh_part (always site_change) s h f) i.3,
-      ap (λ t. raised t s) r.4,
-    ) };
+    ghost applied_stands = { record_adds_change F.well_formed G.well_formed F.is_history G.is_history F.stands_for G.stands_for F.applied G.applied F.applied_stands G.applied_stands };
 
-    ghost joined_stands = { λ x y v w g h p q rx ry a i j. (
-      part_joined_stands (always change_of_fields) F.stands_for F.is_history (F.joined x.fields v y.fields w) v w g h
-          (F.joined_stands x.fields y.fields v w (field_changes g) (field_changes h) p.0 q.0 rx.0 ry.0) a i.0 j.0,
-      stamped_joined_stands change_of_stages G.stands_for G.is_history (G.joined x.stages v y.stages w) v w g h
-          (G.joined_stands x.stages y.stages v w (stage_changes g) (stage_changes h) p.1 q.1 rx.1 ry.1) a i.1 j.1,
-      part_joined_stands (always hold_change) tags_stand_for IsTagHistory (joined_tags (pair_cmp kind_cmp) x.holds v y.holds w)
-          v w g h (joined_tags_stand (pair_cmp kind_cmp) hold_order hold_exact x.holds y.holds v w (hold_changes g)
-          (hold_changes h) p.2 q.2 rx.2 ry.2) a i.2 j.2,
-      part_joined_stands (always site_change) tags_stand_for IsTagHistory (joined_tags (pair_cmp nat_cmp) x.sites v y.sites w)
-          v w g h (joined_tags_stand (pair_cmp nat_cmp) site_order site_exact x.sites y.sites v w (site_changes g)
-          (site_changes h) p.3 q.3 rx.3 ry.3) a i.3 j.3,
-      ap₂ joined_versions rx.4 ry.4 ∙ sym (version_of-append g h),
-    ) };
+    ghost joined_stands = { record_joins_histories F.well_formed G.well_formed F.is_history G.is_history F.stands_for G.stands_for F.joined G.joined F.joined_stands G.joined_stands };
 
-    ghost stands_same = { λ x g h e p. (
-      F.stands_same x.fields (field_changes g) (field_changes h) (same_part (always change_of_fields) g h e) p.0,
-      G.stands_same x.stages (stage_changes g) (stage_changes h)
-          (same_part (always change_of_stages) (stamped g) (stamped h) (same_stamped g h e)) p.1,
-      tags_stand_same x.holds (hold_changes g) (hold_changes h) (same_part (always hold_change) g h e) p.2,
-      tags_stand_same x.sites (site_changes g) (site_changes h) (same_part (always site_change) g h e) p.3,
-      p.4 ∙ version_of-same g h e,
-    ) };
+    ghost stands_same = { record_stands_for_sets F.stands_for G.stands_for F.stands_same G.stands_same };
 }

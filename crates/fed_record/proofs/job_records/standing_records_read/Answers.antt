@@ -16,16 +16,16 @@ pub returns : goal.returns
 returns c = λ r h one p.
     let f = p.0 in
     let g = p.1 in
-    let owner = field_is owner_in r.fields.first h _ one (owner_said h) f.0 in
-    let name = field_is name_in r.fields.second.first h _ one (name_said h) f.1.0 in
-    let priority = field_is priority_in r.fields.second.second.first h _ one (priority_said h) f.1.1.0 in
-    let nodes = field_is nodes_in r.fields.second.second.second.first h _ one (nodes_said h) f.1.1.1.0 in
-    let limit = field_is limit_in r.fields.second.second.second.second.first h _ one (limit_said h) f.1.1.1.1.0 in
-    let account = field_is account_in r.fields.second.second.second.second.second h _ one (account_said h) f.1.1.1.1.1 in
-    let deleted = deletion_is r.stages.first h _ (deletion_said h) g.0 in
-    let grant = grant_is r.stages.second.first h _ (grant_said h) g.1.0 in
-    let begun = field_is begin_in r.stages.second.second.first h _ one (begin_said h) g.1.1.0 in
-    let finished = field_is finish_in r.stages.second.second.second h _ one (finish_said h) g.1.1.1 in
+    let owner = field_is owner_in r.fields.owner h _ one (owner_said h) f.0 in
+    let name = field_is name_in r.fields.name h _ one (name_said h) f.1 in
+    let priority = field_is priority_in r.fields.priority h _ one (priority_said h) f.2 in
+    let nodes = field_is nodes_in r.fields.nodes h _ one (nodes_said h) f.3 in
+    let limit = field_is limit_in r.fields.limit h _ one (limit_said h) f.4 in
+    let account = field_is account_in r.fields.account h _ one (account_said h) f.5 in
+    let deleted = deletion_is r.stages.deleted h _ (deletion_said h) g.0 in
+    let grant = grant_is r.stages.grant h _ (grant_said h) g.1 in
+    let begun = field_is begin_in r.stages.begun h _ one (begin_said h) g.2 in
+    let finished = field_is finish_in r.stages.finished h _ one (finish_said h) g.3 in
     let touched = p.4 ∙ sym (version_of-bodies h) in
     λ i. record {
       owner = owner i;
