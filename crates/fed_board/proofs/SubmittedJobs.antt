@@ -4,6 +4,7 @@ use Rattle.std.specs.Ordering.{is_lt, nat_cmp, int_cmp}
 use Rattle.std.proofs.Common.{◌≡◌, ℕ, List, Bool, true, false, cond, ◌&&◌, Option, Some, None, is_some, Ordering, refl, ap₂}
 use Rattle.std.proofs.lemmas.Bool.{and_parts}
 use Rattle.fed_stamp.specs.Stamp.{StampValue}
+use Rattle.fed_lattice.specs.ExactLaws.{and_both}
 use Rattle.fed_lattice.specs.Register.{stamped_cmp, joined_registers}
 use Rattle.fed_lattice.specs.Stamped.{with_stamp}
 use Rattle.fed_record.specs.declared.values.JobValues.{JobValues}
@@ -13,9 +14,6 @@ use Rattle.fed_record.specs.JobSteps.{add_to_job, join_jobs}
 use Rattle.fed_record.specs.JobView.{JobView}
 use Rattle.fed_record.specs.Letter.{is_submitted}
 use Rattle.fed_record.specs.ValueOrders.{name_cmp, account_cmp}
-
-and_both : (a b : Bool) → a ≡ true → b ≡ true → (a && b) ≡ true
-and_both a b p q = ap₂ (λ x y. x && y) p q
 
 some_of_two : {T : Type 0} (b : Bool) (x y : T) → is_some (cond b (Some x) (Some y)) ≡ true
 some_of_two true x y = refl

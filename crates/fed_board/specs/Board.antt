@@ -27,19 +27,10 @@ pub record BoardValue : Type 0 where
 -- the record of a job that has no operation
 abbrev pub no_operation : JobRecordValue
 no_operation = record {
-  fields = record {
-    first = None;
-    second = record {
-      first = None;
-      second = record {
-        first = None;
-        second = record { first = None; second = record { first = None; second = None } };
-      };
-    };
-  };
+  fields = record { owner = None; name = None; priority = None; nodes = None; limit = None; account = None };
   holds = [];
   sites = [];
-  stages = record { first = false; second = record { first = None; second = record { first = None; second = None } } };
+  stages = record { deleted = false; grant = None; begun = None; finished = None };
   touched = replicate 16 0;
 }
 

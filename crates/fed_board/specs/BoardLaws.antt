@@ -10,18 +10,19 @@ use Rattle.std.proofs.lemmas.Bool.{and_parts}
 use Rattle.std.proofs.lemmas.Cmp.{int_cmp_total}
 use Rattle.std.proofs.lemmas.Map.Lookups.{exact_signed}
 use Rattle.fed_stamp.specs.Stamp.{StampValue}
-use Rattle.fed_lattice.specs.declared.pairs.Both.{Both}
 use Rattle.fed_lattice.specs.Exact.{TellsApart}
-use Rattle.fed_lattice.specs.ExactLaws.{tells_booleans, tells_numbers, tells_stamps, tells_options, tells_pairs, tells_lists, tells_by_order}
-use Rattle.fed_lattice.specs.BothLaws.{tells_both}
+use Rattle.fed_lattice.specs.ExactLaws.{and_both, tells_booleans, tells_numbers, tells_stamps, tells_options, tells_pairs, tells_lists, tells_by_order}
 use Rattle.fed_tags.specs.Tags.{pair_cmp}
 use Rattle.fed_record.specs.declared.progress.Beginning.{Beginning}
 use Rattle.fed_record.specs.declared.progress.Ending.{Ending}
+use Rattle.fed_record.specs.FieldsLaws.{same_fields, tells_fields}
 use Rattle.fed_record.specs.Grant.{grant_cmp}
 use Rattle.fed_record.specs.GrantLaws.{grant_total, exact_grant}
 use Rattle.fed_record.specs.Hold.{kind_cmp}
 use Rattle.fed_record.specs.JobRecord.{FieldsValue, StagesValue, JobRecordValue}
 use Rattle.fed_record.specs.RecordLaws.{tells_records}
+use Rattle.fed_record.specs.RecordSteps.{same_record}
+use Rattle.fed_record.specs.StagesLaws.{same_stages, tells_stages}
 use Rattle.fed_record.specs.Reservation.{ReservationView}
 use Rattle.fed_record.specs.ReservationLaws.{same_reservation, tells_reservations}
 use Rattle.fed_board.specs.Board.{BoardValue}
@@ -37,28 +38,21 @@ module _ {T : Type 0} (same : T → T → Bool) where
   tells_registers : TellsApart same → TellsApart same_register
   tells_registers t = tells_options _ (tells_pairs same_at same tells_stamps t)
 
-abbrev both : {A B : Type 0} → (A → A → Bool) → (B → B → Bool) → Both A B → Both A B → Bool
-both f g x y = f x.first y.first && g x.second y.second
-
 abbrev same_name : List ℕ → List ℕ → Bool
 same_name = pointwise nat_eq
 
 tells_names : TellsApart same_name
 tells_names = tells_lists nat_eq tells_numbers
 
-abbrev same_fields : FieldsValue → FieldsValue → Bool
-same_fields = both (same_register same_name) (both (same_register same_name) (both (same_register int_eq) (both (same_register nat_eq) (both (same_register nat_eq) (same_register (option_eq same_name))))))
-
 tells_integers : TellsApart int_eq
 tells_integers = tells_by_order int_cmp int_eq int_cmp_total exact_signed (λ a b. refl)
 
-tells_fields : TellsApart same_fields
-tells_fields =
-    tells_both _ _ (tells_registers _ tells_names)
-    (tells_both _ _ (tells_registers _ tells_names)
-    (tells_both _ _ (tells_registers _ tells_integers)
-    (tells_both _ _ (tells_registers _ tells_numbers)
-    (tells_both _ _ (tells_registers _ tells_numbers) (tells_registers _ (tells_options _ tells_names))))))
+abbrev same_job_fields : FieldsValue → FieldsValue → Bool
+same_job_fields = same_fields (same_register same_name) (same_register same_name) (same_register int_eq) (same_register nat_eq) (same_register nat_eq) (same_register (option_eq same_name))
+
+tells_job_fields : TellsApart same_job_fields
+tells_job_fields = tells_fields _ _ _ _ _ _ (tells_registers _ tells_names) (tells_registers _ tells_names) (tells_registers _ tells_integers)
+    (tells_registers _ tells_numbers) (tells_registers _ tells_numbers) (tells_registers _ (tells_options _ tells_names))
 
 abbrev same_beginning : Beginning → Beginning → Bool
 same_beginning a b = nat_eq a.moment b.moment && (nat_eq a.nodes b.nodes && nat_eq a.end b.end)
@@ -82,23 +76,19 @@ tells_endings a b =
       λ e. t.1 (ap parts e),
     )
 
-abbrev same_stages : StagesValue → StagesValue → Bool
-same_stages = both beq (both (option_eq (eq_by_cmp grant_cmp)) (both (same_register same_beginning) (same_register same_ending)))
+abbrev same_job_stages : StagesValue → StagesValue → Bool
+same_job_stages = same_stages beq (option_eq (eq_by_cmp grant_cmp)) (same_register same_beginning) (same_register same_ending)
 
-tells_stages : TellsApart same_stages
-tells_stages =
-    tells_both _ _ tells_booleans
-    (tells_both _ _ (tells_options _ (tells_by_order grant_cmp _ grant_total exact_grant (λ a b. refl)))
-    (tells_both _ _ (tells_registers _ tells_beginnings) (tells_registers _ tells_endings)))
+tells_job_stages : TellsApart same_job_stages
+tells_job_stages = tells_stages _ _ _ _ tells_booleans (tells_options _ (tells_by_order grant_cmp _ grant_total exact_grant (λ a b. refl)))
+    (tells_registers _ tells_beginnings) (tells_registers _ tells_endings)
 
-abbrev same_record : JobRecordValue → JobRecordValue → Bool
-same_record x y =
-    (same_fields x.fields y.fields && same_stages x.stages y.stages)
-    && ((pointwise (eq_by_cmp (pair_cmp kind_cmp)) x.holds y.holds && pointwise (eq_by_cmp (pair_cmp nat_cmp)) x.sites y.sites) && pointwise nat_eq x.touched y.touched)
+abbrev same_job : JobRecordValue → JobRecordValue → Bool
+same_job = same_record same_job_fields same_job_stages
 
 -- ---- boards
 abbrev same_jobs : List (StampValue × JobRecordValue) → List (StampValue × JobRecordValue) → Bool
-same_jobs = pointwise (λ p q. same_at p.0 q.0 && same_record p.1 q.1)
+same_jobs = pointwise (λ p q. same_at p.0 q.0 && same_job p.1 q.1)
 
 abbrev same_reservations : List (StampValue × ReservationView) → List (StampValue × ReservationView) → Bool
 same_reservations = pointwise (λ p q. same_at p.0 q.0 && same_reservation p.1 q.1)
@@ -108,14 +98,10 @@ abbrev pub same_board : BoardValue → BoardValue → Bool
 same_board b c = pointwise nat_eq b.version c.version && (same_jobs b.jobs c.jobs && same_reservations b.reservations c.reservations)
 
 tells_jobs : TellsApart same_jobs
-tells_jobs = tells_lists _ (tells_pairs same_at same_record tells_stamps (tells_records same_fields same_stages tells_fields tells_stages))
+tells_jobs = tells_lists _ (tells_pairs same_at same_job tells_stamps (tells_records same_job_fields same_job_stages tells_job_fields tells_job_stages))
 
 tells_reservation_lists : TellsApart same_reservations
 tells_reservation_lists = tells_lists _ (tells_pairs same_at same_reservation tells_stamps tells_reservations)
-
-and_both : (a b : Bool) → a ≡ true → b ≡ true → (a && b) ≡ true
-and_both true b p q = q
-and_both false b p q = p
 
 pub tells_boards : TellsApart same_board
 tells_boards b c = (

@@ -117,6 +117,7 @@ impl Board {
         ensures all { (job : StampValue) →
             Has (keys_of self.now.jobs) job ↔ IsTrue (is_submitted ((reads self.now).job job)) }
         ensures names { keys_of self.now.jobs ≡ jobs_in (reads self.now) }
+        ensures well_formed { All ⟦<JobRecord as Causal>⟧.well_formed (values_of self.now.jobs) }
     {
         self.jobs.iter()
     }
@@ -289,13 +290,14 @@ impl Board {
     {
         self.see_tables();
         other.see_tables();
+        let theirs = &other.version;
         let (jobs, reservations) = join_entries(
             &mut self.jobs,
             &mut self.reservations,
             &self.version,
             &other.jobs,
             &other.reservations,
-            &other.version,
+            theirs,
         )?;
         self.job_counts = count_more(self.job_counts, &jobs, &self.jobs);
         self.reservation_counts = count_more(
