@@ -1,0 +1,101 @@
+-- What the changed records of a board read as, and that a board may have them.
+use Rattle.std.specs.BTreeMap.{is_at}
+use Rattle.std.specs.Cmp.{eq_by_cmp_equiv}
+use Rattle.std.specs.List.Sorted.{IsStrictlySortedBy}
+use Rattle.std.specs.Map.{keys_of, lookup}
+use Rattle.std.proofs.Common.{◌≡◌, ℕ, List, [], Bool, true, false, cond, filter, Option, Some, None, IfSome, unwrap_or, refl, sym, ap, subst, ◌∙◌}
+use Rattle.std.proofs.lemmas.Map.Entries.{lookup-filter-values, option_filter}
+use Rattle.std.proofs.lemmas.Map.Keys.{IsDistinct-from_sorted}
+use Rattle.fed_stamp.specs.Stamp.{StampValue}
+use Rattle.fed_lattice.specs.Latest.{stamp_cmp}
+use Rattle.fed_lattice.specs.LatestLaws.{stamp_total}
+use Rattle.fed_lattice.specs.Table.{value_at}
+use Rattle.fed_lattice.specs.Table.{IsAtEach}
+use Rattle.fed_record.specs.JobRecord.{JobRecordValue, reads as reads_job}
+use Rattle.fed_record.specs.JobView.{job_view}
+use Rattle.fed_record.specs.Reservation.{ReservationView}
+use Rattle.fed_board.specs.Board.{BoardValue, IsBoard, IsKnownJob, IsKnownReservation, no_operation, reads}
+use Rattle.fed_delta.specs.Cut.{is_changed_job, is_changed_reservation, cut}
+
+-- ---- entries whose values pass a test
+module _ {X : Type 0} (p : X → Bool) (es : List (StampValue × X)) (s : IsStrictlySortedBy stamp_cmp (keys_of es)) where
+  lookup-changed : (name : StampValue) → lookup (is_at (stamp_cmp name)) (filter (λ e. p e.1) es) ≡ option_filter p (lookup (is_at (stamp_cmp name)) es)
+  lookup-changed name = lookup-filter-values (eq_by_cmp_equiv stamp_total) p name es (IsDistinct-from_sorted stamp_cmp (keys_of es) s)
+
+  still : (P : X → Type 0) (a : Option X) → IfSome a P → IfSome (option_filter p a) P
+  still P None h = tt
+  still P (Some x) h = go (p x) where
+    go : (b : Bool) → IfSome (cond b (Some x) None) P
+    go true = h
+    go false = tt
+
+  pub each_changed : (P : StampValue → X → Type 0) → IsAtEach stamp_cmp P es → IsAtEach stamp_cmp P (filter (λ e. p e.1) es)
+  each_changed P h name = subst (λ a. IfSome a (P name)) (sym (lookup-changed name)) (still (P name) (lookup (is_at (stamp_cmp name)) es) (h name))
+
+-- ---- what is read of them
+same_both : {A : Type 0} (b : Bool) (x : A) → x ≡ cond b x x
+same_both true x = refl
+same_both false x = refl
+
+job_changed : (need : List ℕ) (a : Option JobRecordValue) → reads_job (unwrap_or (option_filter (λ r. is_changed_job need (reads_job r)) a) no_operation)
+    ≡ cond (is_changed_job need (reads_job (unwrap_or a no_operation))) (reads_job (unwrap_or a no_operation)) (job_view [])
+job_changed need None = same_both (is_changed_job need (reads_job no_operation)) (reads_job no_operation)
+job_changed need (Some r) = go (is_changed_job need (reads_job r)) where
+  go : (b : Bool) → reads_job (unwrap_or (cond b (Some r) None) no_operation) ≡ cond b (reads_job r) (job_view [])
+  go true = refl
+  go false = refl
+
+reservation_changed : (need : List ℕ) (a : Option ReservationView) → unwrap_or (option_filter (is_changed_reservation need) a) None
+    ≡ cond (is_changed_reservation need (unwrap_or a None)) (unwrap_or a None) None
+reservation_changed need None = refl
+reservation_changed need (Some r) = go (is_changed_reservation need r) where
+  go : (b : Bool) → unwrap_or (cond b (Some r) None) None ≡ cond b r None
+  go true = refl
+  go false = refl
+
+module _ (need : List ℕ) (b : BoardValue) (s : IsStrictlySortedBy stamp_cmp (keys_of b.jobs)) (t : IsStrictlySortedBy stamp_cmp (keys_of b.reservations)) where
+  abbrev changes : BoardValue
+  changes = record {
+    version = b.version;
+    jobs = filter (λ (e : StampValue × JobRecordValue). is_changed_job need (reads_job e.1)) b.jobs;
+    reservations = filter (λ (e : StampValue × ReservationView). is_changed_reservation need e.1) b.reservations;
+  }
+
+  changes_known : IsBoard b → IsBoard changes
+  changes_known i = record {
+    jobs = each_changed (λ r. is_changed_job need (reads_job r)) b.jobs s (IsKnownJob b.version) i.jobs;
+    reservations = each_changed (is_changed_reservation need) b.reservations t (IsKnownReservation b.version) i.reservations;
+  }
+
+  job_reads : (name : StampValue) → reads_job (value_at stamp_cmp no_operation changes.jobs name)
+      ≡ cond (is_changed_job need (reads_job (value_at stamp_cmp no_operation b.jobs name))) (reads_job (value_at stamp_cmp no_operation b.jobs name)) (job_view [])
+  job_reads name =
+      ap (λ a. reads_job (unwrap_or a no_operation)) (lookup-changed (λ r. is_changed_job need (reads_job r)) b.jobs s name)
+      ∙ job_changed need (lookup (is_at (stamp_cmp name)) b.jobs)
+
+  reservation_reads : (name : StampValue) → value_at stamp_cmp None changes.reservations name
+      ≡ cond (is_changed_reservation need (value_at stamp_cmp None b.reservations name)) (value_at stamp_cmp None b.reservations name) None
+  reservation_reads name =
+      ap (λ a. unwrap_or a None) (lookup-changed (is_changed_reservation need) b.reservations t name)
+      ∙ reservation_changed need (lookup (is_at (stamp_cmp name)) b.reservations)
+
+  changes_read : reads changes ≡ cut (reads b) need
+  unfolding cut
+  changes_read = λ i. record {
+    version = b.version;
+    job = λ name. job_reads name i;
+    reservation = λ name. reservation_reads name i;
+  }
+
+  -- the board that is made of them
+  module _ (made : BoardValue) (version : made.version ≡ b.version)
+      (jobs : made.jobs ≡ filter (λ (e : StampValue × JobRecordValue). is_changed_job need (reads_job e.1)) b.jobs)
+      (reservations : made.reservations ≡ filter (λ (e : StampValue × ReservationView). is_changed_reservation need e.1) b.reservations) where
+    is_changes : made ≡ changes
+    is_changes = λ i. record { version = version i; jobs = jobs i; reservations = reservations i }
+
+    pub made_known : IsBoard b → IsBoard made
+    made_known i = subst IsBoard (sym is_changes) (changes_known i)
+
+    pub made_reads : reads made ≡ cut (reads b) need
+    made_reads = ap reads is_changes ∙ changes_read
