@@ -8,12 +8,12 @@ use fed_stamp::{SiteId, SiteSet, Stamp, Word};
 use std::alloc::Global;
 use std::test::Fail;
 
-fn stamp(counter: u64, site: u8) -> Result<Stamp, Fail> {
+pub(crate) fn stamp(counter: u64, site: u8) -> Result<Stamp, Fail> {
     let site = SiteId::new(site).ok_or("site")?;
     Ok(Stamp::new(counter, site).ok_or("stamp")?)
 }
 
-fn submit(held: bool) -> Result<Operation, Fail> {
+pub(crate) fn submit(held: bool) -> Result<Operation, Fail> {
     let owner = Word::new("ann").ok_or("owner")?;
     let first = SiteId::new(0).ok_or("first site")?;
     let second = SiteId::new(1).ok_or("second site")?;
@@ -33,7 +33,7 @@ fn submit(held: bool) -> Result<Operation, Fail> {
 }
 
 /// Releases the user hold that a Submit set.
-fn release(alloc: Global, job: Stamp) -> Result<Operation, Fail> {
+pub(crate) fn release(alloc: Global, job: Stamp) -> Result<Operation, Fail> {
     let mut removed = Vec::new(alloc);
     removed.push((HoldKind::User, job))?;
     Ok(Operation::Release { job, removed })
@@ -52,7 +52,7 @@ fn act(board: &mut Board, at: Stamp, operation: &Operation) -> Result<(), Fail> 
 }
 
 /// A board with one job, which has this name.
-fn submitted(alloc: Global, job: Stamp, held: bool) -> Result<Board, Fail> {
+pub(crate) fn submitted(alloc: Global, job: Stamp, held: bool) -> Result<Board, Fail> {
     let operation = submit(held)?;
     let mut board = Board::new(alloc);
     act(&mut board, job, &operation)?;
@@ -60,7 +60,7 @@ fn submitted(alloc: Global, job: Stamp, held: bool) -> Result<Board, Fail> {
 }
 
 /// A copy of the board, with one more operation.
-fn after(board: &Board, at: Stamp, operation: &Operation) -> Result<Board, Fail> {
+pub(crate) fn after(board: &Board, at: Stamp, operation: &Operation) -> Result<Board, Fail> {
     let mut later = board.copy()?;
     act(&mut later, at, operation)?;
     Ok(later)
@@ -76,7 +76,7 @@ fn merged(a: &Board, b: &Board) -> Result<Board, Fail> {
     Ok(left)
 }
 
-fn letter(board: &Board, job: Stamp) -> Option<Letter> {
+pub(crate) fn letter(board: &Board, job: Stamp) -> Option<Letter> {
     board.job(job)?.letter()
 }
 
@@ -170,7 +170,7 @@ fn new_term_stands_above_a_grant_handed_back(rt: HostRuntime) -> Result<(), Fail
 }
 
 /// Four nodes of the site from second 10 on to second 19.
-fn window(site: SiteId) -> Window {
+pub(crate) fn window(site: SiteId) -> Window {
     Window {
         site,
         start: 10,
