@@ -8,15 +8,16 @@ use Rattle.fed_record.specs.Letter.{has_site, holder_in, is_granted, is_held, is
 use Rattle.fed_board.specs.View.{View}
 use Rattle.fed_desk.specs.declared.decisions.Decision.{Decision}
 
--- a refusal, and whether it applies
+-- a refusal, beside whether it applies
 abbrev pub Case : Type 0
 Case = Bool × Refusal
 
--- of the refusals that apply the first
+-- the first refusal that applies
 abbrev pub first_of : List Case → Option Refusal
 first_of [] = None
 first_of (c ∷ cases) = if c.0 then Some c.1 else first_of cases
 
+-- the job has no letter
 abbrev pub is_gone : JobView → Bool
 is_gone j = is_none (letter j)
 
@@ -28,7 +29,7 @@ is_granted_to site j = option_map_or (λ holder. holder == site) (holder_in j.gr
 abbrev pub is_taken : ℕ → JobView → Bool
 is_taken asker j = is_granted j && not (is_granted_to asker j)
 
--- in the order in which it is looked for
+-- the refusals of a Grant at the site `here`, in the order of their numbers (1, 3, 5, 6, 7, 8)
 abbrev pub grant_refusals : View → ℕ → StampValue → ℕ → List Case
 grant_refusals v here job asker =
     (not (is_submitted (v.job job)), Refusal.UnknownJob)
@@ -39,11 +40,13 @@ grant_refusals v here job asker =
     ∷ (is_taken asker (v.job job), Refusal.TakenBy (unwrap_or (holder_in (v.job job).grant) asker))
     ∷ []
 
+-- what is decided where this refusal applies, or none
 abbrev pub decision_unless : Option Refusal → Bool → Decision
 decision_unless (Some refusal) is_yours = Decision.Refused refusal
 decision_unless None is_yours = if is_yours then Decision.Yours else Decision.Grant
 
--- what is decided: the first refusal that applies, or that the site has the job already, or that it is granted to it
+-- what the site `here` decides where a site asks for a job: the first refusal that applies, else `Yours` where the job is
+-- granted to the asker, else `Grant`
 abbrev pub decision : View → ℕ → StampValue → ℕ → Decision
 decision v here job asker =
     decision_unless (first_of (grant_refusals v here job asker)) (is_granted_to asker (v.job job))

@@ -4,7 +4,7 @@ ghost use Rattle.fed_desk.specs.Desk.{first_of};
 
 use fed_record::Refusal;
 
-/// Of refusals, each with whether it applies, the first that applies.
+/// The first refusal of a table that applies, where each stands beside whether it does, or `None` where none applies.
 pub fn first_refusal(cases: &[(bool, Refusal)]) -> Option<Refusal>
     ensures { result ≡ first_of cases.now }
 {

@@ -10,7 +10,9 @@ use fed_board::Board;
 use fed_record::Refusal;
 use fed_stamp::{JobId, SiteId};
 
-/// Why the site `me` refuses to grant the job to the site that asks, or none where it doesn't.
+/// Why the site `me` refuses to grant the job to the site `asker`: the first that applies of `UnknownJob`, `Gone`,
+/// `NotOrigin`, `Held`, `NotEligible` and `TakenBy`. `None` where none applies: the job may be granted to the asker, or
+/// already is.
 pub fn grant_refusal(board: &Board, me: SiteId, job: JobId, asker: SiteId) -> Option<Refusal>
     ensures { result ≡ first_of (grant_refusals (reads board.now) me job asker) }
 {
@@ -29,8 +31,9 @@ pub fn grant_refusal(board: &Board, me: SiteId, job: JobId, asker: SiteId) -> Op
     ])
 }
 
-/// What the site `me` decides where the site `asker` asks for the job: the first refusal that applies, or that the
-/// asker has the job already, or that the job is granted to it.
+/// What the site `me`, as the origin of the job, decides where the site `asker` asks for it: the first refusal that
+/// applies, of the numbers 1, 3, 5, 6, 7 and 8; else `Yours` where the job is granted to the asker; else `Grant`. It
+/// changes nothing and takes no memory.
 pub fn decide(board: &Board, me: SiteId, job: JobId, asker: SiteId) -> Decision
     ensures { result ≡ decision (reads board.now) me job asker }
 {

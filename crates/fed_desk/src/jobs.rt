@@ -14,7 +14,7 @@ pub fn is_gone(job: &JobRecord) -> bool
     job.letter().is_none()
 }
 
-/// The site that the job is granted to, or none where it is granted to no site.
+/// The site that the job is granted to, or `None` where it has no grant or its last grant is handed back.
 pub fn holder(job: &JobRecord) -> Option<SiteId>
     ensures { result ≡ holder_in (reads job.now).grant }
 {
