@@ -32,9 +32,9 @@ use Rattle.fed_words.specs.Resource.{is_comma, is_equals, is_plus, last_resource
 use Rattle.fed_words.specs.Site.{site_in}
 use Rattle.fed_words.specs.Setting.{last_settings, setting_in, settings_in}
 use Rattle.fed_words.specs.Spelling.{Item, Spelling, before, group, is_options, spelling}
-use Rattle.fed_words.specs.Utility.{choice_of, choices, takes_argument, utility_named}
+use Rattle.fed_words.specs.Utility.{choice_of, choices, letter_of, takes_argument, utility_named}
 use Rattle.fed_words.specs.Request.{Asked, jobs_in, named_jobs, once, request_in, request_of}
-use Rattle.fed_words.specs.Wish.{CanBeAsked, HasJobs, IsJob, IsOption, IsResourceWish, IsWish, ResourceWish, Wish, account, full, held, item_of, kinds, letter_of, name, nodes, priority, resource_of, resources, setting_of, sites, walltime}
+use Rattle.fed_words.specs.Wish.{CanBeAsked, HasJobs, IsJob, IsOption, IsResourceWish, IsWish, ResourceWish, Wish, account, full, held, item_of, kinds, name, nodes, priority, resource_of, resources, setting_of, sites, walltime}
 use Rattle.fed_words.proofs.Cuts.{map-itself}
 use Rattle.fed_words.proofs.Each.{each-length}
 

@@ -9,6 +9,7 @@ pub mod SiteSteps
 pub mod Answering
 pub mod Scenes
 pub mod Lines
+pub mod Grammar
 pub mod Cuts
 pub mod Texts
 pub mod Readback

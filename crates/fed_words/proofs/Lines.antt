@@ -1,5 +1,5 @@
 -- Options and operands are read back from the words that say them.
-use Rattle.std.proofs.Common.{◌≡◌, ℕ, inl, inr, arith, Err, Bool, true, false, List, [], ◌∷◌, ◌++◌, Option, Some, None, Ok, refl, ap, ◌∙◌, append_assoc}
+use Rattle.std.proofs.Common.{◌≡◌, ℕ, arith, Bool, true, false, List, [], ◌∷◌, ◌++◌, None, Ok, refl, ap, ◌∙◌, append_assoc}
 use Rattle.std.specs.Prelude.{◌==◌, ◌<◌, codes, length, nat_lt}
 use Rattle.std.specs.List.{All, flat_map}
 use Rattle.std.proofs.lemmas.List.Elements.{All-head, All-tail}
@@ -10,10 +10,10 @@ use Rattle.std.proofs.lemmas.Bool.Decides.{nat_tests}
 use Rattle.fed_words.specs.declared.utilities.Utility.TheVariants.{Qsub, Qalter, Qhold, Qrls, Qdel, Qstat}
 use Rattle.fed_words.specs.Fault.{Answer}
 use Rattle.fed_words.specs.Spelling.{Item, Spelling, before, group, spelling, with_item}
-use Rattle.fed_words.specs.Utility.{choice_of, takes_argument}
-use Rattle.fed_words.specs.Wish.{IsItem, item_words, letter_of, line_words}
+use Rattle.fed_words.specs.Utility.{choice_of, letter_of, takes_argument}
+use Rattle.fed_words.specs.Wish.{IsItem, item_words, line_words}
 
-no_dash : (option : Choice) → (letter_of option == 45) ≡ false
+pub no_dash : (option : Choice) → (letter_of option == 45) ≡ false
 no_dash Choice.Account = refl
 no_dash Choice.Held = refl
 no_dash Choice.Kinds = refl
@@ -33,34 +33,8 @@ line_is_read utility (item ∷ items) operands each =
     ∙ one utility item.0 item.1 (line_words items operands) (All-head (IsItem utility) item items each) (takes_argument item.0) refl
     ∙ ap (with_item item) (line_is_read utility items operands (All-tail (IsItem utility) item items each))
 
--- letters behind one `-` stand for words of their own
-no_letter_dash : (utility : Utility) (letter : ℕ) (option : Choice) → choice_of utility letter ≡ Some option → (letter == 45) ≡ false
-no_letter_dash utility letter option known = elim (cases_Bool (letter == 45)) [
-  | inl dash ↦ let same : letter ≡ 45 = grind (arith, nat_tests) in let none : choice_of utility letter ≡ None = rw same (dash_none utility) in absurd cc
-  | inr other ↦ other
-]
-  where
-    dash_none : (utility : Utility) → choice_of utility 45 ≡ None
-    dash_none Qsub = refl
-    dash_none Qalter = refl
-    dash_none Qhold = refl
-    dash_none Qrls = refl
-    dash_none Qdel = refl
-    dash_none Qstat = refl
-
-before-item : (item : Item) (items : List Item) (r : Answer (Option Choice)) (next : Option Choice → Spelling (List (List ℕ))) → before (item ∷ items) r next ≡ with_item item (before items r next)
-before-item item items (Ok x) next = refl
-before-item item items (Err fault) next = refl
-
-long : (a b : ℕ) (cs : List ℕ) → nat_lt 1 (length (a ∷ b ∷ cs)) ≡ true
+pub long : (a b : ℕ) (cs : List ℕ) → nat_lt 1 (length (a ∷ b ∷ cs)) ≡ true
 long a b cs = let fact : 1 < length (a ∷ b ∷ cs) = omega arith in grind (arith, nat_tests)
 
-some : (a : ℕ) (cs : List ℕ) → nat_lt 0 (length (a ∷ cs)) ≡ true
+pub some : (a : ℕ) (cs : List ℕ) → nat_lt 0 (length (a ∷ cs)) ≡ true
 some a cs = let fact : 0 < length (a ∷ cs) = omega arith in grind (arith, nat_tests)
-
-pub grouped : (utility : Utility) (letter : ℕ) (option : Choice) (other : ℕ) (others : List ℕ) (words : List (List ℕ)) → choice_of utility letter ≡ Some option → takes_argument option ≡ false → (other == 45) ≡ false → spelling utility None ((45 ∷ letter ∷ other ∷ others) ∷ words) ≡ spelling utility None ((45 ∷ letter ∷ []) ∷ (45 ∷ other ∷ others) ∷ words)
-grouped utility letter option other others words known switch apart =
-    rw (no_letter_dash utility letter option known, long 45 letter (other ∷ others), known, switch, apart, long 45 other others) (before-item (option, []) (group utility (other ∷ others)).items (group utility (other ∷ others)).rest (λ wanted. spelling utility wanted words))
-
-pub attached : (utility : Utility) (letter : ℕ) (option : Choice) (other : ℕ) (others : List ℕ) (words : List (List ℕ)) → choice_of utility letter ≡ Some option → takes_argument option ≡ true → spelling utility None ((45 ∷ letter ∷ other ∷ others) ∷ words) ≡ spelling utility None ((45 ∷ letter ∷ []) ∷ (other ∷ others) ∷ words)
-attached utility letter option other others words known takes = rw (no_letter_dash utility letter option known, long 45 letter (other ∷ others), known, takes, some other others) refl

@@ -12,5 +12,6 @@ pub mod Resource
 pub mod Setting
 pub mod Site
 pub mod Spelling
+pub mod Syntax
 pub mod Utility
 pub mod Wish

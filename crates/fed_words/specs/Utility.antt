@@ -29,3 +29,13 @@ abbrev pub takes_argument : Choice → Bool
 takes_argument Held = false
 takes_argument Full = false
 takes_argument _ = true
+
+-- the letter of an option
+abbrev pub letter_of : Choice → ℕ
+letter_of Account = byte "A"
+letter_of Held = byte "h"
+letter_of Kinds = byte "h"
+letter_of Resources = byte "l"
+letter_of Name = byte "N"
+letter_of Priority = byte "p"
+letter_of Full = byte "f"

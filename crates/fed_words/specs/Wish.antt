@@ -19,19 +19,9 @@ use Rattle.fed_words.specs.Request.{Asked, once, request_of}
 use Rattle.fed_words.specs.Resource.{last_resources}
 use Rattle.fed_words.specs.Setting.{last_settings}
 use Rattle.fed_words.specs.Spelling.{Item}
-use Rattle.fed_words.specs.Utility.{choice_of, takes_argument}
+use Rattle.fed_words.specs.Utility.{choice_of, letter_of, takes_argument}
 
 -- ---- items
-
--- the letter of an option
-abbrev pub letter_of : Choice → ℕ
-letter_of Choice.Account = byte "A"
-letter_of Choice.Held = byte "h"
-letter_of Choice.Kinds = byte "h"
-letter_of Choice.Resources = byte "l"
-letter_of Choice.Name = byte "N"
-letter_of Choice.Priority = byte "p"
-letter_of Choice.Full = byte "f"
 
 -- an option of the utility, whose argument is empty where it takes none
 pub record IsItem (utility : Utility) (item : Item) : Type 0 where

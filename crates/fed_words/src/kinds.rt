@@ -5,8 +5,9 @@ ghost use Rattle.fed_words.specs.Kinds.{has_letter as stands_in, is_kind_letter 
 
 use fed_record::HoldKinds;
 
-/// The kinds that a list of the letters `u`, `o` and `s` names, or `None` where it is empty or has another character.
-pub(crate) fn read_kinds(text: &str) -> Option<HoldKinds>
+/// The kinds that a list of the letters `u`, `o` and `s` names, in any order and with repeats, or `None` where it is empty
+/// or has another character.
+pub fn read_kinds(text: &str) -> Option<HoldKinds>
     ensures { result ≡ kinds_in text.now }
 {
     let letters = text.as_bytes();

@@ -1,22 +1,27 @@
-//! The way back: words that say what a user asks are read as that. Each function does nothing: its contract is the law.
-ghost use Rattle.std.specs.Prelude.{◌≡◌, ℕ, ◌<◌, ◌==◌, true, false, List, [], ◌∷◌, None, Ok, Some, length, map};
-ghost use Rattle.std.specs.Str.{byte};
-ghost use Rattle.std.specs.List.{All};
+//! What words are by the utility syntax, and the way back: words that say what a user asks are read as that. Each function
+//! does nothing: its contract is the law.
+ghost use Rattle.std.specs.Prelude.{◌≡◌, ℕ, ◌<◌, List, None, Ok, length, map};
 ghost use Rattle.fed_stamp.specs.Roster.{IsRoster};
 ghost use Rattle.fed_stamp.specs.Stamp.{StampValue};
 ghost use Rattle.fed_words.specs.declared.utilities.Utility.{Utility};
 ghost use Rattle.fed_words.specs.Request.{Asked, once, request_in, request_of};
 ghost use Rattle.fed_words.specs.Setting.{last_settings};
-ghost use Rattle.fed_words.specs.Spelling.{Item, spelling};
-ghost use Rattle.fed_words.specs.declared.utilities.Choice.{Choice};
-ghost use Rattle.fed_words.specs.Utility.{choice_of, takes_argument};
-ghost use Rattle.fed_words.specs.Wish.{CanBeAsked, IsAsked, IsItem, Wish, asking, line_words, setting_of};
+ghost use Rattle.fed_words.specs.Spelling.{spelling};
+ghost use Rattle.fed_words.specs.Syntax.{IsLine, Line, items_of_line, rest_of_ending, words_of_line};
+ghost use Rattle.fed_words.specs.Wish.{CanBeAsked, IsAsked, Wish, asking, setting_of};
 
-/// Any options of a utility with their arguments, and any operands, whatever words they are, are spelled by words: each
-/// option by a word of its own and its argument by the next word, then `--` and the operands.
-pub fn options_and_operands_are_spelled()
-    ensures { (utility : Utility) (items : List Item) (operands : List (List ℕ)) → All (IsItem utility) items →
-        spelling utility None (line_words items operands) ≡ record { items = items; rest = Ok operands } }
+/// Words of the utility syntax (POSIX.1-2017, XBD 12.2) are read as the options and operands that the grammar gives, or
+/// the fault that they end at.
+pub fn words_are_read_by_the_grammar()
+    ensures { (utility : Utility) (line : Line) → IsLine utility line →
+        spelling utility None (words_of_line line)
+        ≡ record { items = items_of_line line; rest = rest_of_ending line.ending } }
+{}
+
+/// All words are of the grammar, with its two endings for faults.
+pub fn all_words_are_of_the_grammar()
+    ensures { (utility : Utility) (words : List (List ℕ)) →
+        (line : Line) × IsLine utility line × (words ≡ words_of_line line) }
 {}
 
 /// Whatever a user asks of a utility, by any of its options in their ranges, in any order and with repeats, for any jobs
@@ -33,20 +38,4 @@ pub fn what_is_asked_is_read()
 pub fn what_is_read_can_be_asked()
     ensures { (roster : List (List ℕ × ℕ)) (here : ℕ) (words : List (List ℕ)) (request : Asked) → here < length roster →
         request_in roster here words ≡ Ok request → CanBeAsked roster request }
-{}
-
-/// A letter of an option without argument may stand in a word of its own, before a word of the letters behind it.
-pub fn grouped_letters_stand_for_words()
-    ensures { (utility : Utility) (letter other : ℕ) (option : Choice) (letters : List ℕ) (words : List (List ℕ)) →
-        choice_of utility letter ≡ Some option → takes_argument option ≡ false → (other == byte "-") ≡ false →
-        spelling utility None ((byte "-" ∷ letter ∷ other ∷ letters) ∷ words)
-        ≡ spelling utility None ((byte "-" ∷ letter ∷ []) ∷ (byte "-" ∷ other ∷ letters) ∷ words) }
-{}
-
-/// An argument that stands behind its letter may stand in the next word.
-pub fn attached_arguments_stand_for_words()
-    ensures { (utility : Utility) (letter other : ℕ) (option : Choice) (text : List ℕ) (words : List (List ℕ)) →
-        choice_of utility letter ≡ Some option → takes_argument option ≡ true →
-        spelling utility None ((byte "-" ∷ letter ∷ other ∷ text) ∷ words)
-        ≡ spelling utility None ((byte "-" ∷ letter ∷ []) ∷ (other ∷ text) ∷ words) }
 {}

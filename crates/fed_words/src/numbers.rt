@@ -6,8 +6,8 @@ ghost use Rattle.fed_words.specs.Number.{number_in, is_numeral as has_form_of_nu
 
 use fed_record::{Limit, Nodes};
 
-/// The number that a word writes in one or more decimal digits, of which the first may be zeros, or `None` where it has
-/// another form or the number doesn't fit in 64 bits.
+/// The number that a word writes in one or more decimal digits and no sign, of which the first may be zeros, or `None`
+/// where it has another form or the number doesn't fit in 64 bits.
 pub fn read_number(word: &str) -> Option<u64>
     ensures { result ≡ number_in 0 (2 ^ 64 - 1) word.now }
 {
@@ -17,15 +17,17 @@ pub fn read_number(word: &str) -> Option<u64>
     word.parse().ok()
 }
 
-/// The number of nodes that a word writes, or `None` where it is none or out of range.
-pub(crate) fn read_nodes(word: &str) -> Option<Nodes>
+/// The number of nodes that a word writes in decimal digits, from 1 to 1,000,000, or `None` where the word has another
+/// form or the number is out of this range.
+pub fn read_nodes(word: &str) -> Option<Nodes>
     ensures { result ≡ number_in 1 1_000_000 word.now }
 {
     Nodes::new(read_number(word)?)
 }
 
-/// The time limit that a word writes, or `None` where it is none or out of range.
-pub(crate) fn read_limit(word: &str) -> Option<Limit>
+/// The time limit that a word writes in decimal digits, from 1 to 10,000,000 whole seconds, or `None` where the word has
+/// another form or the number is out of this range.
+pub fn read_limit(word: &str) -> Option<Limit>
     ensures { result ≡ number_in 1 10_000_000 word.now }
 {
     Limit::new(read_number(word)?)

@@ -6,7 +6,7 @@ use fed_record::Priority;
 
 /// The priority that a word writes: an optional `+` or `-`, then one or more decimal digits, with a value from -1024 to
 /// 1023. `None` where the word has another form or the value is out of this range.
-pub(crate) fn read_priority(word: &str) -> Option<Priority>
+pub fn read_priority(word: &str) -> Option<Priority>
     ensures { result ≡ priority_in word.now }
 {
     match word.parse::<i16>() {
