@@ -8,7 +8,7 @@ use fed_stamp::{SiteId, SiteSet, Stamp, Word};
 use std::alloc::Global;
 use std::test::Fail;
 
-fn stamp(counter: u64, site: u8) -> Result<Stamp, Fail> {
+pub fn stamp(counter: u64, site: u8) -> Result<Stamp, Fail> {
     let site = SiteId::new(site).ok_or("site")?;
     Ok(Stamp::new(counter, site).ok_or("stamp")?)
 }
@@ -52,7 +52,7 @@ fn act(board: &mut Board, at: Stamp, operation: &Operation) -> Result<(), Fail> 
 }
 
 /// A board with one job, which has this name.
-fn submitted(alloc: Global, job: Stamp, held: bool) -> Result<Board, Fail> {
+pub fn submitted(alloc: Global, job: Stamp, held: bool) -> Result<Board, Fail> {
     let operation = submit(held)?;
     let mut board = Board::new(alloc);
     act(&mut board, job, &operation)?;
@@ -60,7 +60,7 @@ fn submitted(alloc: Global, job: Stamp, held: bool) -> Result<Board, Fail> {
 }
 
 /// A copy of the board, with one more operation.
-fn after(board: &Board, at: Stamp, operation: &Operation) -> Result<Board, Fail> {
+pub fn after(board: &Board, at: Stamp, operation: &Operation) -> Result<Board, Fail> {
     let mut later = board.copy()?;
     act(&mut later, at, operation)?;
     Ok(later)
@@ -125,7 +125,7 @@ fn late_board_brings_no_hold_back(rt: HostRuntime) -> Result<(), Fail> {
 }
 
 /// A board with one job, whose first term is granted to the site.
-fn granted(alloc: Global, job: Stamp, site: SiteId) -> Result<Board, Fail> {
+pub fn granted(alloc: Global, job: Stamp, site: SiteId) -> Result<Board, Fail> {
     let term = Term::new(1).ok_or("first term")?;
     let board = submitted(alloc, job, false)?;
     after(&board, stamp(2, 0)?, &Operation::Grant { job, site, term })
@@ -133,7 +133,7 @@ fn granted(alloc: Global, job: Stamp, site: SiteId) -> Result<Board, Fail> {
 
 /// The boards of two sites where the second was granted the first term of the job, handed it back, and the first
 /// learnt of it.
-fn handed_back(alloc: Global, job: Stamp, back: Stamp) -> Result<(Board, Board), Fail> {
+pub fn handed_back(alloc: Global, job: Stamp, back: Stamp) -> Result<(Board, Board), Fail> {
     let term = Term::new(1).ok_or("first term")?;
     let a = granted(alloc, job, back.site())?;
     let b = after(&a, back, &Operation::HandBack { job, term })?;

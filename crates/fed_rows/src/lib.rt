@@ -1,9 +1,11 @@
-//! Examples of the values, the records, the boards and the scripts of a federation, over public calls alone. The crate
+//! Examples of the values, the records, the boards, the desk and the scripts of a federation, over public calls alone. The crate
 //! has tests and nothing else.
 #![tactic(auto)]
 
 #[cfg(test)]
 mod boards;
+#[cfg(test)]
+mod desks;
 #[cfg(test)]
 mod records;
 #[cfg(test)]

@@ -15,10 +15,24 @@ use Rattle.fed_words.specs.Fault.{Answer}
 use Rattle.fed_words.specs.Spelling.{Item, Spelling, before, group, is_options, spelling, with_item}
 use Rattle.fed_words.specs.Syntax.{Argued, Ending, HasOption, IsEnding, IsLast, IsLine, IsOptionWord, Line, OptionWord, attached, bare, delimited, item_of_last, items_of_ending, items_of_flags, items_of_line, items_of_option, letters, missing, rest_of_ending, separate, unknown, words_behind, words_of_ending, words_of_line, words_of_option}
 use Rattle.fed_words.specs.Utility.{choice_of, choices, letter_of, takes_argument}
-use Rattle.fed_words.proofs.Lines.{long, no_dash, some}
 use Rattle.fed_words.proofs.Spellings.{Words, with_items}
 
 -- ---- lines are read
+
+no_dash : (option : Choice) → (letter_of option == 45) ≡ false
+no_dash Choice.Account = refl
+no_dash Choice.Held = refl
+no_dash Choice.Kinds = refl
+no_dash Choice.Resources = refl
+no_dash Choice.Name = refl
+no_dash Choice.Priority = refl
+no_dash Choice.Full = refl
+
+long : (a b : ℕ) (cs : List ℕ) → nat_lt 1 (length (a ∷ b ∷ cs)) ≡ true
+long a b cs = let fact : 1 < length (a ∷ b ∷ cs) = omega arith in grind (arith, nat_tests)
+
+some : (a : ℕ) (cs : List ℕ) → nat_lt 0 (length (a ∷ cs)) ≡ true
+some a cs = let fact : 0 < length (a ∷ cs) = omega arith in grind (arith, nat_tests)
 
 flags_read : (utility : Utility) (flags : List Choice) (more : List ℕ) → All (HasOption utility false) flags → group utility (letters flags ++ more) ≡ record { items = items_of_flags flags ++ (group utility more).items; rest = (group utility more).rest }
 flags_read utility [] more all = refl

@@ -8,8 +8,8 @@ pub mod Onces
 pub mod SiteSteps
 pub mod Answering
 pub mod Scenes
-pub mod Lines
 pub mod Grammar
+pub mod Lines
 pub mod Cuts
 pub mod Texts
 pub mod Readback

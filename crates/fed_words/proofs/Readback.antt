@@ -23,10 +23,11 @@ use Rattle.fed_words.specs.declared.utilities.Utility.TheVariants.{Qsub, Qalter,
 use Rattle.fed_words.specs.Request.{jobs_in, named_jobs, once, request_in, request_of}
 use Rattle.fed_words.specs.Setting.{last_settings, setting_in, settings_in}
 use Rattle.fed_words.specs.Spelling.{spelling}
+use Rattle.fed_words.specs.Syntax.{words_of_line}
 use Rattle.fed_words.specs.Utility.{takes_argument, utility_named}
-use Rattle.fed_words.specs.Wish.{HasJobs, IsAsked, IsItem, IsJob, IsOption, IsResourceWish, IsWish, ResourceWish, Wish, account, asking, full, held, identifier_words, item_of, kinds, line_words, name, name_of, nodes, priority, resource_of, resource_text, resources, setting_of, sites, walltime}
+use Rattle.fed_words.specs.Wish.{HasJobs, IsAsked, IsJob, IsOption, IsResourceWish, IsWish, ResourceWish, Wish, account, asking, full, held, identifier_text, item_of, kinds, line_of, name, name_of, nodes, priority, resource_of, resource_text, resources, setting_of, sites, walltime}
 use Rattle.fed_words.proofs.Answering.{asked-answer}
-use Rattle.fed_words.proofs.Lines.{line_is_read}
+use Rattle.fed_words.proofs.Lines.{IsItem, line_is_read}
 use Rattle.fed_words.proofs.Cuts.{Free, all-map, cut-after, cut-before, cut-found, each-said, free-append, free-join, map-itself, split-join}
 use Rattle.fed_words.proofs.Texts.{free-decimal, free-site_name, no_comma, no_plus_sign, number_in-decimal, priority_in-signed}
 
@@ -66,7 +67,7 @@ module _ (roster : List (List ℕ × ℕ)) (lawful : IsRoster roster) where
       let short : nat_le (length (decimal n)) 10 ≡ true = (let fact = length-decimal-le 10 n (omega arith) (in_10_digits n e) low in grind (arith, nat_tests)) in
       rw (short, number_in-decimal 1 1_000_000_000 n (omega arith) e) refl
 
-  pub job_in-identifier : (here : ℕ) (job : StampValue) → IsJob roster job → job_in roster here (identifier_words roster job) ≡ Ok job
+  pub job_in-identifier : (here : ℕ) (job : StampValue) → IsJob roster job → job_in roster here (identifier_text roster job) ≡ Ok job
   job_in-identifier here job known =
       let free = free-decimal is_dot job.counter (in_64 1 1_000_000_000 job.counter (omega arith) known.0) no_dot_digit in
       rw (
@@ -144,16 +145,16 @@ module _ (roster : List (List ℕ × ℕ)) (lawful : IsRoster roster) where
   takes (priority number) e = absurd cc
   takes full e = refl
 
-  line_read : (utility : Utility) (wishes : List Wish) (operands : List (List ℕ)) → All (IsOption roster utility) wishes → spelling utility None (line_words (map (item_of roster) wishes) operands) ≡ record { items = map (item_of roster) wishes; rest = Ok operands }
+  line_read : (utility : Utility) (wishes : List Wish) (operands : List (List ℕ)) → All (IsOption roster utility) wishes → spelling utility None (words_of_line (line_of (map (item_of roster) wishes) operands)) ≡ record { items = map (item_of roster) wishes; rest = Ok operands }
   line_read utility wishes operands options = line_is_read utility (map (item_of roster) wishes) operands
       (all-map (IsItem utility) (item_of roster) (IsOption roster utility) (λ wish known. record { choice = known; none = takes wish }) wishes options)
 
   settings_read : (wishes : List Wish) → All (IsWish roster) wishes → settings_in roster (map (item_of roster) wishes) ≡ Ok (last_settings (map setting_of wishes))
   settings_read wishes wished = ap (answer_map last_settings) (each-said (λ item. setting_in roster item.0 item.1) (item_of roster) setting_of (IsWish roster) setting_read wishes wished)
 
-  jobs_named : (here : ℕ) (jobs : List StampValue) → All (IsJob roster) jobs → named_jobs roster here (map (identifier_words roster) jobs) ≡ Ok (once jobs)
+  jobs_named : (here : ℕ) (jobs : List StampValue) → All (IsJob roster) jobs → named_jobs roster here (map (identifier_text roster) jobs) ≡ Ok (once jobs)
   jobs_named here jobs known =
-      ap (answer_map once) (each-said (job_in roster here) (identifier_words roster) (λ job. job) (IsJob roster) (job_in-identifier here) jobs known)
+      ap (answer_map once) (each-said (job_in roster here) (identifier_text roster) (λ job. job) (IsJob roster) (job_in-identifier here) jobs known)
       ∙ ap (λ found. Ok (once found)) (map-itself jobs)
 
   named : (utility : Utility) → utility_named (name_of utility) ≡ Some utility
@@ -165,7 +166,7 @@ module _ (roster : List (List ℕ × ℕ)) (lawful : IsRoster roster) where
   named Qstat = refl
 
   -- the jobs of a request, those of `qsub` being none
-  answered : (here : ℕ) (utility : Utility) (settings : Settings) (jobs : List StampValue) → HasJobs utility jobs → All (IsJob roster) jobs → answer_map (request_of roster utility settings) (jobs_in roster here utility (map (identifier_words roster) jobs)) ≡ Ok (request_of roster utility settings (once jobs))
+  answered : (here : ℕ) (utility : Utility) (settings : Settings) (jobs : List StampValue) → HasJobs utility jobs → All (IsJob roster) jobs → answer_map (request_of roster utility settings) (jobs_in roster here utility (map (identifier_text roster) jobs)) ≡ Ok (request_of roster utility settings (once jobs))
   answered here Qsub settings jobs some known = refl
   answered here Qstat settings jobs some known = ap (answer_map (request_of roster Qstat settings)) (jobs_named here jobs known)
   answered here Qalter settings [] some known = absurd (omega arith)
@@ -179,8 +180,8 @@ module _ (roster : List (List ℕ × ℕ)) (lawful : IsRoster roster) where
 
   pub asking_is_read : (here : ℕ) (utility : Utility) (wishes : List Wish) (jobs : List StampValue) → IsAsked roster utility wishes jobs → request_in roster here (asking roster utility wishes jobs) ≡ Ok (request_of roster utility (last_settings (map setting_of wishes)) (once jobs))
   asking_is_read here utility wishes jobs asked =
-      asked-answer roster here (name_of utility) (line_words (map (item_of roster) wishes) (map (identifier_words roster) jobs)) utility (named utility)
-      (record { items = map (item_of roster) wishes; rest = Ok (map (identifier_words roster) jobs) })
-      (sym (line_read utility wishes (map (identifier_words roster) jobs) asked.options))
-      (last_settings (map setting_of wishes)) (map (identifier_words roster) jobs) (settings_read wishes asked.wished) refl
+      asked-answer roster here (name_of utility) (words_of_line (line_of (map (item_of roster) wishes) (map (identifier_text roster) jobs))) utility (named utility)
+      (record { items = map (item_of roster) wishes; rest = Ok (map (identifier_text roster) jobs) })
+      (sym (line_read utility wishes (map (identifier_text roster) jobs) asked.options))
+      (last_settings (map setting_of wishes)) (map (identifier_text roster) jobs) (settings_read wishes asked.wished) refl
       ∙ answered here utility (last_settings (map setting_of wishes)) jobs asked.some asked.known

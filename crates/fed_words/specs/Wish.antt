@@ -1,7 +1,7 @@
 -- What a user wishes, and words that say it.
-use Rattle.std.specs.Prelude.{◌≡◌, ℕ, ◌<◌, ℤ, Bool, true, false, ◌||◌, List, [], ◌∷◌, ◌++◌, length, map, codes, Some, if◌then◌else◌}
+use Rattle.std.specs.Prelude.{◌≡◌, ℕ, ◌<◌, ℤ, Bool, true, false, ◌||◌, List, [], ◌∷◌, ◌++◌, length, map, codes, Some, None, if◌then◌else◌}
 use Rattle.std.specs.Fmt.{decimal, signed_decimal}
-use Rattle.std.specs.List.{All, flat_map, join_with_byte}
+use Rattle.std.specs.List.{All, join_with_byte}
 use Rattle.std.specs.Str.{byte}
 use Rattle.fed_stamp.specs.Roster.{name_at}
 use Rattle.fed_stamp.specs.SiteSet.{set_of}
@@ -19,28 +19,24 @@ use Rattle.fed_words.specs.Request.{Asked, once, request_of}
 use Rattle.fed_words.specs.Resource.{last_resources}
 use Rattle.fed_words.specs.Setting.{last_settings}
 use Rattle.fed_words.specs.Spelling.{Item}
+use Rattle.fed_words.specs.Syntax.{Line, OptionWord, delimited, separate, words_of_line}
 use Rattle.fed_words.specs.Utility.{choice_of, letter_of, takes_argument}
 
 -- ---- items
 
--- an option of the utility, whose argument is empty where it takes none
-pub record IsItem (utility : Utility) (item : Item) : Type 0 where
-  pub choice : choice_of utility (letter_of item.0) ≡ Some item.0
-  pub none : takes_argument item.0 ≡ false → item.1 ≡ []
-
--- a word for the option, and a word for its argument
-abbrev pub item_words : Item → List (List ℕ)
-item_words item = if takes_argument item.0 then (byte "-" ∷ letter_of item.0 ∷ []) ∷ item.1 ∷ []
-    else (byte "-" ∷ letter_of item.0 ∷ []) ∷ []
+-- a word for the option, and a word for its argument where it takes one
+abbrev pub option_word_of : Item → OptionWord
+option_word_of item = if takes_argument item.0 then record { flags = []; last = Some (separate item.0 item.1) }
+    else record { flags = item.0 ∷ []; last = None }
 
 -- options, `--` and operands
-abbrev pub line_words : List Item → List (List ℕ) → List (List ℕ)
-line_words items operands = flat_map item_words items ++ (codes "--" ∷ operands)
+abbrev pub line_of : List Item → List (List ℕ) → Line
+line_of items operands = record { options = map option_word_of items; ending = delimited operands }
 
 -- ---- identifiers
 
-abbrev pub identifier_words : List (List ℕ × ℕ) → StampValue → List ℕ
-identifier_words roster job = decimal job.counter ++ (byte "." ∷ name_at roster job.site)
+abbrev pub identifier_text : List (List ℕ × ℕ) → StampValue → List ℕ
+identifier_text roster job = decimal job.counter ++ (byte "." ∷ name_at roster job.site)
 
 -- a job of a site of the roster
 abbrev pub IsJob : List (List ℕ × ℕ) → StampValue → Type 0
@@ -144,12 +140,16 @@ name_of Qstat = codes "qstat"
 -- words that ask this of a utility
 abbrev pub asking : List (List ℕ × ℕ) → Utility → List Wish → List StampValue → List (List ℕ)
 asking roster utility wishes jobs =
-    name_of utility ∷ line_words (map (item_of roster) wishes) (map (identifier_words roster) jobs)
+    name_of utility ∷ words_of_line (line_of (map (item_of roster) wishes) (map (identifier_text roster) jobs))
 
--- a request that a user can ask for
+-- a request that a user can ask for, of a utility, by these options and for these jobs
 pub record CanBeAsked (roster : List (List ℕ × ℕ)) (request : Asked) : Type 0 where
   pub utility : Utility
   pub wishes : List Wish
   pub jobs : List StampValue
   pub asked : IsAsked roster utility wishes jobs
   pub same : request ≡ request_of roster utility (last_settings (map setting_of wishes)) (once jobs)
+
+-- words that ask for the request
+abbrev pub words_for : (roster : List (List ℕ × ℕ)) (request : Asked) → CanBeAsked roster request → List (List ℕ)
+words_for roster request asked = asking roster asked.utility asked.wishes asked.jobs
