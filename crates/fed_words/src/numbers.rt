@@ -1,15 +1,15 @@
 //! Words that are numbers.
-ghost use Rattle.std.specs.Prelude.{◌≡◌, ◌^◌, ◌-◌};
+ghost use Rattle.std.specs.Prelude.{◌≡◌};
 ghost use Rattle.std.specs.Char.{is_ascii_digit};
 ghost use Rattle.std.specs.List.{list_all};
-ghost use Rattle.fed_words.specs.Number.{number_in, is_numeral as has_form_of_numeral};
+ghost use Rattle.fed_words.specs.Number.{decimal_in, is_numeral as has_form_of_numeral, number_in};
 
 use fed_record::{Limit, Nodes};
 
 /// The number that a word writes in one or more decimal digits and no sign, of which the first may be zeros, or `None`
 /// where it has another form or the number doesn't fit in 64 bits.
 pub fn read_number(word: &str) -> Option<u64>
-    ensures { result ≡ number_in 0 (2 ^ 64 - 1) word.now }
+    ensures { result ≡ decimal_in word.now }
 {
     if !is_numeral(word) {
         return None;

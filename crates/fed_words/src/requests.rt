@@ -195,9 +195,13 @@ fn answer(
     Ok(make_request(alloc, roster, utility, settings, jobs)?)
 }
 
-/// What the words of a utility ask, the first of which is its name, where they are read at `here`: one command for
-/// each operand, or a listing. Words are read from left to right, a list of resources pair by pair and its sites name
-/// by name, and the first fault is answered.
+/// What the words of a utility ask, the first of which is its name, where they are read at the site `here`: commands, one
+/// for each job that the operands name or one that submits a job, or a listing. An operand without a site's name is a job
+/// of `here`. Of an option given twice the last counts, and a job named twice counts once, at its first place.
+///
+/// Words are read from left to right, a list of resources pair by pair and its sites name by name, and the first fault is
+/// answered; `UsageFault` says what each is. `MissingOperand` stands behind all options. `NoMemory` is answered where a
+/// growth was refused.
 pub fn read_words(
     alloc: Global,
     words: &[&str],
