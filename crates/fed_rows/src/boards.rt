@@ -125,7 +125,7 @@ fn late_board_brings_no_hold_back(rt: HostRuntime) -> Result<(), Fail> {
 }
 
 /// A board with one job, whose first term is granted to the site.
-fn granted(alloc: Global, job: Stamp, site: SiteId) -> Result<Board, Fail> {
+pub fn granted(alloc: Global, job: Stamp, site: SiteId) -> Result<Board, Fail> {
     let term = Term::new(1).ok_or("first term")?;
     let board = submitted(alloc, job, false)?;
     after(&board, stamp(2, 0)?, &Operation::Grant { job, site, term })
@@ -133,7 +133,7 @@ fn granted(alloc: Global, job: Stamp, site: SiteId) -> Result<Board, Fail> {
 
 /// The boards of two sites where the second was granted the first term of the job, handed it back, and the first
 /// learnt of it.
-fn handed_back(alloc: Global, job: Stamp, back: Stamp) -> Result<(Board, Board), Fail> {
+pub fn handed_back(alloc: Global, job: Stamp, back: Stamp) -> Result<(Board, Board), Fail> {
     let term = Term::new(1).ok_or("first term")?;
     let a = granted(alloc, job, back.site())?;
     let b = after(&a, back, &Operation::HandBack { job, term })?;

@@ -1,0 +1,24 @@
+-- What words ask, put together from their parts.
+use Rattle.std.proofs.Common.{◌≡◌, ℕ, List, ◌∷◌, Some, None, Ok, Err, refl, ◌∙◌}
+use Rattle.fed_words.specs.declared.faults.UsageFault.{UsageFault}
+use Rattle.fed_words.specs.declared.settings.Settings.{Settings}
+use Rattle.fed_words.specs.declared.utilities.Utility.{Utility}
+use Rattle.fed_words.specs.Fault.{Answer, ◌>>=◌, answer_map}
+use Rattle.fed_words.specs.Request.{jobs_in, request_in, request_of}
+use Rattle.fed_words.specs.Setting.{settings_in}
+use Rattle.fed_words.specs.Spelling.{Spelling, spelling}
+use Rattle.fed_words.specs.Utility.{utility_named}
+
+mapped : {A B : Type 0} (a : Answer A) (f : A → B) → (a >>= λ x. Ok (f x)) ≡ answer_map f a
+mapped (Ok x) f = refl
+mapped (Err fault) f = refl
+
+module _ (roster : List (List ℕ × ℕ)) (here : ℕ) (name : List ℕ) (words : List (List ℕ)) (utility : Utility) (named : utility_named name ≡ Some utility) (spelled : Spelling (List (List ℕ))) (same : spelled ≡ spelling utility None words) where
+  asked : request_in roster here (name ∷ words) ≡ (settings_in roster spelled.items >>= λ settings. spelled.rest >>= λ operands. jobs_in roster here utility operands >>= λ jobs. Ok (request_of roster utility settings jobs))
+  asked = rw (same, named) refl
+
+  pub asked-answer : (settings : Settings) (operands : List (List ℕ)) → settings_in roster spelled.items ≡ Ok settings → spelled.rest ≡ Ok operands → request_in roster here (name ∷ words) ≡ answer_map (request_of roster utility settings) (jobs_in roster here utility operands)
+  asked-answer settings operands e f = asked ∙ rw (e, f) (mapped (jobs_in roster here utility operands) (request_of roster utility settings))
+
+  pub asked-fault : (fault : UsageFault) → settings_in roster spelled.items ≡ Err fault → request_in roster here (name ∷ words) ≡ Err fault
+  asked-fault fault e = asked ∙ rw e refl

@@ -1,0 +1,16 @@
+pub mod DigitWords
+pub mod Each
+pub mod Lasts
+pub mod Pieces
+pub mod Groups
+pub mod Spellings
+pub mod Onces
+pub mod SiteSteps
+pub mod Answering
+pub mod Scenes
+pub mod Grammar
+pub mod Lines
+pub mod Cuts
+pub mod Texts
+pub mod Readback
+pub mod Found

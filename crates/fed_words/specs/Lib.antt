@@ -1,0 +1,17 @@
+-- What the contracts of this crate cite.
+pub mod Fault
+pub mod Identifier
+pub mod Item
+pub mod Kinds
+pub mod Last
+pub mod Number
+pub mod Priority
+pub mod Request
+pub mod RequestView
+pub mod Resource
+pub mod Setting
+pub mod Site
+pub mod Spelling
+pub mod Syntax
+pub mod Utility
+pub mod Wish

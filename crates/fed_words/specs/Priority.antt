@@ -1,0 +1,13 @@
+-- Words that are priorities.
+use Rattle.std.specs.Prelude.{ℕ, ℤ, pos, negsuc, Bool, ◌&&◌, int_le, List, Option, Some, None, if◌then◌else◌}
+use Rattle.std.specs.Str.Parse.{signed_digits_value, without_leading_sign}
+use Rattle.fed_words.specs.Number.{is_numeral}
+
+-- from -1024 to 1023
+abbrev pub is_priority : ℤ → Bool
+is_priority number = int_le (negsuc 1023) number && int_le number (pos 1023)
+
+-- an optional sign, and one or more decimal digits
+abbrev pub priority_in : List ℕ → Option ℤ
+priority_in word = if is_numeral (without_leading_sign word) && is_priority (signed_digits_value 10 word)
+    then Some (signed_digits_value 10 word) else None

@@ -1,0 +1,97 @@
+-- What words ask.
+use Rattle.std.specs.Prelude.{ℕ, pos, Bool, true, false, not, ◌&&◌, ◌==◌, List, [], ◌∷◌, length, map, filter, codes, None, unwrap_or, Ok, Err}
+use Rattle.std.specs.List.{range_with_len}
+use Rattle.std.specs.Option.{ok_or}
+use Rattle.fed_stamp.specs.SiteSet.{set_of}
+use Rattle.fed_stamp.specs.Stamp.{StampValue}
+use Rattle.fed_record.specs.declared.commands.Command.{Command}
+use Rattle.fed_record.specs.declared.commands.Command.TheVariants.{Submit, Alter, Hold, Release, Delete}
+use Rattle.fed_record.specs.declared.holds.HoldKinds.{HoldKinds}
+use Rattle.fed_record.specs.declared.values.Changes.{Changes}
+use Rattle.fed_record.specs.declared.values.JobValues.{JobValues}
+use Rattle.fed_record.specs.Hold.{sum_of_bits}
+use Rattle.fed_words.specs.declared.faults.UsageFault.TheVariants.{UnknownUtility, MissingOperand}
+use Rattle.fed_words.specs.declared.resources.Resources.{Resources}
+use Rattle.fed_words.specs.declared.settings.Settings.{Settings}
+use Rattle.fed_words.specs.declared.utilities.Utility.{Utility}
+use Rattle.fed_words.specs.declared.utilities.Utility.TheVariants.{Qsub, Qalter, Qhold, Qrls, Qdel, Qstat}
+use Rattle.fed_words.specs.Fault.{Answer, ◌>>=◌, answer_map, each}
+use Rattle.fed_words.specs.Identifier.{job_in}
+use Rattle.fed_words.specs.Resource.{last_resources}
+use Rattle.fed_words.specs.Setting.{settings_in}
+use Rattle.fed_words.specs.Spelling.{spelling}
+use Rattle.fed_words.specs.Utility.{utility_named}
+
+-- commands, or a listing, in full or not, of these jobs
+pub data Asked : Type 0 where
+  acts : List Command → Asked
+  list : Bool → List StampValue → Asked
+
+abbrev pub all_sites : List (List ℕ × ℕ) → List Bool
+all_sites roster = set_of (range_with_len 0 (length roster))
+
+abbrev pub resources_given : Settings → Resources
+resources_given s = unwrap_or s.resources (last_resources [])
+
+-- what a job is submitted with
+abbrev pub values_of : List (List ℕ × ℕ) → Settings → JobValues
+values_of roster s = record {
+  name = unwrap_or s.name (codes "STDIN");
+  priority = unwrap_or s.priority (pos 0);
+  nodes = unwrap_or (resources_given s).nodes 1;
+  limit = unwrap_or (resources_given s).limit 3600;
+  account = unwrap_or s.account None;
+  sites = unwrap_or (resources_given s).sites (all_sites roster);
+}
+
+-- what is set of a job
+abbrev pub changes_of : Settings → Changes
+changes_of s = record {
+  name = s.name;
+  priority = s.priority;
+  nodes = (resources_given s).nodes;
+  limit = (resources_given s).limit;
+  account = s.account;
+  sites = (resources_given s).sites;
+}
+
+-- kinds of holds, by default a user hold
+abbrev pub kinds_given : Settings → HoldKinds
+kinds_given s = unwrap_or s.kinds (record { 0 = sum_of_bits true false false })
+
+-- the request of a utility
+abbrev pub request_of : List (List ℕ × ℕ) → Utility → Settings → List StampValue → Asked
+request_of roster Qsub s jobs = acts (Submit (values_of roster s) s.held ∷ [])
+request_of roster Qalter s jobs = acts (map (λ job. Alter job (changes_of s)) jobs)
+request_of roster Qhold s jobs = acts (map (λ job. Hold job (kinds_given s)) jobs)
+request_of roster Qrls s jobs = acts (map (λ job. Release job (kinds_given s)) jobs)
+request_of roster Qdel s jobs = acts (map Delete jobs)
+request_of roster Qstat s jobs = list s.full jobs
+
+abbrev pub is_same : StampValue → StampValue → Bool
+is_same a b = (a.counter == b.counter) && (a.site == b.site)
+
+-- each job once, at its first place
+abbrev pub once : List StampValue → List StampValue
+once [] = []
+once (job ∷ jobs) = job ∷ filter (λ other. not (is_same job other)) (once jobs)
+
+abbrev pub named_jobs : List (List ℕ × ℕ) → ℕ → List (List ℕ) → Answer (List StampValue)
+named_jobs roster here operands = answer_map once (each (job_in roster here) operands)
+
+-- the jobs that operands name; those of `qsub` name none, and only `qstat` may have none
+abbrev pub jobs_in : List (List ℕ × ℕ) → ℕ → Utility → List (List ℕ) → Answer (List StampValue)
+jobs_in roster here Qsub operands = Ok []
+jobs_in roster here Qstat operands = named_jobs roster here operands
+jobs_in roster here utility [] = Err MissingOperand
+jobs_in roster here utility (operand ∷ operands) = named_jobs roster here (operand ∷ operands)
+
+-- what words ask where they are read, or their first fault
+abbrev pub request_in : List (List ℕ × ℕ) → ℕ → List (List ℕ) → Answer Asked
+request_in roster here [] = Err UnknownUtility
+request_in roster here (name ∷ words) = do
+  utility ← ok_or (utility_named name) UnknownUtility
+  settings ← settings_in roster (spelling utility None words).items
+  operands ← (spelling utility None words).rest
+  jobs ← jobs_in roster here utility operands
+  Ok (request_of roster utility settings jobs)

@@ -1,0 +1,47 @@
+//! Words that are numbers.
+ghost use Rattle.std.specs.Prelude.{◌≡◌};
+ghost use Rattle.std.specs.Char.{is_ascii_digit};
+ghost use Rattle.std.specs.List.{list_all};
+ghost use Rattle.fed_words.specs.Number.{decimal_in, is_numeral as has_form_of_numeral, number_in};
+
+use fed_record::{Limit, Nodes};
+
+/// The number that a word writes in one or more decimal digits and no sign, of which the first may be zeros, or `None`
+/// where it has another form or the number doesn't fit in 64 bits.
+pub fn read_number(word: &str) -> Option<u64>
+    ensures { result ≡ decimal_in word.now }
+{
+    if !is_numeral(word) {
+        return None;
+    }
+    word.parse().ok()
+}
+
+/// The number of nodes that a word writes in decimal digits, from 1 to 1,000,000, or `None` where the word has another
+/// form or the number is out of this range.
+pub fn read_nodes(word: &str) -> Option<Nodes>
+    ensures { result ≡ number_in 1 1_000_000 word.now }
+{
+    Nodes::new(read_number(word)?)
+}
+
+/// The time limit that a word writes in decimal digits, from 1 to 10,000,000 whole seconds, or `None` where the word has
+/// another form or the number is out of this range.
+pub fn read_limit(word: &str) -> Option<Limit>
+    ensures { result ≡ number_in 1 10_000_000 word.now }
+{
+    Limit::new(read_number(word)?)
+}
+
+/// Whether a word is one or more decimal digits.
+fn is_numeral(word: &str) -> bool
+    ensures { result ≡ has_form_of_numeral word.now }
+{
+    !word.is_empty() && are_digits(word.as_bytes())
+}
+
+fn are_digits(bytes: &[u8]) -> bool
+    ensures { result ≡ list_all is_ascii_digit bytes.now }
+{
+    bytes.iter().all(|byte| byte.is_ascii_digit())
+}

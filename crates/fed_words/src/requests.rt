@@ -1,0 +1,220 @@
+//! What words ask.
+ghost use Rattle.std.specs.Prelude.{◌≡◌, ◌∷◌, [], IfOk, map};
+ghost use Rattle.fed_record.specs.declared.commands.Command.{Command};
+ghost use Rattle.fed_words.specs.Fault.{Gives, answer_map};
+ghost use Rattle.fed_words.specs.Item.{items_of, words_of};
+ghost use Rattle.fed_words.specs.Request.{all_sites as set_of_all, changes_of, jobs_in, kinds_given, request_in, request_of, resources_given, values_of};
+ghost use Rattle.fed_words.specs.RequestView.{asked_by};
+ghost use Rattle.fed_words.specs.Setting.{settings_in};
+
+use crate::faults::UsageFault;
+use crate::jobs::read_jobs;
+use crate::resources::Resources;
+use crate::settings::{Settings, read_setting};
+use crate::spelling::{Item, Spelling, read_spelling};
+use crate::utilities::Utility;
+use fed_record::{
+    Account, Changes, Command, HoldKind, HoldKinds, JobValues, Limit, Nodes, Priority,
+};
+use fed_stamp::{JobId, Roster, SiteId, SiteSet, Word};
+use std::alloc::{AllocError, Global};
+
+/// What words ask.
+#[derive(Drop, Debug)]
+pub enum Request {
+    /// Commands, to be done in this order.
+    Acts(Vec<Command>),
+    /// A listing.
+    List {
+        /// Whether it is in full.
+        full: bool,
+        /// The jobs that are listed, each once; all jobs where there is none.
+        jobs: Vec<JobId>,
+    },
+}
+
+/// What options set, each the last of its letter.
+fn read_settings(alloc: Global, roster: &Roster, items: &[Item<'_>]) -> Result<Settings, UsageFault>
+    ensures { Gives (λ settings. settings) result (settings_in roster.now (items_of items.now)) }
+{
+    let mut settings = Settings::none();
+    for item in items {
+        let setting = read_setting(alloc, roster, item.option, item.argument)?;
+        settings = settings.with(setting);
+    }
+    Ok(settings)
+}
+
+/// All sites of a roster.
+fn all_sites(alloc: Global, roster: &Roster) -> Result<SiteSet, AllocError>
+    ensures { IfOk result (λ sites. sites ≡ set_of_all roster.now) }
+{
+    let mut sites = Vec::new(alloc);
+    for number in 0..roster.len() {
+        sites.push(SiteId::new(number as u8).unwrap())?;
+    }
+    Ok(SiteSet::new(&sites).unwrap())
+}
+
+/// What is set of resources.
+fn resources_of(settings: &Settings) -> Resources
+    ensures { result ≡ resources_given settings.now }
+{
+    match settings.resources {
+        Some(resources) => resources,
+        None => Resources::none(),
+    }
+}
+
+/// What a job is submitted with.
+fn values(alloc: Global, roster: &Roster, settings: &Settings) -> Result<JobValues, AllocError>
+    ensures { IfOk result (λ values. values ≡ values_of roster.now settings.now) }
+{
+    let resources = resources_of(settings);
+    let sites = match resources.sites {
+        Some(sites) => sites,
+        None => all_sites(alloc, roster)?,
+    };
+    Ok(JobValues {
+        name: settings.name.unwrap_or(Word::new("STDIN").unwrap()),
+        priority: settings.priority.unwrap_or(Priority::new(0).unwrap()),
+        nodes: resources.nodes.unwrap_or(Nodes::new(1).unwrap()),
+        limit: resources.limit.unwrap_or(Limit::new(3600).unwrap()),
+        account: settings.account.unwrap_or(Account::EMPTY),
+        sites,
+    })
+}
+
+/// What is set of a job.
+fn changes(settings: &Settings) -> Changes
+    ensures { result ≡ changes_of settings.now }
+{
+    let resources = resources_of(settings);
+    Changes {
+        name: settings.name,
+        priority: settings.priority,
+        nodes: resources.nodes,
+        limit: resources.limit,
+        account: settings.account,
+        sites: resources.sites,
+    }
+}
+
+/// The kinds of holds, by default a user hold.
+fn kinds(settings: &Settings) -> HoldKinds
+    ensures { result ≡ kinds_given settings.now }
+{
+    settings.kinds.unwrap_or(HoldKinds::only(HoldKind::User))
+}
+
+fn alterations(alloc: Global, jobs: &[JobId], changes: Changes) -> Result<Vec<Command>, AllocError>
+    ensures { IfOk result (λ commands. commands.items ≡ map (λ job. Command.Alter job changes) jobs.now) }
+{
+    jobs.iter()
+        .map(|job| Command::Alter { job: *job, changes })
+        .collect(alloc)
+}
+
+fn holds(alloc: Global, jobs: &[JobId], kinds: HoldKinds) -> Result<Vec<Command>, AllocError>
+    ensures { IfOk result (λ commands. commands.items ≡ map (λ job. Command.Hold job kinds) jobs.now) }
+{
+    jobs.iter()
+        .map(|job| Command::Hold { job: *job, kinds })
+        .collect(alloc)
+}
+
+fn releases(alloc: Global, jobs: &[JobId], kinds: HoldKinds) -> Result<Vec<Command>, AllocError>
+    ensures { IfOk result (λ commands. commands.items ≡ map (λ job. Command.Release job kinds) jobs.now) }
+{
+    jobs.iter()
+        .map(|job| Command::Release { job: *job, kinds })
+        .collect(alloc)
+}
+
+fn deletions(alloc: Global, jobs: &[JobId]) -> Result<Vec<Command>, AllocError>
+    ensures { IfOk result (λ commands. commands.items ≡ map Command.Delete jobs.now) }
+{
+    jobs.iter()
+        .map(|job| Command::Delete { job: *job })
+        .collect(alloc)
+}
+
+/// The command that submits a job.
+fn submission(
+    alloc: Global,
+    roster: &Roster,
+    settings: &Settings,
+) -> Result<Vec<Command>, AllocError>
+    ensures { IfOk result (λ commands. commands.items ≡ Command.Submit (values_of roster.now settings.now) settings.now.held ∷ []) }
+{
+    let values = values(alloc, roster, settings)?;
+    Ok(vec![in alloc;
+        Command::Submit {
+            values,
+            held: settings.held
+        },
+    ]?)
+}
+
+/// The request of a utility.
+fn make_request(
+    alloc: Global,
+    roster: &Roster,
+    utility: Utility,
+    settings: &Settings,
+    jobs: Vec<JobId>,
+) -> Result<Request, AllocError>
+    ensures { IfOk result (λ request. asked_by request ≡ request_of roster.now utility settings.now jobs.items) }
+{
+    match utility {
+        Utility::Qsub => Ok(Request::Acts(submission(alloc, roster, settings)?)),
+        Utility::Qalter => Ok(Request::Acts(alterations(alloc, &jobs, changes(settings))?)),
+        Utility::Qhold => Ok(Request::Acts(holds(alloc, &jobs, kinds(settings))?)),
+        Utility::Qrls => Ok(Request::Acts(releases(alloc, &jobs, kinds(settings))?)),
+        Utility::Qdel => Ok(Request::Acts(deletions(alloc, &jobs)?)),
+        Utility::Qstat => Ok(Request::List {
+            full: settings.full,
+            jobs,
+        }),
+    }
+}
+
+/// What a utility is asked with these settings and operands.
+fn answer(
+    alloc: Global,
+    roster: &Roster,
+    here: SiteId,
+    utility: Utility,
+    settings: &Settings,
+    operands: &[&str],
+) -> Result<Request, UsageFault>
+    ensures { Gives asked_by result
+        (answer_map (request_of roster.now utility settings.now) (jobs_in roster.now here utility (words_of operands.now))) }
+{
+    let jobs = read_jobs(alloc, roster, here, utility, operands)?;
+    Ok(make_request(alloc, roster, utility, settings, jobs)?)
+}
+
+/// What the words of a utility ask, the first of which is its name, where they are read at the site `here`: commands, one
+/// for each job that the operands name or one that submits a job, or a listing. An operand without a site's name is a job
+/// of `here`. Of an option given twice the last counts, and a job named twice counts once, at its first place.
+///
+/// Words are read from left to right, a list of resources pair by pair and its sites name by name, and the first fault is
+/// answered; `UsageFault` says what each is. `MissingOperand` stands behind all options. `NoMemory` is answered where a
+/// growth was refused.
+pub fn read_words(
+    alloc: Global,
+    words: &[&str],
+    roster: &Roster,
+    here: SiteId,
+) -> Result<Request, UsageFault>
+    ensures { Gives asked_by result (request_in roster.now here (words_of words.now)) }
+{
+    let (name, others) = words.split_first().ok_or(UsageFault::UnknownUtility)?;
+    let utility = Utility::named(name).ok_or(UsageFault::UnknownUtility)?;
+    let Spelling { items, operands } = read_spelling(alloc, utility, others)?;
+    match read_settings(alloc, roster, &items) {
+        Ok(settings) => answer(alloc, roster, here, utility, &settings, operands?),
+        Err(fault) => Err(fault),
+    }
+}
