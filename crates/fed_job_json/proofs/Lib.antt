@@ -1,0 +1,9 @@
+pub mod StampLaws
+pub mod FieldLaws
+pub mod GrantLaws
+pub mod ProgressLaws
+pub mod PairLaws
+pub mod JobLaws
+pub mod PartLaws
+pub mod VersionReads
+pub mod JobReads

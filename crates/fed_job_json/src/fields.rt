@@ -1,0 +1,174 @@
+//! The fields of a job read from JSON values.
+ghost use Rattle.std.specs.Prelude.{◌≡◌, codes, Some};
+ghost use Rattle.serde_json.specs.View.{view};
+ghost use Rattle.fed_json.specs.Reading.{mapped};
+ghost use Rattle.fed_json.specs.Objects.{member_of};
+ghost use Rattle.fed_job_json.specs.Fields.{field_of, name_of, priority_of, nodes_of, limit_of, account_in};
+ghost use Rattle.fed_job_json.specs.Job.{account_of, names_of, numbers_of, fields_of};
+ghost use Rattle.fed_job_json.specs.Parts.{fields_value};
+
+use crate::formats::Format;
+use crate::parts::FieldParts;
+use crate::stamps::read_stamp;
+use fed_json::{Flaw, both, elements, integer, member, natural, text};
+use fed_record::{Account, Limit, MAX_LIMIT, MAX_PRIORITY, MIN_PRIORITY, Nodes, Priority};
+use fed_stamp::{MAX_NODES, Stamp, Word};
+use serde_json::Value;
+
+fn name(value: &Value) -> Result<Word, Flaw>
+    ensures { result ≡ name_of (view value.now) }
+{
+    Word::new(text(value)?).ok_or(Flaw::Range)
+}
+
+fn priority(value: &Value) -> Result<Priority, Flaw>
+    ensures { result ≡ priority_of (view value.now) }
+{
+    let number = integer(value)?;
+    if i128::from(MIN_PRIORITY) <= number && number <= i128::from(MAX_PRIORITY) {
+        Priority::new(number as i16).ok_or(Flaw::Range)
+    } else {
+        Err(Flaw::Range)
+    }
+}
+
+fn nodes(value: &Value) -> Result<Nodes, Flaw>
+    ensures { result ≡ nodes_of (view value.now) }
+{
+    Nodes::new(natural(value, 1, MAX_NODES)?).ok_or(Flaw::Range)
+}
+
+fn limit(value: &Value) -> Result<Limit, Flaw>
+    ensures { result ≡ limit_of (view value.now) }
+{
+    Limit::new(natural(value, 1, MAX_LIMIT)?).ok_or(Flaw::Range)
+}
+
+fn account(value: &Value) -> Result<Account, Flaw>
+    ensures { result ≡ account_in (view value.now) }
+{
+    Account::new(text(value)?).ok_or(Flaw::Range)
+}
+
+fn name_field(value: &Value) -> Result<(Stamp, Word), Flaw>
+    ensures { mapped (λ f. Some f) result ≡ field_of name_of (view value.now) }
+{
+    match elements(value)? {
+        [text, at] => {
+            let (name, stamp) = both(name(text), read_stamp(at))?;
+            Ok((stamp, name))
+        }
+        _ => Err(Flaw::Shape),
+    }
+}
+
+fn priority_field(value: &Value) -> Result<(Stamp, Priority), Flaw>
+    ensures { mapped (λ f. Some f) result ≡ field_of priority_of (view value.now) }
+{
+    match elements(value)? {
+        [number, at] => {
+            let (priority, stamp) = both(priority(number), read_stamp(at))?;
+            Ok((stamp, priority))
+        }
+        _ => Err(Flaw::Shape),
+    }
+}
+
+fn nodes_field(value: &Value) -> Result<(Stamp, Nodes), Flaw>
+    ensures { mapped (λ f. Some f) result ≡ field_of nodes_of (view value.now) }
+{
+    match elements(value)? {
+        [number, at] => {
+            let (nodes, stamp) = both(nodes(number), read_stamp(at))?;
+            Ok((stamp, nodes))
+        }
+        _ => Err(Flaw::Shape),
+    }
+}
+
+fn limit_field(value: &Value) -> Result<(Stamp, Limit), Flaw>
+    ensures { mapped (λ f. Some f) result ≡ field_of limit_of (view value.now) }
+{
+    match elements(value)? {
+        [number, at] => {
+            let (limit, stamp) = both(limit(number), read_stamp(at))?;
+            Ok((stamp, limit))
+        }
+        _ => Err(Flaw::Shape),
+    }
+}
+
+fn account_field(value: &Value) -> Result<(Stamp, Account), Flaw>
+    ensures { mapped (λ f. Some f) result ≡ field_of account_in (view value.now) }
+{
+    match elements(value)? {
+        [text, at] => {
+            let (account, stamp) = both(account(text), read_stamp(at))?;
+            Ok((stamp, account))
+        }
+        _ => Err(Flaw::Shape),
+    }
+}
+
+// The account; in format 1 the empty one that the submission set.
+fn account_member(job: &Value, format: Format) -> Result<(Stamp, Account), Flaw>
+    ensures { mapped (λ f. Some f) result ≡ account_of format (view job.now) }
+{
+    match format {
+        Format::One => Ok((read_stamp(member(job, "id")?)?, Account::EMPTY)),
+        Format::Two => account_field(member(job, "account")?),
+    }
+}
+
+fn owner_member(job: &Value) -> Result<(Stamp, Word), Flaw>
+    ensures { mapped (λ f. Some f) result ≡ member_of (codes "owner") (field_of name_of) (view job.now) }
+{
+    name_field(member(job, "owner")?)
+}
+
+fn name_member(job: &Value) -> Result<(Stamp, Word), Flaw>
+    ensures { mapped (λ f. Some f) result ≡ member_of (codes "name") (field_of name_of) (view job.now) }
+{
+    name_field(member(job, "name")?)
+}
+
+fn priority_member(job: &Value) -> Result<(Stamp, Priority), Flaw>
+    ensures { mapped (λ f. Some f) result ≡ member_of (codes "priority") (field_of priority_of) (view job.now) }
+{
+    priority_field(member(job, "priority")?)
+}
+
+fn nodes_member(job: &Value) -> Result<(Stamp, Nodes), Flaw>
+    ensures { mapped (λ f. Some f) result ≡ member_of (codes "nodes") (field_of nodes_of) (view job.now) }
+{
+    nodes_field(member(job, "nodes")?)
+}
+
+fn limit_member(job: &Value) -> Result<(Stamp, Limit), Flaw>
+    ensures { mapped (λ f. Some f) result ≡ member_of (codes "limit") (field_of limit_of) (view job.now) }
+{
+    limit_field(member(job, "limit")?)
+}
+
+// The fields, each beside its stamp.
+pub fn fields(job: &Value, format: Format) -> Result<FieldParts, Flaw>
+    ensures { mapped fields_value result ≡ fields_of format (view job.now) }
+{
+    let names = both(owner_member(job), name_member(job));
+    let numbers = both(nodes_member(job), limit_member(job));
+    let others = both(numbers, account_member(job, format));
+    match both(names, both(priority_member(job), others)) {
+        Ok(read) => {
+            let (names, (priority, (numbers, account))) = read;
+            Ok(FieldParts {
+                owner: names.0,
+                name: names.1,
+                priority,
+                nodes: numbers.0,
+                limit: numbers.1,
+                account,
+            })
+        }
+        Err(flaw) => Err(flaw),
+    }
+}

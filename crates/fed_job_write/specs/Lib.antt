@@ -1,0 +1,2 @@
+-- The members of a job's JSON value, put in one after another.
+pub mod Members

@@ -1,0 +1,172 @@
+//! The values of the parts of a job.
+ghost use Rattle.std.specs.Prelude.{◌≡◌, length, IfOk, None, Some};
+ghost use Rattle.serde_json.specs.Data.{string};
+ghost use Rattle.serde_json.specs.View.{view};
+ghost use Rattle.fed_json.specs.Numbers.{natural_value, integer_value};
+ghost use Rattle.fed_json.specs.Values.{pair_value};
+ghost use Rattle.fed_job_json.specs.Stamps.{stamp_value, version_value};
+ghost use Rattle.fed_job_json.specs.Fields.{field_value, account_value};
+ghost use Rattle.fed_job_json.specs.Grants.{stage_value, grant_value};
+ghost use Rattle.fed_job_json.specs.Progress.{done_value, progress_value};
+ghost use Rattle.fed_job_json.specs.Pairs.{kind_word, kind_value, holds_value, sites_value};
+
+use fed_job_json::Format;
+use fed_record::{
+    Account, Beginning, Ending, GrantStage, HoldKind, JobRecord, Limit, Nodes, Priority, Progress,
+};
+use fed_stamp::{SITES, SiteId, Stamp, Version, Word};
+use serde_json::{Value, json};
+use std::alloc::{AllocError, Global};
+
+/// A stamp.
+pub fn write_stamp(alloc: Global, stamp: Stamp) -> Result<Value, AllocError>
+    ensures { IfOk result (λ v. view v ≡ stamp_value stamp) }
+{
+    json!(in alloc; [stamp.counter(), stamp.site().get()])
+}
+
+/// A version.
+pub fn write_version(alloc: Global, version: &Version) -> Result<Value, AllocError>
+    requires { length version.now ≡ SITES }
+    ensures { IfOk result (λ v. view v ≡ version_value version.now) }
+{
+    let mut counters = Vec::new(alloc);
+    for number in 0..SITES as u8 {
+        let site = SiteId::new(number).unwrap();
+        counters.push(Value::from(version.get(site)))?;
+    }
+    Ok(Value::Array(counters))
+}
+
+pub(crate) fn name(alloc: Global, field: (Stamp, Word)) -> Result<Value, AllocError>
+    ensures { IfOk result (λ v. view v ≡ field_value string (Some field)) }
+{
+    let (at, name) = field;
+    json!(in alloc; [name.as_str(), write_stamp(alloc, at)?])
+}
+
+pub(crate) fn priority(alloc: Global, field: (Stamp, Priority)) -> Result<Value, AllocError>
+    ensures { IfOk result (λ v. view v ≡ field_value integer_value (Some field)) }
+{
+    let (at, priority) = field;
+    json!(in alloc; [priority.get(), write_stamp(alloc, at)?])
+}
+
+pub(crate) fn nodes(alloc: Global, field: (Stamp, Nodes)) -> Result<Value, AllocError>
+    ensures { IfOk result (λ v. view v ≡ field_value natural_value (Some field)) }
+{
+    let (at, nodes) = field;
+    json!(in alloc; [nodes.get(), write_stamp(alloc, at)?])
+}
+
+pub(crate) fn limit(alloc: Global, field: (Stamp, Limit)) -> Result<Value, AllocError>
+    ensures { IfOk result (λ v. view v ≡ field_value natural_value (Some field)) }
+{
+    let (at, limit) = field;
+    json!(in alloc; [limit.get(), write_stamp(alloc, at)?])
+}
+
+pub(crate) fn account(alloc: Global, field: (Stamp, Account)) -> Result<Value, AllocError>
+    ensures { IfOk result (λ v. view v ≡ field_value account_value (Some field)) }
+{
+    let (at, account) = field;
+    json!(in alloc; [account.as_str(), write_stamp(alloc, at)?])
+}
+
+fn stage(alloc: Global, stage: GrantStage) -> Result<Value, AllocError>
+    ensures { IfOk result (λ v. view v ≡ stage_value Format.Two stage) }
+{
+    match stage {
+        GrantStage::Open { term, stamp, site } => {
+            json!(in alloc; ["open", term.get(), write_stamp(alloc, stamp)?, site.get()])
+        }
+        GrantStage::Returned { term, stamp } => {
+            json!(in alloc; ["returned", term.get(), write_stamp(alloc, stamp)?])
+        }
+    }
+}
+
+pub(crate) fn grant(alloc: Global, grant: Option<GrantStage>) -> Result<Value, AllocError>
+    ensures { IfOk result (λ v. view v ≡ grant_value Format.Two grant) }
+{
+    match grant {
+        Some(grant) => stage(alloc, grant),
+        None => Ok(Value::Null),
+    }
+}
+
+fn begun(alloc: Global, begun: (Stamp, Beginning)) -> Result<Value, AllocError>
+    ensures { IfOk result (λ v. view v ≡ done_value (begun, None)) }
+{
+    let (at, begin) = begun;
+    let stamp = write_stamp(alloc, at)?;
+    json!(in alloc; ["begun", stamp, begin.moment.get(), begin.nodes.get(), begin.end])
+}
+
+fn finished(
+    alloc: Global,
+    begun: (Stamp, Beginning),
+    finished: (Stamp, Ending),
+) -> Result<Value, AllocError>
+    ensures { IfOk result (λ v. view v ≡ done_value (begun, Some finished)) }
+{
+    let (at, begin) = begun;
+    let (last, end) = finished;
+    let first = write_stamp(alloc, at)?;
+    let second = write_stamp(alloc, last)?;
+    json!(in alloc; [
+        "finished", first, begin.moment.get(), begin.nodes.get(), begin.end, second, end.moment.get(), end.status
+    ])
+}
+
+pub(crate) fn progress(alloc: Global, progress: Progress) -> Result<Value, AllocError>
+    ensures { IfOk result (λ v. view v ≡ progress_value (progress.begun, progress.finished)) }
+{
+    match (progress.begun, progress.finished) {
+        (None, _) => Ok(Value::Null),
+        (Some(begin), None) => begun(alloc, begin),
+        (Some(begin), Some(end)) => finished(alloc, begin, end),
+    }
+}
+
+fn word(kind: HoldKind) -> &'static str
+    ensures { result.now ≡ kind_word kind }
+{
+    match kind {
+        HoldKind::User => "u",
+        HoldKind::Operator => "o",
+        HoldKind::System => "s",
+    }
+}
+
+fn hold(alloc: Global, kind: HoldKind, stamp: Stamp) -> Result<Value, AllocError>
+    ensures { IfOk result (λ v. view v ≡ pair_value kind_value stamp_value (kind, stamp)) }
+{
+    json!(in alloc; [word(kind), write_stamp(alloc, stamp)?])
+}
+
+fn site(alloc: Global, site: SiteId, stamp: Stamp) -> Result<Value, AllocError>
+    ensures { IfOk result (λ v. view v ≡ pair_value natural_value stamp_value (site, stamp)) }
+{
+    json!(in alloc; [site.get(), write_stamp(alloc, stamp)?])
+}
+
+pub(crate) fn holds(alloc: Global, record: &JobRecord) -> Result<Value, AllocError>
+    ensures { IfOk result (λ v. view v ≡ holds_value record.now.holds) }
+{
+    let mut values = Vec::new(alloc);
+    for (kind, stamp) in record.hold_tags() {
+        values.push(hold(alloc, kind, stamp)?)?;
+    }
+    Ok(Value::Array(values))
+}
+
+pub(crate) fn sites(alloc: Global, record: &JobRecord) -> Result<Value, AllocError>
+    ensures { IfOk result (λ v. view v ≡ sites_value record.now.sites) }
+{
+    let mut values = Vec::new(alloc);
+    for (number, stamp) in record.site_tags() {
+        values.push(site(alloc, number, stamp)?)?;
+    }
+    Ok(Value::Array(values))
+}

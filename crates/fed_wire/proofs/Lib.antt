@@ -1,0 +1,13 @@
+pub mod ReservationLaws
+pub mod PacketLaws
+pub mod BoardLaws
+pub mod NameLaws
+pub mod EachLaws
+pub mod ReadLoops
+pub mod BodyLaws
+pub mod TextLaws
+pub mod WriteLaws
+pub mod PlainLaws
+pub mod RangeLaws
+pub mod StandingLaws
+pub mod LimitLaws

@@ -1,0 +1,280 @@
+-- What is read of operations whose values are in range is in range.
+use Rattle.std.specs.Prelude.{IfSome, is_some, nat_lt}
+use Rattle.std.specs.List.{AllByRecursion, list_any, list_all}
+use Rattle.std.specs.List.Sorted.{IsStrictlySortedBy}
+use Rattle.std.specs.Ordering.{is_lt, nat_cmp}
+use Rattle.std.specs.Cmp.{IsTotalOrder, nat_cmp_total}
+use Rattle.std.proofs.Common.{◌≡◌, ◌≤◌, ◌<◌, ℕ, zero, suc, List, [], ◌∷◌, Bool, true, false, ◌&&◌, Option, Some, None, Ordering, Less, refl, sym, ap, subst, ◌∙◌, arith, inl, inr}
+use Rattle.std.proofs.lemmas.Bool.{and_parts, and_from, ltb-true}
+use Rattle.std.proofs.lemmas.Map.Lookups.{CmpEqualImpliesEq, exact_unsigned}
+use Rattle.fed_stamp.specs.Stamp.{StampValue}
+use Rattle.fed_stamp.specs.Version.{counter_of}
+use Rattle.fed_stamp.specs.declared.rosters.TheConstants.{MAX_NODES}
+use Rattle.fed_stamp.specs.declared.stamps.TheConstants.{MAX_COUNTER}
+use Rattle.fed_lattice.specs.Sets.{Has}
+use Rattle.fed_lattice.specs.SetLaws.{found}
+use Rattle.fed_lattice.specs.History.{History}
+use Rattle.fed_lattice.specs.VersionOf.{version_of}
+use Rattle.fed_lattice.proofs.FilterLaws.{Has-filter, filter-Has}
+use Rattle.fed_lattice.proofs.VersionOfLaws.{length-version_of, version_of-most}
+use Rattle.fed_tags.specs.Tags.{pair_cmp, has}
+use Rattle.fed_tags.specs.TagLaws.{pair_total, exact_pair, has_member}
+use Rattle.fed_record.specs.declared.grants.GrantStage.{GrantStage}
+use Rattle.fed_record.specs.declared.holds.HoldKind.{HoldKind}
+use Rattle.fed_record.specs.declared.limits.TheConstants.{MAX_LIMIT}
+use Rattle.fed_record.specs.declared.progress.Beginning.{Beginning}
+use Rattle.fed_record.specs.declared.progress.Ending.{Ending}
+use Rattle.fed_record.specs.declared.windows.Window.{Window}
+use Rattle.fed_record.specs.Body.{Body, Body.Submit, Body.Set, Body.Hold, Body.Release, Body.Delete, Body.Grant, Body.HandBack, Body.Begin, Body.Finish, Body.Reserve, Body.Cancel, same_stamp, is_of_job, of_job}
+use Rattle.fed_record.specs.Field.{owner_in, name_in, priority_in, nodes_in, limit_in, account_in, begin_in, finish_in, window_in, field}
+use Rattle.fed_record.specs.Grant.{grant_in, grant_stage}
+use Rattle.fed_record.specs.Pairs.{adds_pair, adds_site, adds_hold, is_live, is_site_named}
+use Rattle.fed_record.proofs.FoundLaws.{field_found, grant_found, said_found}
+use Rattle.fed_record.proofs.PairLaws.{same_stamp_is, same_stamp_itself}
+use Rattle.fed_board.specs.Lawful.{IsLawful}
+use Rattle.fed_json.specs.Numbers.{IsFrom}
+use Rattle.fed_job_json.specs.declared.formats.Format.TheVariants.{Two}
+use Rattle.fed_job_json.specs.Fields.{IsField, IsName, IsPriority, IsAccount}
+use Rattle.fed_job_json.specs.Grants.{IsStage, IsGrant}
+use Rattle.fed_job_json.specs.Pairs.{ascends, ArePairs}
+use Rattle.fed_job_json.specs.Progress.{IsBegun, IsProgress}
+use Rattle.fed_job_json.specs.Stamps.{IsSite, IsStamp, IsVersion}
+use Rattle.fed_wire.specs.Limits.{IsBeginning, IsEnding, IsInRange, IsWithinLimits}
+use Rattle.fed_wire.specs.Reservations.{IsWindow}
+
+-- ---- what an operation says
+
+pub owner_ranged : (body : Body) → IsInRange body → IfSome (owner_in body) IsName
+owner_ranged (Submit owner values held) r = r.0
+owner_ranged (Set job changes removed) r = tt
+owner_ranged (Hold job kinds) r = tt
+owner_ranged (Release job removed) r = tt
+owner_ranged (Delete job) r = tt
+owner_ranged (Grant job site term) r = tt
+owner_ranged (HandBack job term) r = tt
+owner_ranged (Begin job beginning) r = tt
+owner_ranged (Finish job ending) r = tt
+owner_ranged (Reserve window) r = tt
+owner_ranged (Cancel name) r = tt
+
+pub name_ranged : (body : Body) → IsInRange body → IfSome (name_in body) IsName
+name_ranged (Submit owner values held) r = r.1.name
+name_ranged (Set job changes removed) r = r.name
+name_ranged (Hold job kinds) r = tt
+name_ranged (Release job removed) r = tt
+name_ranged (Delete job) r = tt
+name_ranged (Grant job site term) r = tt
+name_ranged (HandBack job term) r = tt
+name_ranged (Begin job beginning) r = tt
+name_ranged (Finish job ending) r = tt
+name_ranged (Reserve window) r = tt
+name_ranged (Cancel name) r = tt
+
+pub priority_ranged : (body : Body) → IsInRange body → IfSome (priority_in body) IsPriority
+priority_ranged (Submit owner values held) r = r.1.priority
+priority_ranged (Set job changes removed) r = r.priority
+priority_ranged (Hold job kinds) r = tt
+priority_ranged (Release job removed) r = tt
+priority_ranged (Delete job) r = tt
+priority_ranged (Grant job site term) r = tt
+priority_ranged (HandBack job term) r = tt
+priority_ranged (Begin job beginning) r = tt
+priority_ranged (Finish job ending) r = tt
+priority_ranged (Reserve window) r = tt
+priority_ranged (Cancel name) r = tt
+
+pub nodes_ranged : (body : Body) → IsInRange body → IfSome (nodes_in body) (IsFrom 1 MAX_NODES)
+nodes_ranged (Submit owner values held) r = r.1.nodes
+nodes_ranged (Set job changes removed) r = r.nodes
+nodes_ranged (Hold job kinds) r = tt
+nodes_ranged (Release job removed) r = tt
+nodes_ranged (Delete job) r = tt
+nodes_ranged (Grant job site term) r = tt
+nodes_ranged (HandBack job term) r = tt
+nodes_ranged (Begin job beginning) r = tt
+nodes_ranged (Finish job ending) r = tt
+nodes_ranged (Reserve window) r = tt
+nodes_ranged (Cancel name) r = tt
+
+pub limit_ranged : (body : Body) → IsInRange body → IfSome (limit_in body) (IsFrom 1 MAX_LIMIT)
+limit_ranged (Submit owner values held) r = r.1.limit
+limit_ranged (Set job changes removed) r = r.limit
+limit_ranged (Hold job kinds) r = tt
+limit_ranged (Release job removed) r = tt
+limit_ranged (Delete job) r = tt
+limit_ranged (Grant job site term) r = tt
+limit_ranged (HandBack job term) r = tt
+limit_ranged (Begin job beginning) r = tt
+limit_ranged (Finish job ending) r = tt
+limit_ranged (Reserve window) r = tt
+limit_ranged (Cancel name) r = tt
+
+pub account_ranged : (body : Body) → IsInRange body → IfSome (account_in body) IsAccount
+account_ranged (Submit owner values held) r = r.1.account
+account_ranged (Set job changes removed) r = r.account
+account_ranged (Hold job kinds) r = tt
+account_ranged (Release job removed) r = tt
+account_ranged (Delete job) r = tt
+account_ranged (Grant job site term) r = tt
+account_ranged (HandBack job term) r = tt
+account_ranged (Begin job beginning) r = tt
+account_ranged (Finish job ending) r = tt
+account_ranged (Reserve window) r = tt
+account_ranged (Cancel name) r = tt
+
+begin_ranged : (body : Body) → IsInRange body → IfSome (begin_in body) IsBeginning
+begin_ranged (Submit owner values held) r = tt
+begin_ranged (Set job changes removed) r = tt
+begin_ranged (Hold job kinds) r = tt
+begin_ranged (Release job removed) r = tt
+begin_ranged (Delete job) r = tt
+begin_ranged (Grant job site term) r = tt
+begin_ranged (HandBack job term) r = tt
+begin_ranged (Begin job beginning) r = r
+begin_ranged (Finish job ending) r = tt
+begin_ranged (Reserve window) r = tt
+begin_ranged (Cancel name) r = tt
+
+finish_ranged : (body : Body) → IsInRange body → IfSome (finish_in body) IsEnding
+finish_ranged (Submit owner values held) r = tt
+finish_ranged (Set job changes removed) r = tt
+finish_ranged (Hold job kinds) r = tt
+finish_ranged (Release job removed) r = tt
+finish_ranged (Delete job) r = tt
+finish_ranged (Grant job site term) r = tt
+finish_ranged (HandBack job term) r = tt
+finish_ranged (Begin job beginning) r = tt
+finish_ranged (Finish job ending) r = r
+finish_ranged (Reserve window) r = tt
+finish_ranged (Cancel name) r = tt
+
+pub window_ranged : (body : Body) → IsInRange body → IfSome (window_in body) (λ w. IfSome w IsWindow)
+window_ranged (Submit owner values held) r = tt
+window_ranged (Set job changes removed) r = tt
+window_ranged (Hold job kinds) r = tt
+window_ranged (Release job removed) r = tt
+window_ranged (Delete job) r = tt
+window_ranged (Grant job site term) r = tt
+window_ranged (HandBack job term) r = tt
+window_ranged (Begin job beginning) r = tt
+window_ranged (Finish job ending) r = tt
+window_ranged (Reserve window) r = r
+window_ranged (Cancel name) r = tt
+
+grant_ranged : (t : StampValue) (body : Body) → IsStamp t → IsInRange body → IfSome (grant_in (t, body)) (IsStage Two)
+grant_ranged t (Submit owner values held) s r = tt
+grant_ranged t (Set job changes removed) s r = tt
+grant_ranged t (Hold job kinds) s r = tt
+grant_ranged t (Release job removed) s r = tt
+grant_ranged t (Delete job) s r = tt
+grant_ranged t (Grant job to term) s r = (r.1, s, r.0)
+grant_ranged t (HandBack job term) s r = (r, s)
+grant_ranged t (Begin job beginning) s r = tt
+grant_ranged t (Finish job ending) s r = tt
+grant_ranged t (Reserve window) s r = tt
+grant_ranged t (Cancel name) s r = tt
+
+one_of_16 : (site : ℕ) (b : Bool) → (nat_lt site 16 && b) ≡ true → IsSite site
+one_of_16 site b e = let small : site < 16 = ltb-true site 16 (and_parts (nat_lt site 16) b e).0 in (omega arith, omega arith)
+
+named_site : (sites : Option (List Bool)) (site : ℕ) → is_site_named sites site ≡ true → IsSite site
+named_site None site e = cc
+named_site (Some sites) site e = one_of_16 site _ e
+
+-- a site that an operation adds is one of the 16
+pub added_site : (body : Body) (site : ℕ) → adds_site body site ≡ true → IsSite site
+added_site (Submit owner values held) site e = one_of_16 site _ e
+added_site (Set job changes removed) site e = named_site changes.sites site e
+added_site (Hold job kinds) site e = cc
+added_site (Release job removed) site e = cc
+added_site (Delete job) site e = cc
+added_site (Grant job to term) site e = cc
+added_site (HandBack job term) site e = cc
+added_site (Begin job beginning) site e = cc
+added_site (Finish job ending) site e = cc
+added_site (Reserve window) site e = cc
+added_site (Cancel name) site e = cc
+
+-- what ascends does so by the test of packets
+less : {A : Type 0} (R : A → A → Ordering) (x : A) (ys : List A) → AllByRecursion (λ y. R x y ≡ Less) ys → list_all (λ y. is_lt (R x y)) ys ≡ true
+less R x [] h = refl
+less R x (y ∷ ys) h = and_from _ _ (ap is_lt h.0) (less R x ys h.1)
+
+ascend : {A : Type 0} (R : A → A → Ordering) (xs : List A) → IsStrictlySortedBy R xs → ascends R xs ≡ true
+unfolding IsStrictlySortedBy
+ascend R [] s = refl
+ascend R (x ∷ xs) s = and_from _ _ (less R x xs s.0) (ascend R xs s.1)
+
+-- ---- what is read of the operations of one job or of one reservation
+module _ (ops all : History Body) (within : IsWithinLimits all) (part_of : (e : StampValue × Body) → Has ops e → Has all e) where
+  pub field_ranged : {T : Type 0} (says : Body → Option T) (P : T → Type 0) → ((body : Body) → IsInRange body → IfSome (says body) P)
+      → (c : StampValue × T) → field says ops ≡ Some c → IsStamp c.0 × P c.1
+  field_ranged says P law c e =
+      let f = field_found says ops c e in
+      let h = part_of (c.0, f.0) f.1 in
+      (within.stamps (c.0, f.0) h, subst (λ o. IfSome o P) f.2 (law f.0 (within.values (c.0, f.0) h)))
+
+  pub set_field : {T : Type 0} (says : Body → Option T) (P : T → Type 0) → ((body : Body) → IsInRange body → IfSome (says body) P)
+      → (o : Option (StampValue × T)) → field says ops ≡ o → is_some o ≡ true → IsField P o
+  set_field says P law None e s = cc
+  set_field says P law (Some c) e s = field_ranged says P law c e
+
+  pub grant_is : (o : Option GrantStage) → grant_stage ops ≡ o → IsGrant Two o
+  grant_is None e = tt
+  grant_is (Some g) e =
+      let f = grant_found ops g e in
+      let h = part_of f.0 f.1 in
+      subst (λ o. IfSome o (IsStage Two)) f.2 (grant_ranged f.0.0 f.0.1 (within.stamps f.0 h) (within.values f.0 h))
+
+  pub version_is : IsVersion (version_of ops)
+  version_is = (length-version_of ops, counters (version_of ops) (λ i. version_of-most ops i MAX_COUNTER (λ e h at. (within.stamps e (part_of e h)).0.1))) where
+    counters : (v : List ℕ) → ((i : ℕ) → counter_of v i ≤ MAX_COUNTER) → AllByRecursion (IsFrom 0 MAX_COUNTER) v
+    counters [] f = tt
+    counters (c ∷ v) f = ((omega arith, f 0), counters v (λ i. f (suc i)))
+
+  module _ {E : Type 0} (adds : Body → E → Bool) (removes : Body → E → StampValue → Bool) (InRange : E → Type 0) (law : (body : Body) (element : E) → adds body element ≡ true → InRange element) where
+    live_ranged : (element : E) (tag : StampValue) → is_live adds removes ops element tag ≡ true → InRange element × IsStamp tag
+    live_ranged element tag e =
+        let f = found (adds_pair adds removes element tag) ops (and_parts (list_any (adds_pair adds removes element tag) ops) _ e).0 in
+        let p = and_parts (same_stamp f.0.0 tag) (adds f.0.1 element) f.2 in
+        (law f.0.1 element p.1, subst IsStamp (same_stamp_is f.0.0 tag p.0) (within.stamps f.0 (part_of f.0 f.1)))
+
+    -- the pairs of a record that reads as the operations do
+    pub pairs_are : (cmp : E → E → Ordering) → IsTotalOrder cmp → CmpEqualImpliesEq cmp → (ps : List (E × StampValue)) → IsStrictlySortedBy (pair_cmp cmp) ps
+        → ((element : E) (tag : StampValue) → has (pair_cmp cmp) ps (element, tag) ≡ is_live adds removes ops element tag) → ArePairs InRange cmp ps
+    pairs_are cmp o exact ps sorted reads = (each ps (λ p h. h), ascend (pair_cmp cmp) ps sorted) where
+      each : (qs : List (E × StampValue)) → ((p : E × StampValue) → Has qs p → Has ps p) → AllByRecursion (λ p. InRange p.0 × IsStamp p.1) qs
+      each [] f = tt
+      each (q ∷ qs) f = (
+        live_ranged q.0 q.1 (sym (reads q.0 q.1) ∙ has_member (pair_cmp cmp) (pair_total cmp o) (exact_pair cmp exact) q ps (f q (inl refl))),
+        each qs (λ p h. f p (inr h)),
+      )
+
+-- ---- the Begin and the Finish of a job
+module _ (all : History Body) (lawful : IsLawful all) (within : IsWithinLimits all) (job : StampValue) where
+  abbrev mine : History Body
+  mine = of_job job all
+
+  pub of_all : (e : StampValue × Body) → Has mine e → Has all e
+  of_all e h = (Has-filter (is_of_job job) all e h).0
+
+  begun_is : (b : StampValue × Beginning) → field begin_in mine ≡ Some b → IsBegun b
+  begun_is b p = let r = field_ranged mine all within of_all begin_in IsBeginning begin_ranged b p in (r.0, r.1.0, r.1.1, r.1.2, r.1.3)
+
+  finish_body : (body : Body) (ending : Ending) → finish_in body ≡ Some ending → (name : StampValue) × (body ≡ Finish name ending)
+  finish_body (Finish name other) ending e = let s : other ≡ ending = cc in (name, ap (Finish name) s)
+  finish_body _ ending e = cc
+
+  -- a job is finished only where it is begun
+  pub progress_is : (b : Option (StampValue × Beginning)) (f : Option (StampValue × Ending)) → field begin_in mine ≡ b → field finish_in mine ≡ f → IsProgress (b, f)
+  progress_is None None p q = tt
+  progress_is None (Some f) p q =
+      let s = field_found finish_in mine f q in
+      let name = finish_body s.0 f.1 s.2 in
+      let h = Has-filter (is_of_job job) all (f.0, s.0) s.1 in
+      let same : name.0 ≡ job = same_stamp_is name.0 job (subst (λ (body : Body). is_of_job job (f.0, body) ≡ true) name.1 h.1) in
+      let g = (lawful.grounded (f.0, Finish name.0 f.1) (subst (λ (body : Body). Has all (f.0, body)) name.1 h.0)).1 in
+      let begun : Has mine (g.0, Begin name.0 g.1) = filter-Has (is_of_job job) all (g.0, Begin name.0 g.1) g.2 (subst (λ (j : StampValue). same_stamp name.0 j ≡ true) same (same_stamp_itself name.0)) in
+      absurd (let e : false ≡ true = sym (ap is_some p) ∙ said_found begin_in g.1 mine g.0 (Begin name.0 g.1) begun refl in cc)
+  progress_is (Some b) None p q = begun_is b p
+  progress_is (Some b) (Some f) p q = (begun_is b p, let r = field_ranged mine all within of_all finish_in IsEnding finish_ranged f q in (r.0, r.1.0, r.1.1))

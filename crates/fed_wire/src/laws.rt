@@ -1,0 +1,33 @@
+//! Which packets are within limits. The function does nothing: its contract is the law.
+ghost use Rattle.std.specs.Prelude.{◌≡◌, ℕ, List};
+ghost use Rattle.fed_stamp.specs.Version.{met};
+ghost use Rattle.fed_lattice.specs.History.{History};
+ghost use Rattle.fed_lattice.specs.VersionOf.{version_of};
+ghost use Rattle.fed_record.specs.Body.{Body};
+ghost use Rattle.fed_board.specs.Board.{reads};
+ghost use Rattle.fed_board.specs.Lawful.{IsLawful};
+ghost use Rattle.fed_board.specs.View.{view};
+ghost use Rattle.fed_delta.specs.Cut.{cut};
+ghost use Rattle.fed_job_json.specs.declared.formats.Format.TheVariants.{Two};
+ghost use Rattle.fed_wire.specs.Limits.{IsWithinLimits};
+ghost use Rattle.fed_wire.specs.Packet.{IsPacket};
+
+use crate::packets::Packet;
+
+/// A packet of what a board tells is within limits in format 2, where the board stands for a lawful set of operations
+/// whose values are in range and of whose jobs and reservations no site has named too many. So its text is read as the
+/// packet again (`written_packets_are_read_again`).
+pub fn told_packets_are_within_limits(packet: &Packet)
+    ensures { (ops : History Body) (seen : List ℕ) → IsLawful ops → IsWithinLimits ops →
+        packet.now.delta.need ≡ met seen (version_of ops) →
+        reads packet.now.delta.changes ≡ cut (view ops) packet.now.delta.need → IsPacket Two packet.now }
+{
+    // What is known of the values of a packet, which the law rests on.
+    let _sender = packet.sender().get();
+    let need = packet.delta().need();
+    let _needed = need.counters();
+    let reached = packet.delta().reached();
+    let _reached = reached.counters();
+    let _jobs = packet.delta().changes().jobs();
+    let _reservations = packet.delta().changes().reservations();
+}

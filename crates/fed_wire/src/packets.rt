@@ -1,0 +1,61 @@
+//! Packets.
+ghost use Rattle.std.specs.Prelude.{◌≡◌, ◌↔◌, IsTrue};
+
+use fed_delta::Delta;
+use fed_stamp::SiteId;
+use std::marker::Model;
+
+/// What a site tells another: a delta of its board.
+#[derive(Drop)]
+pub struct Packet {
+    sender: SiteId,
+    delta: Delta,
+}
+
+impl Model for Packet {
+    ghost use Rattle.fed_wire.specs.Packet.{PacketValue};
+
+    ghost Value = { PacketValue };
+
+    ghost view = { λ p. record { sender = p.sender; delta = p.delta } };
+}
+
+impl Packet {
+    /// The packet of the delta that the site sends.
+    pub fn new(sender: SiteId, delta: Delta) -> Packet
+        ensures sender { result.sender ≡ sender }
+        ensures delta { result.delta ≡ delta }
+    {
+        Packet { sender, delta }
+    }
+
+    /// The site that sends it.
+    pub fn sender(&self) -> SiteId
+        ensures { result ≡ self.now.sender }
+    {
+        self.sender
+    }
+
+    /// What it tells.
+    pub fn delta(&self) -> &Delta
+        ensures { result.now ≡ self.now.delta }
+    {
+        &self.delta
+    }
+}
+
+/// Packets are equal exactly where they are identical: where their senders and their deltas are.
+impl PartialEq for Packet {
+    ghost use Rattle.fed_wire.specs.PacketLaws.{same_packet, packet_laws};
+
+    ghost eq = { same_packet };
+
+    ghost laws = { packet_laws };
+
+    fn eq(&self, other: &Self) -> bool
+        ensures by_parts { result ≡ same_packet self.now other.now }
+        ensures same { IsTrue result ↔ (self.now ≡ other.now) }
+    {
+        self.sender == other.sender && self.delta == other.delta
+    }
+}

@@ -1,0 +1,148 @@
+//! Reservations read from JSON values.
+ghost use Rattle.std.specs.Prelude.{◌≡◌, ◌&&◌, [], codes, map, Some, IsSome};
+ghost use Rattle.serde_json.specs.View.{view};
+ghost use Rattle.fed_json.specs.Numbers.{natural_in};
+ghost use Rattle.fed_json.specs.Objects.{member_of};
+ghost use Rattle.fed_json.specs.Reading.{mapped};
+ghost use Rattle.fed_job_json.specs.Fields.{field_of};
+ghost use Rattle.fed_job_json.specs.Stamps.{stamp_of};
+ghost use Rattle.fed_stamp.specs.Version.{covers};
+ghost use Rattle.fed_wire.specs.declared.faults.Part.TheVariants.{Reservations as TheReservations};
+ghost use Rattle.fed_wire.specs.Faults.{Gives};
+ghost use Rattle.fed_wire.specs.Packet.{covers_window, reservation_stands};
+ghost use Rattle.fed_wire.specs.Reading.{each_in, array_in};
+ghost use Rattle.fed_wire.specs.Reservations.{times_of, window_of, reservation_of};
+
+use crate::faults::{Part, Place, WireFault};
+use crate::names::Names;
+use fed_board::MAX_RESERVATIONS;
+use fed_job_json::{read_site, read_stamp};
+use fed_json::{Flaw, both, elements, has_names, member, natural};
+use fed_lattice::{Causal, Table};
+use fed_record::{MAX_MOMENT, Reservation, Window};
+use fed_stamp::{MAX_NODES, Stamp, Version};
+use serde_json::Value;
+use std::alloc::Global;
+
+fn times(value: &Value) -> Result<Window, Flaw>
+    ensures { result ≡ times_of (view value.now) }
+{
+    match elements(value)? {
+        [site, start, end, nodes] => {
+            let numbers = both(natural(end, 0, MAX_MOMENT), natural(nodes, 1, MAX_NODES));
+            let others = both(natural(start, 0, MAX_MOMENT), numbers);
+            let (site, (start, (end, nodes))) = both(read_site(site), others)?;
+            if start >= end {
+                return Err(Flaw::Range);
+            }
+            Ok(Window {
+                site,
+                start,
+                end,
+                nodes,
+            })
+        }
+        _ => Err(Flaw::Shape),
+    }
+}
+
+fn window(value: &Value) -> Result<Option<Window>, Flaw>
+    ensures { result ≡ window_of (view value.now) }
+{
+    if value.is_null() {
+        return Ok(None);
+    }
+    Ok(Some(times(value)?))
+}
+
+fn window_field(value: &Value) -> Result<(Stamp, Option<Window>), Flaw>
+    ensures { mapped (λ f. Some f) result ≡ field_of window_of (view value.now) }
+{
+    match elements(value)? {
+        [times, at] => {
+            let (window, stamp) = both(window(times), read_stamp(at))?;
+            Ok((stamp, window))
+        }
+        _ => Err(Flaw::Shape),
+    }
+}
+
+fn latest(value: &Value) -> Result<Reservation, Flaw>
+    ensures { result ≡ member_of (codes "window") (field_of window_of) (view value.now) }
+{
+    let (stamp, window) = window_field(member(value, "window")?)?;
+    Ok(Reservation::from_parts(stamp, window))
+}
+
+fn id(value: &Value) -> Result<Stamp, Flaw>
+    ensures { result ≡ member_of (codes "id") stamp_of (view value.now) }
+{
+    read_stamp(member(value, "id")?)
+}
+
+/// The name of the reservation, and what is read of it.
+#[tactic(auto, unfolding(crate::specs::Reservations::reservation_of))]
+pub fn reservation(value: &Value) -> Result<(Stamp, Reservation), Flaw>
+    ensures { result ≡ reservation_of (view value.now) }
+{
+    if !has_names(value, &["id", "window"]) {
+        return Err(Flaw::Shape);
+    }
+    both(id(value), latest(value))
+}
+
+// Whether the version covers the name and the greatest stamp.
+fn is_covered(reached: &Version, name: Stamp, reservation: &Reservation) -> bool
+    requires { IsSome reservation.now }
+    ensures { result ≡ (covers reached.now name && covers_window reached.now reservation.now) }
+{
+    reached.covers(name) && reached.covers(reservation.stamp())
+}
+
+fn all_reservations(
+    alloc: Global,
+    values: &[Value],
+    reached: &Version,
+) -> Result<Table<Stamp, Reservation>, WireFault>
+    ensures { Gives (each_in TheReservations reservation_of (reservation_stands reached.now) [] (map view values.now)) result }
+{
+    let mut names = Names::new();
+    let mut reservations = Table::bottom(alloc);
+    for (index, value) in values.iter().enumerate() {
+        let place = Place {
+            part: Part::Reservations,
+            index,
+        };
+        match reservation(value) {
+            Ok(entry) => {
+                let (id, reservation) = entry;
+                if !names.admit(MAX_RESERVATIONS, id) || !is_covered(reached, id, &reservation) {
+                    return Err(WireFault::Range { place });
+                }
+                reservations.insert(id, reservation)?;
+            }
+            Err(Flaw::Shape) => return Err(WireFault::Shape { place }),
+            Err(Flaw::Range) => return Err(WireFault::Range { place }),
+        }
+    }
+    Ok(reservations)
+}
+
+/// The reservations of a packet that reaches the version.
+pub(crate) fn reservations(
+    alloc: Global,
+    value: &Value,
+    reached: &Version,
+) -> Result<Table<Stamp, Reservation>, WireFault>
+    ensures { Gives (array_in TheReservations reservation_of (reservation_stands reached.now) (view value.now)) result }
+{
+    match elements(value) {
+        Ok(values) => all_reservations(alloc, values, reached),
+        Err(_) => Err(WireFault::Shape {
+            place: Place {
+                part: Part::Reservations,
+                index: 0,
+            },
+        }),
+    }
+}

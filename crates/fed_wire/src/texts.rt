@@ -1,0 +1,59 @@
+//! Packets as text.
+ghost use Rattle.std.specs.Prelude.{◌≡◌, Some, Ok, IfOk};
+ghost use Rattle.serde_json.specs.Written.{compact_text};
+ghost use Rattle.fed_job_json.specs.declared.formats.Format.TheVariants.{Two};
+ghost use Rattle.fed_job_json.specs.declared.formats.Format.{Format as AFormat};
+ghost use Rattle.fed_wire.specs.Faults.{Gives};
+ghost use Rattle.fed_wire.specs.Packet.{PacketValue, IsPacket, packet_value};
+ghost use Rattle.fed_wire.specs.Reading.{text_value, packet_in};
+
+use crate::bodies::packet;
+use crate::faults::WireFault;
+use crate::packets::Packet;
+use crate::writing::packet_value as value_of_packet;
+use fed_lattice::NoMemory;
+use serde_json::Value;
+use std::alloc::Global;
+
+// The packet of the text, or its first fault.
+fn packet_in_text(alloc: Global, bytes: &[u8]) -> Result<Packet, WireFault>
+    ensures { Gives (packet_in bytes.now) result }
+{
+    match Value::from_slice(alloc, bytes) {
+        Ok(value) => packet(alloc, &value),
+        Err(error) => {
+            if error.is_memory() {
+                return Err(WireFault::NoMemory);
+            }
+            Err(WireFault::NotJson)
+        }
+    }
+}
+
+/// The packet that the text of either format is of. The bytes are accepted exactly where they are read as the JSON value
+/// of a packet within limits; else the fault is the first in the order of the checks. `NoMemory` is answered only where
+/// a growth was refused.
+pub fn read(alloc: Global, bytes: &[u8]) -> Result<Packet, WireFault>
+    ensures found { IfOk result (λ p. (format : AFormat) × IsPacket format p × (text_value bytes.now ≡ Some (packet_value format p))) }
+    ensures only { (format : AFormat) (p : PacketValue) → IsPacket format p → text_value bytes.now ≡ Some (packet_value format p) → Gives (Ok p) result }
+    ensures exact { Gives (packet_in bytes.now) result }
+{
+    packet_in_text(alloc, bytes)
+}
+
+/// The format 2 text of the packet, with no space.
+pub fn write(alloc: Global, packet: &Packet) -> Result<Vec<u8>, NoMemory>
+    ensures text { IfOk result (λ b. b.items ≡ compact_text (packet_value Two packet.now)) }
+    ensures again { IfOk result (λ b. text_value b.items ≡ Some (packet_value Two packet.now)) }
+{
+    let value = value_of_packet(alloc, packet)?;
+    Ok(value.to_vec(alloc)?)
+}
+
+/// A packet within limits is read of its text again, unless a growth is refused.
+pub fn written_packets_are_read_again(alloc: Global, packet: &Packet) -> Result<Packet, WireFault>
+    ensures { IsPacket Two packet.now → Gives (Ok packet.now) result }
+{
+    let text = write(alloc, packet)?;
+    read(alloc, &text)
+}

@@ -1,0 +1,95 @@
+//! Packets written as JSON values of format 2.
+ghost use Rattle.std.specs.Prelude.{◌≡◌, IsSome, IfOk, map};
+ghost use Rattle.serde_json.specs.View.{view};
+ghost use Rattle.fed_json.specs.Values.{list_value};
+ghost use Rattle.fed_job_json.specs.declared.formats.Format.TheVariants.{Two};
+ghost use Rattle.fed_job_json.specs.Job.{job_value};
+ghost use Rattle.fed_wire.specs.Packet.{packet_value as value_of};
+ghost use Rattle.fed_wire.specs.Reservations.{window_value, reservation_value};
+
+use crate::packets::Packet;
+use fed_delta::Delta;
+use fed_job_write::{write_job, write_stamp, write_version};
+use fed_record::{Reservation, Window};
+use fed_stamp::Stamp;
+use serde_json::{Map, Value, json, put};
+use std::alloc::{AllocError, Global};
+
+fn window(alloc: Global, window: Option<Window>) -> Result<Value, AllocError>
+    ensures { IfOk result (λ v. view v ≡ window_value window) }
+{
+    match window {
+        Some(window) => {
+            json!(in alloc; [window.site.get(), window.start, window.end, window.nodes])
+        }
+        None => Ok(Value::Null),
+    }
+}
+
+fn reservation(alloc: Global, name: Stamp, reserved: &Reservation) -> Result<Value, AllocError>
+    requires { IsSome reserved.now }
+    ensures { IfOk result (λ v. view v ≡ reservation_value (name, reserved.now)) }
+{
+    let window = window(alloc, reserved.window())?;
+    let latest = json!(in alloc; [window, write_stamp(alloc, reserved.stamp())?])?;
+    json!(in alloc; {
+        "id": write_stamp(alloc, name)?,
+        "window": latest
+    })
+}
+
+fn reservations(alloc: Global, delta: &Delta) -> Result<Value, AllocError>
+    ensures { IfOk result (λ v. view v ≡ list_value (map reservation_value delta.now.changes.reservations)) }
+{
+    let mut values = Vec::new(alloc);
+    for (name, reserved) in delta.reservations() {
+        values.push(reservation(alloc, *name, reserved)?)?;
+    }
+    Ok(Value::Array(values))
+}
+
+fn jobs(alloc: Global, delta: &Delta) -> Result<Value, AllocError>
+    ensures { IfOk result (λ v. view v ≡ list_value (map (job_value Two) delta.now.changes.jobs)) }
+{
+    let _reached = delta.reached();
+    let mut values = Vec::new(alloc);
+    for (id, job) in delta.jobs() {
+        values.push(write_job(alloc, *id, job)?)?;
+    }
+    Ok(Value::Array(values))
+}
+
+/// The format 2 value of the packet.
+pub(crate) fn packet_value(alloc: Global, packet: &Packet) -> Result<Value, AllocError>
+    ensures { IfOk result (λ v. view v ≡ value_of Two packet.now) }
+{
+    let delta = packet.delta();
+    let mut members = Map::new(alloc);
+    put(&mut members, alloc, "format", Value::from(2u64))?;
+    put(&mut members, alloc, "jobs", jobs(alloc, delta)?)?;
+    put(
+        &mut members,
+        alloc,
+        "need",
+        write_version(alloc, &delta.need())?,
+    )?;
+    put(
+        &mut members,
+        alloc,
+        "reached",
+        write_version(alloc, &delta.reached())?,
+    )?;
+    put(
+        &mut members,
+        alloc,
+        "reservations",
+        reservations(alloc, delta)?,
+    )?;
+    put(
+        &mut members,
+        alloc,
+        "sender",
+        Value::from(packet.sender().get()),
+    )?;
+    Ok(Value::Object(members))
+}
