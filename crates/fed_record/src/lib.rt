@@ -44,7 +44,7 @@ pub use job_readers::Progress;
 pub use job_records::{JobFields, JobRecord, JobStages};
 pub use letters::Letter;
 pub use limits::{Limit, MAX_LIMIT};
-pub use moments::{MAX_MOMENT, Moment};
+pub use moments::{MAX_END, MAX_MOMENT, Moment};
 pub use node_counts::Nodes;
 pub use operations::Operation;
 pub use priorities::{MAX_PRIORITY, MIN_PRIORITY, Priority};
