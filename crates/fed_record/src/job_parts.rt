@@ -91,8 +91,8 @@ fn stages_of(parts: &JobParts) -> JobStages
 
 impl Record<JobFields, JobStages> {
     /// The record that reads as the parts. It asks that the pairs of `hold_tags` and of `site_tags` strictly ascend, by
-    /// element and then by stamp, and that `touched` covers the stamp of each pair. The record is well formed and of a job
-    /// that is submitted, as every record on a board is. The only error is `NoMemory`.
+    /// element and then by stamp, and that `touched` covers the stamp of each pair. The record is well formed and of a
+    /// job that is submitted, as every record on a board is. The only error is `NoMemory`.
     pub fn from_parts(alloc: Global, parts: &JobParts) -> Result<JobRecord, NoMemory>
         requires holds_ascend { IsStrictlySortedBy (pair_cmp kind_cmp) parts.now.hold_tags.now }
         requires sites_ascend { IsStrictlySortedBy (pair_cmp nat_cmp) parts.now.site_tags.now }

@@ -9,8 +9,8 @@ pub const MIN_PRIORITY: i16 = -1024;
 /// The greatest priority.
 pub const MAX_PRIORITY: i16 = 1023;
 
-/// How soon a job is wanted, from `MIN_PRIORITY` to `MAX_PRIORITY` (POSIX.1-2017, XCU chapter 3, the option `-p` of qsub): of two jobs the
-/// one with the greater priority comes first.
+/// How soon a job is wanted, from `MIN_PRIORITY` to `MAX_PRIORITY` (POSIX.1-2017, XCU chapter 3, the option `-p` of
+/// qsub): of two jobs the one with the greater priority comes first.
 #[derive(Clone, Copy, PartialEq, Eq, PartialOrd, Ord, Debug)]
 pub struct Priority {
     number: i16,
