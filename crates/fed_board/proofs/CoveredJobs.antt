@@ -10,7 +10,7 @@ use Rattle.fed_stamp.proofs.VersionLaws.{covers_more, below_joined_left, below_j
 use Rattle.fed_lattice.specs.Register.{stamped_cmp, joined_registers}
 use Rattle.fed_lattice.specs.Stamped.{with_stamp}
 use Rattle.fed_record.specs.Body.{Body, Body.Submit, Body.Set, Body.Hold, Body.Release, Body.Delete, Body.Grant, Body.HandBack, Body.Begin, Body.Finish, Body.Reserve, Body.Cancel, same_stamp}
-use Rattle.fed_record.specs.CoveredLaws.{either_side, old_or_new}
+use Rattle.fed_record.proofs.CoveredLaws.{either_side, old_or_new}
 use Rattle.fed_record.specs.Field.{owner_in, name_in, priority_in, nodes_in, limit_in, account_in, begin_in, finish_in}
 use Rattle.fed_record.specs.Grant.{grant_cmp, grant_in, stamp_of}
 use Rattle.fed_record.specs.JobRecord.{reads as reads_job}

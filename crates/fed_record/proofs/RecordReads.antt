@@ -31,7 +31,7 @@ use Rattle.fed_record.specs.Pairs.{adds_pair, add_live, adds_site, removes_site,
 use Rattle.fed_record.proofs.PairLaws.{same_stamp_is, same_stamp_itself}
 
 -- ---- registers, stages and marks, of which an operation may say nothing
-max_none : {T : Type 0} (cmp : T → T → Ordering) (x : Option T) → ord_max (option_cmp cmp) x None ≡ x
+pub max_none : {T : Type 0} (cmp : T → T → Ordering) (x : Option T) → ord_max (option_cmp cmp) x None ≡ x
 max_none cmp None = refl
 max_none cmp (Some a) = refl
 
@@ -95,7 +95,7 @@ module _ {E : Type 0} (cmp : E → E → Ordering) (o : IsTotalOrder cmp) (exact
       ∙ ap (λ b. b && not gone) (or_comm (same_stamp s tag && adds e) (has (pair_cmp cmp) xs (e, tag)))
 
 -- ---- holds
-tells_kinds : TellsApart same_kind
+pub tells_kinds : TellsApart same_kind
 tells_kinds User User = (λ _. refl, λ _. refl)
 tells_kinds User Operator = (λ e. cc, λ e. cc)
 tells_kinds User System = (λ e. cc, λ e. cc)
@@ -131,12 +131,12 @@ hold_applied xs s c kind tag =
     pair_applied kind_cmp kind_total exact_kind same_kind tells_kinds (adds_hold (body_of c)) all_kinds (every_kind (adds_hold (body_of c))) xs (removed_holds c) s kind tag _ (removed_hold c kind tag)
 
 -- ---- sites
-range-Has : (n a k : ℕ) → k < n → Has (range_with_len a n) (a + k)
+pub range-Has : (n a k : ℕ) → k < n → Has (range_with_len a n) (a + k)
 range-Has zero a k h = absurd (omega arith)
 range-Has (suc n) a zero h = inl (let e : a ≡ a + zero = omega arith in e)
 range-Has (suc n) a (suc k) h = inr (subst (Has (range_with_len (a + 1) n)) (let e : (a + 1) + k ≡ a + suc k = omega arith in e) (range-Has n (a + 1) k (omega arith)))
 
-below_16 : (site : ℕ) → nat_lt site 16 ≡ true → Has (range_with_len 0 16) site
+pub below_16 : (site : ℕ) → nat_lt site 16 ≡ true → Has (range_with_len 0 16) site
 below_16 site e = subst (Has (range_with_len 0 16)) (let z : 0 + site ≡ site = omega arith in z) (range-Has 16 0 site (ltb-true site 16 e))
 
 named_below : (sites : Option (List Bool)) (site : ℕ) → is_site_named sites site ≡ true → Has (range_with_len 0 16) site

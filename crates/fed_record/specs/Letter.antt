@@ -1,5 +1,6 @@
 -- The letter of a job.
-use Rattle.std.specs.Prelude.{ℕ, zero, suc, Bool, false, ◌&&◌, ◌||◌, List, if◌then◌else◌, Option, Some, None, is_some, is_none}
+use Rattle.std.specs.Prelude.{ℕ, zero, suc, Bool, false, ◌&&◌, ◌||◌, List, if◌then◌else◌, Option, Some, None, is_some, is_none, nat_eq}
+use Rattle.std.specs.Option.{option_eq}
 use Rattle.fed_stamp.specs.Stamp.{StampValue}
 use Rattle.fed_stamp.specs.Version.{counter_of}
 use Rattle.fed_record.specs.declared.grants.GrantStage.{GrantStage}
@@ -40,13 +41,23 @@ abbrev pub holder_in : Option GrantStage → Option ℕ
 holder_in None = None
 holder_in (Some g) = holder_of g
 
+abbrev pub holder : JobView → Option ℕ
+holder j = holder_in j.grant
+
 abbrev pub is_granted : JobView → Bool
-is_granted j = is_some (holder_in j.grant)
+is_granted j = is_some (holder j)
+
+abbrev pub is_granted_to : JobView → ℕ → Bool
+is_granted_to j site = option_eq nat_eq (holder j) (Some site)
+
+-- finished, or deleted before it began
+abbrev pub is_gone : JobView → Bool
+is_gone j = is_some j.finished || (j.deleted && is_none j.begun)
 
 -- a job that is gone has none
 abbrev pub letter : JobView → Option Letter
 letter j =
-    if is_some j.finished || (j.deleted && is_none j.begun) then None
+    if is_gone j then None
     else if is_some j.begun && j.deleted then Some Exiting
     else if is_some j.begun then Some Running
     else if is_held j then Some Held

@@ -23,9 +23,9 @@ pub mod StagesLaws
 pub mod Record
 pub mod JobRecord
 pub mod JobParts
-pub mod CoveredLaws
 pub mod RecordSteps
 pub mod RecordLaws
+pub mod JobRecordLaws
 pub mod ValueOrders
 pub mod ValueOrderLaws
 pub mod ReservationLaws

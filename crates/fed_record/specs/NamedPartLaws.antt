@@ -1,5 +1,5 @@
 -- The laws of one part of a value whose parts change by name: `change` is what a change of the whole changes in it.
-use Rattle.std.proofs.Common.{◌≡◌, ℕ, List, ◌∷◌, ◌++◌, Option, Some, None}
+use Rattle.std.proofs.Common.{ℕ, List, ◌∷◌, ◌++◌, Option, Some, None}
 use Rattle.fed_stamp.specs.Stamp.{StampValue}
 use Rattle.fed_lattice.specs.Both.{applied_option}
 use Rattle.fed_lattice.specs.BothLaws.{option_stands, part_joined_stands}

@@ -2,7 +2,7 @@
 use Rattle.std.specs.Cmp.{nat_cmp_total, IsTotalOrder, IsPartialEquivalence, on_per, and_per, eq_by_cmp_equiv, partial_equiv_from_equiv, nat_eq_equiv}
 use Rattle.std.specs.Cmp.Lexicographic.{pointwise, lists_per}
 use Rattle.std.specs.Ordering.{nat_cmp, eq_by_cmp}
-use Rattle.std.proofs.Common.{◌≡◌, ℕ, List, [], ◌++◌, Ordering, Bool, true, ◌&&◌, nat_eq, replicate, refl, sym, ap, ap₂, subst, ◌∙◌}
+use Rattle.std.proofs.Common.{◌≡◌, ℕ, List, [], ◌++◌, Ordering, Bool, true, nat_eq, replicate, refl, sym, ap, ap₂, subst, ◌∙◌}
 use Rattle.std.proofs.lemmas.Map.Lookups.{CmpEqualImpliesEq, exact_unsigned}
 use Rattle.fed_stamp.specs.Stamp.{StampValue}
 use Rattle.fed_stamp.specs.Version.{covers, joined as joined_versions, raised}
@@ -41,7 +41,7 @@ pub site_exact : CmpEqualImpliesEq (pair_cmp nat_cmp)
 site_exact = exact_pair nat_cmp exact_unsigned
 
 -- ---- equality
-tells_tags : {E : Type 0} (R : E × StampValue → E × StampValue → Ordering) → IsTotalOrder R → CmpEqualImpliesEq R → TellsApart (pointwise (eq_by_cmp R))
+pub tells_tags : {E : Type 0} (R : E × StampValue → E × StampValue → Ordering) → IsTotalOrder R → CmpEqualImpliesEq R → TellsApart (pointwise (eq_by_cmp R))
 tells_tags R o exact = tells_lists (eq_by_cmp R) (tells_by_order R (eq_by_cmp R) o exact (λ _ _. refl))
 
 -- `==` tells records apart where it tells their parts apart
@@ -67,7 +67,7 @@ record_equality {F} {G} eq same p q = and_per
 
 -- ---- histories whose changes say their stamps
 module _ {C : Type 0} where
-  fresh_stamped : (s : StampValue) (h : History C) → IsFresh s h → IsFresh s (stamped h)
+  pub fresh_stamped : (s : StampValue) (h : History C) → IsFresh s h → IsFresh s (stamped h)
   fresh_stamped s h f e k =
       let i = Has-stamped h e k in
       λ p. f e.1 i.0 (ap (λ (x : StampValue × (StampValue × C)). x.0) i.1 ∙ p)
@@ -90,7 +90,7 @@ module _ {C : Type 0} where
       let p : e.1 ≡ f.1 = one e.1 f.1 a.0 b.0 (ap (λ (x : StampValue × (StampValue × C)). x.0) a.1 ∙ same ∙ sym (ap (λ (x : StampValue × (StampValue × C)). x.0) b.1)) in
       sym a.1 ∙ ap (λ (y : StampValue × C). (y.0, y)) p ∙ b.1
 
-  agree_stamped : (v w : List ℕ) (g h : History C) → Agree v g w h → Agree v (stamped g) w (stamped h)
+  pub agree_stamped : (v w : List ℕ) (g h : History C) → Agree v g w h → Agree v (stamped g) w (stamped h)
   agree_stamped v w g h a = record {
     left_covered = covered_stamped v g a.left_covered;
     right_covered = covered_stamped w h a.right_covered;

@@ -1,12 +1,16 @@
 -- What the operations of one reservation say of it.
-use Rattle.std.specs.Prelude.{Option}
+use Rattle.std.specs.Prelude.{ℕ, List, Option}
 use Rattle.fed_stamp.specs.Stamp.{StampValue}
 use Rattle.fed_lattice.specs.History.{History}
+use Rattle.fed_lattice.specs.Part.{part}
+use Rattle.fed_lattice.specs.Register.{joined_registers, register_stands_for}
+use Rattle.fed_lattice.specs.Stamped.{with_stamp}
 use Rattle.fed_record.specs.declared.windows.Window.{Window}
 use Rattle.fed_record.specs.declared.operations.Operation.{Operation}
 use Rattle.fed_record.specs.Body.{Body}
 use Rattle.fed_record.specs.Field.{window_in, field}
 use Rattle.fed_record.specs.Operation.{body_of}
+use Rattle.fed_record.specs.ValueOrders.{option_window_cmp}
 
 -- its greatest stamp and its window, or no window where the greatest stamped operation is a Cancel
 abbrev pub ReservationView : Type 0
@@ -19,3 +23,15 @@ reservation_view ops = field window_in ops
 -- the window that an operation of the code gives its reservation, or none
 abbrev pub window_change : Operation → Option (Option Window)
 window_change c = window_in (body_of c)
+
+-- after an operation with its stamp
+abbrev pub applied_reservation : ReservationView → StampValue → Operation → ReservationView
+applied_reservation x s c = joined_registers option_window_cmp x (with_stamp s (window_change c))
+
+-- two reservations, each beside a version
+abbrev pub joined_reservations : ReservationView → List ℕ → ReservationView → List ℕ → ReservationView
+joined_reservations x v y w = joined_registers option_window_cmp x y
+
+-- it stands for what the operations say of its window
+abbrev pub reservation_stands_for : ReservationView → History Operation → Type 0
+reservation_stands_for x h = register_stands_for x (part window_change h)

@@ -3,7 +3,7 @@ use fed_stamp::Word;
 
 /// What somebody may do, as in POSIX.1-2017's batch services: a user works on jobs of their own, an operator on
 /// all jobs and on reservations, an administrator on system holds too.
-#[derive(Clone, Copy, PartialEq, Eq, PartialOrd, Ord, Debug)]
+#[derive(Clone, Copy, PartialEq, Eq, Debug)]
 pub enum Role {
     /// Works on jobs of their own, with user holds.
     User,

@@ -46,15 +46,39 @@ pub struct FieldChanges<Owner, Name, Priority, Nodes, Limit, Account> {
 }
 
 /// Two are identical exactly where their parts are equal.
-impl<Owner: ExactEq, Name: ExactEq, Priority: ExactEq, Nodes: ExactEq, Limit: ExactEq, Account: ExactEq> ExactEq for Fields<Owner, Name, Priority, Nodes, Limit, Account> {
-    ghost exact_eq = { tells_fields Owner.eq Name.eq Priority.eq Nodes.eq Limit.eq Account.eq Owner.exact_eq Name.exact_eq Priority.exact_eq Nodes.exact_eq Limit.exact_eq Account.exact_eq };
+impl<
+    Owner: ExactEq,
+    Name: ExactEq,
+    Priority: ExactEq,
+    Nodes: ExactEq,
+    Limit: ExactEq,
+    Account: ExactEq,
+> ExactEq for Fields<Owner, Name, Priority, Nodes, Limit, Account> {
+    ghost exact_eq = { tells_fields Owner.eq Name.eq Priority.eq Nodes.eq Limit.eq Account.eq
+        Owner.exact_eq Name.exact_eq Priority.exact_eq Nodes.exact_eq Limit.exact_eq Account.exact_eq };
 }
 
 /// Each part changes and joins by itself. A change is of the parts that it names; the others stay.
-impl<Owner: Inline + Drop, Name: Inline + Drop, Priority: Inline + Drop, Nodes: Inline + Drop, Limit: Inline + Drop, Account: Inline + Drop> Causal for Fields<Owner, Name, Priority, Nodes, Limit, Account> {
-    type Change = FieldChanges<Owner::Change, Name::Change, Priority::Change, Nodes::Change, Limit::Change, Account::Change>;
+impl<
+    Owner: Inline + Drop,
+    Name: Inline + Drop,
+    Priority: Inline + Drop,
+    Nodes: Inline + Drop,
+    Limit: Inline + Drop,
+    Account: Inline + Drop,
+> Causal for Fields<Owner, Name, Priority, Nodes, Limit, Account> {
+    type Change = FieldChanges<
+        Owner::Change,
+        Name::Change,
+        Priority::Change,
+        Nodes::Change,
+        Limit::Change,
+        Account::Change,
+    >;
 
-    ghost well_formed = { λ x. Owner.well_formed x.owner × Name.well_formed x.name × Priority.well_formed x.priority × Nodes.well_formed x.nodes × Limit.well_formed x.limit × Account.well_formed x.account };
+    ghost well_formed = { λ x.
+        Owner.well_formed x.owner × Name.well_formed x.name × Priority.well_formed x.priority ×
+        Nodes.well_formed x.nodes × Limit.well_formed x.limit × Account.well_formed x.account };
 
     ghost bottom = { record {
       owner = Owner.bottom;
@@ -83,11 +107,19 @@ impl<Owner: Inline + Drop, Name: Inline + Drop, Priority: Inline + Drop, Nodes: 
       account = Account.joined x.account v y.account w;
     } };
 
-    ghost is_history = { λ h. Owner.is_history (part owner_change h) × Name.is_history (part name_change h) × Priority.is_history (part priority_change h) × Nodes.is_history (part nodes_change h) × Limit.is_history (part limit_change h) × Account.is_history (part account_change h) };
+    ghost is_history = { λ h.
+        Owner.is_history (part owner_change h) × Name.is_history (part name_change h) ×
+        Priority.is_history (part priority_change h) × Nodes.is_history (part nodes_change h) ×
+        Limit.is_history (part limit_change h) × Account.is_history (part account_change h) };
 
-    ghost stands_for = { λ x h. Owner.stands_for x.owner (part owner_change h) × Name.stands_for x.name (part name_change h) × Priority.stands_for x.priority (part priority_change h) × Nodes.stands_for x.nodes (part nodes_change h) × Limit.stands_for x.limit (part limit_change h) × Account.stands_for x.account (part account_change h) };
+    ghost stands_for = { λ x h.
+        Owner.stands_for x.owner (part owner_change h) × Name.stands_for x.name (part name_change h) ×
+        Priority.stands_for x.priority (part priority_change h) ×
+        Nodes.stands_for x.nodes (part nodes_change h) × Limit.stands_for x.limit (part limit_change h) ×
+        Account.stands_for x.account (part account_change h) };
 
-    ghost is_inline = { Owner.is_inline × Name.is_inline × Priority.is_inline × Nodes.is_inline × Limit.is_inline × Account.is_inline };
+    ghost is_inline = { Owner.is_inline × Name.is_inline × Priority.is_inline × Nodes.is_inline × Limit.is_inline ×
+        Account.is_inline };
 
     fn bottom(alloc: Global) -> Self {
         Fields {
@@ -111,7 +143,18 @@ impl<Owner: Inline + Drop, Name: Inline + Drop, Priority: Inline + Drop, Nodes: 
         })
     }
 
-    fn apply(&mut self, at: Stamp, change: &FieldChanges<Owner::Change, Name::Change, Priority::Change, Nodes::Change, Limit::Change, Account::Change>) -> Result<(), NoMemory> {
+    fn apply(
+        &mut self,
+        at: Stamp,
+        change: &FieldChanges<
+            Owner::Change,
+            Name::Change,
+            Priority::Change,
+            Nodes::Change,
+            Limit::Change,
+            Account::Change,
+        >,
+    ) -> Result<(), NoMemory> {
         apply_option(&mut self.owner, at, &change.owner);
         apply_option(&mut self.name, at, &change.name);
         apply_option(&mut self.priority, at, &change.priority);
@@ -132,7 +175,14 @@ impl<Owner: Inline + Drop, Name: Inline + Drop, Priority: Inline + Drop, Nodes: 
         })
     }
 
-    ghost well_formed_bottom = { (Owner.well_formed_bottom, Name.well_formed_bottom, Priority.well_formed_bottom, Nodes.well_formed_bottom, Limit.well_formed_bottom, Account.well_formed_bottom) };
+    ghost well_formed_bottom = { (
+      Owner.well_formed_bottom,
+      Name.well_formed_bottom,
+      Priority.well_formed_bottom,
+      Nodes.well_formed_bottom,
+      Limit.well_formed_bottom,
+      Account.well_formed_bottom,
+    ) };
 
     ghost well_formed_applied = { λ x s c p. (
       applied_well_formed _ _ Owner.well_formed_applied x.owner s c.owner p.0,
@@ -188,7 +238,14 @@ impl<Owner: Inline + Drop, Name: Inline + Drop, Priority: Inline + Drop, Nodes: 
       account = Account.joined_bottoms v w i;
     } };
 
-    ghost bottom_stands = { (Owner.bottom_stands, Name.bottom_stands, Priority.bottom_stands, Nodes.bottom_stands, Limit.bottom_stands, Account.bottom_stands) };
+    ghost bottom_stands = { (
+      Owner.bottom_stands,
+      Name.bottom_stands,
+      Priority.bottom_stands,
+      Nodes.bottom_stands,
+      Limit.bottom_stands,
+      Account.bottom_stands,
+    ) };
 
     ghost applied_stands = { λ x h s c p r k f i. (
       part_adds_change owner_change _ _ _ _ Owner.applied_stands x.owner h s c p.0 r.0 k.0 f i.0,
@@ -200,12 +257,17 @@ impl<Owner: Inline + Drop, Name: Inline + Drop, Priority: Inline + Drop, Nodes: 
     ) };
 
     ghost joined_stands = { λ x y v w g h p q rx ry a i j. (
-      part_joins_histories owner_change _ _ _ _ Owner.joined_stands x.owner y.owner v w g h p.0 q.0 rx.0 ry.0 a i.0 j.0,
+      part_joins_histories owner_change _ _ _ _ Owner.joined_stands x.owner y.owner v w g h
+          p.0 q.0 rx.0 ry.0 a i.0 j.0,
       part_joins_histories name_change _ _ _ _ Name.joined_stands x.name y.name v w g h p.1 q.1 rx.1 ry.1 a i.1 j.1,
-      part_joins_histories priority_change _ _ _ _ Priority.joined_stands x.priority y.priority v w g h p.2 q.2 rx.2 ry.2 a i.2 j.2,
-      part_joins_histories nodes_change _ _ _ _ Nodes.joined_stands x.nodes y.nodes v w g h p.3 q.3 rx.3 ry.3 a i.3 j.3,
-      part_joins_histories limit_change _ _ _ _ Limit.joined_stands x.limit y.limit v w g h p.4 q.4 rx.4 ry.4 a i.4 j.4,
-      part_joins_histories account_change _ _ _ _ Account.joined_stands x.account y.account v w g h p.5 q.5 rx.5 ry.5 a i.5 j.5,
+      part_joins_histories priority_change _ _ _ _ Priority.joined_stands x.priority y.priority v w g h
+          p.2 q.2 rx.2 ry.2 a i.2 j.2,
+      part_joins_histories nodes_change _ _ _ _ Nodes.joined_stands x.nodes y.nodes v w g h
+          p.3 q.3 rx.3 ry.3 a i.3 j.3,
+      part_joins_histories limit_change _ _ _ _ Limit.joined_stands x.limit y.limit v w g h
+          p.4 q.4 rx.4 ry.4 a i.4 j.4,
+      part_joins_histories account_change _ _ _ _ Account.joined_stands x.account y.account v w g h
+          p.5 q.5 rx.5 ry.5 a i.5 j.5,
     ) };
 
     ghost stands_same = { λ x g h e p. (
@@ -219,6 +281,20 @@ impl<Owner: Inline + Drop, Name: Inline + Drop, Priority: Inline + Drop, Nodes: 
 }
 
 /// Its copies, changes and joins are never refused memory.
-impl<Owner: Inline + Drop, Name: Inline + Drop, Priority: Inline + Drop, Nodes: Inline + Drop, Limit: Inline + Drop, Account: Inline + Drop> Inline for Fields<Owner, Name, Priority, Nodes, Limit, Account> {
-    ghost never_refused = { (Owner.never_refused, Name.never_refused, Priority.never_refused, Nodes.never_refused, Limit.never_refused, Account.never_refused) };
+impl<
+    Owner: Inline + Drop,
+    Name: Inline + Drop,
+    Priority: Inline + Drop,
+    Nodes: Inline + Drop,
+    Limit: Inline + Drop,
+    Account: Inline + Drop,
+> Inline for Fields<Owner, Name, Priority, Nodes, Limit, Account> {
+    ghost never_refused = { (
+      Owner.never_refused,
+      Name.never_refused,
+      Priority.never_refused,
+      Nodes.never_refused,
+      Limit.never_refused,
+      Account.never_refused,
+    ) };
 }

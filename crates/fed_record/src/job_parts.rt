@@ -1,11 +1,13 @@
 //! Records of jobs made of what they read as.
-ghost use Rattle.std.specs.Prelude.{◌≡◌, Some, IfOk};
+ghost use Rattle.std.specs.Prelude.{◌≡◌, Some, IfOk, IsTrue};
 ghost use Rattle.std.specs.List.Sorted.{IsStrictlySortedBy};
 ghost use Rattle.std.specs.Ordering.{nat_cmp};
 ghost use Rattle.fed_tags.specs.Tags.{pair_cmp};
 ghost use Rattle.fed_record.specs.Hold.{kind_cmp};
 ghost use Rattle.fed_record.specs.Record.{AreCovered};
 ghost use Rattle.fed_record.specs.JobParts.{IsMadeOf};
+ghost use Rattle.fed_record.specs.JobRecord.{reads};
+ghost use Rattle.fed_record.specs.Letter.{is_submitted};
 
 use crate::accounts::Account;
 use crate::fields::Fields;
@@ -18,7 +20,7 @@ use crate::node_counts::Nodes;
 use crate::priorities::Priority;
 use crate::records::Record;
 use crate::stages::Stages;
-use fed_lattice::{Flag, NoMemory, Register, Stage};
+use fed_lattice::{Causal, Flag, NoMemory, Register, Stage};
 use fed_stamp::{SiteId, Stamp, Version, Word};
 use fed_tags::TagSet;
 use std::alloc::Global;
@@ -89,13 +91,16 @@ fn stages_of(parts: &JobParts) -> JobStages
 
 impl Record<JobFields, JobStages> {
     /// The record that reads as the parts. It asks that the pairs of `hold_tags` and of `site_tags` strictly ascend, by
-    /// element and then by stamp, and that `touched` covers the stamp of each pair. The only error is `NoMemory`.
+    /// element and then by stamp, and that `touched` covers the stamp of each pair. The record is well formed and of a
+    /// job that is submitted, as every record on a board is. The only error is `NoMemory`.
     pub fn from_parts(alloc: Global, parts: &JobParts) -> Result<JobRecord, NoMemory>
         requires holds_ascend { IsStrictlySortedBy (pair_cmp kind_cmp) parts.now.hold_tags.now }
         requires sites_ascend { IsStrictlySortedBy (pair_cmp nat_cmp) parts.now.site_tags.now }
         requires holds_covered { AreCovered parts.now.touched parts.now.hold_tags.now }
         requires sites_covered { AreCovered parts.now.touched parts.now.site_tags.now }
-        ensures { IfOk result (λ r. IsMadeOf r parts.now) }
+        ensures made { IfOk result (λ r. IsMadeOf r parts.now) }
+        ensures well_formed { IfOk result ⟦<JobRecord as Causal>⟧.well_formed }
+        ensures submitted { IfOk result (λ r. IsTrue (is_submitted (reads r))) }
     {
         Ok(Record {
             alloc,

@@ -1,5 +1,5 @@
 //! What is read of the record of a job.
-ghost use Rattle.std.specs.Prelude.{◌≡◌, ◌↔◌, ℕ, Some, IsTrue};
+ghost use Rattle.std.specs.Prelude.{◌≡◌, ◌↔◌, ℕ, Some, None, IsTrue};
 ghost use Rattle.std.specs.List.Sorted.{IsStrictlySortedBy};
 ghost use Rattle.std.specs.Map.Iter.{ShowsInOrder, deref};
 ghost use Rattle.std.specs.Ordering.{nat_cmp};
@@ -10,7 +10,7 @@ ghost use Rattle.fed_tags.specs.Tags.{pair_cmp};
 ghost use Rattle.fed_record.specs.Hold.{kind_cmp, has_kind, sum_of_bits};
 ghost use Rattle.fed_record.specs.Record.{AreCovered};
 ghost use Rattle.fed_record.specs.JobRecord.{reads};
-ghost use Rattle.fed_record.specs.Letter.{is_submitted as is_job_submitted, is_held as is_job_held, has_hold as is_hold_present, has_site as is_site_present, letter as letter_of};
+ghost use Rattle.fed_record.specs.Letter.{is_submitted as is_job_submitted, is_held as is_job_held, has_hold as is_hold_present, has_site as is_site_present, holder as holder_of, is_granted_to as is_job_granted_to, is_gone as is_job_gone, letter as letter_of};
 
 use crate::accounts::Account;
 use crate::grants::GrantStage;
@@ -173,6 +173,23 @@ impl Record<JobFields, JobStages> {
         self.stages.grant.get()
     }
 
+    /// The site that the job is granted to, or none where it was never granted or its last grant is handed back.
+    pub fn holder(&self) -> Option<SiteId>
+        ensures { result ≡ holder_of (reads self.now) }
+    {
+        match self.grant() {
+            Some(stage) => stage.holder(),
+            None => None,
+        }
+    }
+
+    /// Whether the job is granted to the site.
+    pub fn is_granted_to(&self, site: SiteId) -> bool
+        ensures { result ≡ is_job_granted_to (reads self.now) site }
+    {
+        self.holder() == Some(site)
+    }
+
     /// The Begin and the Finish, each with its stamp.
     pub fn progress(&self) -> Progress
         ensures begun { result.begun ≡ (reads self.now).begun }
@@ -191,15 +208,23 @@ impl Record<JobFields, JobStages> {
         self.touched
     }
 
+    /// Whether the job is gone: it is finished, or was deleted before it began. Then it has no letter.
+    pub fn is_gone(&self) -> bool
+        ensures gone { result ≡ is_job_gone (reads self.now) }
+        ensures letter { IsTrue result ↔ (letter_of (reads self.now) ≡ None) }
+    {
+        let progress = self.progress();
+        progress.finished.is_some() || (self.deleted() && progress.begun.is_none())
+    }
+
     /// The letter of the job, or none where it is gone.
     pub fn letter(&self) -> Option<Letter>
         ensures { result ≡ letter_of (reads self.now) }
     {
-        let progress = self.progress();
-        if progress.finished.is_some() || (self.deleted() && progress.begun.is_none()) {
+        if self.is_gone() {
             return None;
         }
-        if progress.begun.is_some() {
+        if self.progress().begun.is_some() {
             return Some(if self.deleted() {
                 Letter::Exiting
             } else {
@@ -209,9 +234,9 @@ impl Record<JobFields, JobStages> {
         if self.is_held() {
             return Some(Letter::Held);
         }
-        match self.grant() {
-            Some(GrantStage::Open { .. }) => Some(Letter::Granted),
-            _ => Some(Letter::Queued),
+        match self.holder() {
+            Some(_) => Some(Letter::Granted),
+            None => Some(Letter::Queued),
         }
     }
 }

@@ -6,7 +6,7 @@ use std::marker::Model;
 /// The greatest time limit, in seconds.
 pub const MAX_LIMIT: u64 = 10_000_000;
 
-/// How long a job may run, from 1 to 10,000,000 whole seconds.
+/// How long a job may run, from 1 to `MAX_LIMIT` whole seconds.
 #[derive(Clone, Copy, PartialEq, Eq, PartialOrd, Ord, Debug)]
 pub struct Limit {
     number: u64,
@@ -14,12 +14,13 @@ pub struct Limit {
 
 impl Model for Limit {
     ghost use Rattle.std.specs.Prelude.{ℕ, ◌≤◌};
+    ghost use Rattle.fed_record.specs.declared.limits.TheConstants.{MAX_LIMIT};
 
     ghost Value = { ℕ };
 
     ghost view = { λ n. n.number };
 
-    ghost invariant = { λ n. (1 ≤ n.number) × (n.number ≤ 10_000_000) };
+    ghost invariant = { λ n. (1 ≤ n.number) × (n.number ≤ MAX_LIMIT) };
 
     ghost inverse = { λ n. record { number = n } };
 }

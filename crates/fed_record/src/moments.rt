@@ -1,12 +1,16 @@
 //! Moments.
 ghost use Rattle.std.specs.Prelude.{◌≡◌, ◌≤◌, if◌then◌else◌, nat_le};
 
+use crate::limits::MAX_LIMIT;
 use std::marker::Model;
 
 /// The last moment, in seconds.
 pub const MAX_MOMENT: u64 = 1_000_000_000_000;
 
-/// A moment, from 0 to 1,000,000,000,000 in whole seconds. Moments are handed in: no clock is read.
+/// The last second by which a job that began can end.
+pub const MAX_END: u64 = MAX_MOMENT + MAX_LIMIT;
+
+/// A moment, from 0 to `MAX_MOMENT` in whole seconds. Moments are handed in: no clock is read.
 #[derive(Clone, Copy, PartialEq, Eq, PartialOrd, Ord, Debug)]
 pub struct Moment {
     second: u64,
@@ -14,12 +18,13 @@ pub struct Moment {
 
 impl Model for Moment {
     ghost use Rattle.std.specs.Prelude.{ℕ, ◌≤◌};
+    ghost use Rattle.fed_record.specs.declared.moments.TheConstants.{MAX_MOMENT};
 
     ghost Value = { ℕ };
 
     ghost view = { λ m. m.second };
 
-    ghost invariant = { λ m. m.second ≤ 1_000_000_000_000 };
+    ghost invariant = { λ m. m.second ≤ MAX_MOMENT };
 
     ghost inverse = { λ n. record { second = n } };
 }

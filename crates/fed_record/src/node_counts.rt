@@ -4,7 +4,7 @@ ghost use Rattle.std.specs.Prelude.{◌≡◌, ◌≤◌, ◌&&◌, if◌then◌
 use fed_stamp::MAX_NODES;
 use std::marker::Model;
 
-/// How many nodes a job runs on, from 1 to 1,000,000.
+/// How many nodes a job runs on, from 1 to `MAX_NODES`.
 #[derive(Clone, Copy, PartialEq, Eq, PartialOrd, Ord, Debug)]
 pub struct Nodes {
     number: u64,
@@ -12,12 +12,13 @@ pub struct Nodes {
 
 impl Model for Nodes {
     ghost use Rattle.std.specs.Prelude.{ℕ, ◌≤◌};
+    ghost use Rattle.fed_stamp.specs.declared.rosters.TheConstants.{MAX_NODES};
 
     ghost Value = { ℕ };
 
     ghost view = { λ n. n.number };
 
-    ghost invariant = { λ n. (1 ≤ n.number) × (n.number ≤ 1_000_000) };
+    ghost invariant = { λ n. (1 ≤ n.number) × (n.number ≤ MAX_NODES) };
 
     ghost inverse = { λ n. record { number = n } };
 }

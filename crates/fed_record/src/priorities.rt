@@ -1,5 +1,5 @@
 //! The priority of a job.
-ghost use Rattle.std.specs.Prelude.{◌≡◌, pos, negsuc, ◌≤ℤ◌, ◌&&◌, if◌then◌else◌, int_le};
+ghost use Rattle.std.specs.Prelude.{◌≡◌, ◌≤ℤ◌, ◌&&◌, if◌then◌else◌, int_le};
 
 use std::marker::Model;
 
@@ -9,21 +9,22 @@ pub const MIN_PRIORITY: i16 = -1024;
 /// The greatest priority.
 pub const MAX_PRIORITY: i16 = 1023;
 
-/// How soon a job is wanted, from -1024 to 1023 (POSIX.1-2017, XCU chapter 3, the option `-p` of qsub): of two jobs the
-/// one with the greater priority comes first.
+/// How soon a job is wanted, from `MIN_PRIORITY` to `MAX_PRIORITY` (POSIX.1-2017, XCU chapter 3, the option `-p` of
+/// qsub): of two jobs the one with the greater priority comes first.
 #[derive(Clone, Copy, PartialEq, Eq, PartialOrd, Ord, Debug)]
 pub struct Priority {
     number: i16,
 }
 
 impl Model for Priority {
-    ghost use Rattle.std.specs.Prelude.{ℤ, pos, negsuc, ◌≤ℤ◌};
+    ghost use Rattle.std.specs.Prelude.{ℤ, ◌≤ℤ◌};
+    ghost use Rattle.fed_record.specs.declared.priorities.TheConstants.{MIN_PRIORITY, MAX_PRIORITY};
 
     ghost Value = { ℤ };
 
     ghost view = { λ p. p.number };
 
-    ghost invariant = { λ p. (negsuc 1023 ≤ℤ p.number) × (p.number ≤ℤ pos 1023) };
+    ghost invariant = { λ p. (MIN_PRIORITY ≤ℤ p.number) × (p.number ≤ℤ MAX_PRIORITY) };
 
     ghost inverse = { λ n. record { number = n } };
 }

@@ -97,6 +97,7 @@ fn change_tags(
 }
 
 impl<F: PartialEq, G: PartialEq> Record<F, G> {
+    // Half of `==`, so that each half names what it compares.
     fn has_same_values(&self, other: &Self) -> bool
         ensures { result ≡ (F.eq self.now.fields other.now.fields && G.eq self.now.stages other.now.stages) }
     {
@@ -109,6 +110,7 @@ impl<F, G> Record<F, G> {
     ghost use Rattle.std.specs.Ordering.{eq_by_cmp};
     ghost use Rattle.std.specs.Cmp.Lexicographic.{pointwise};
 
+    // The other half of `==`.
     fn has_same_tags(&self, other: &Self) -> bool
         ensures { result ≡ ((pointwise (eq_by_cmp (pair_cmp kind_cmp)) self.now.holds other.now.holds &&
             pointwise (eq_by_cmp (pair_cmp nat_cmp)) self.now.sites other.now.sites) &&
@@ -203,25 +205,35 @@ where
         })
     }
 
-    ghost well_formed_bottom = { bottom_is_record F.well_formed G.well_formed F.bottom G.bottom F.well_formed_bottom G.well_formed_bottom };
+    ghost well_formed_bottom = { bottom_is_record F.well_formed G.well_formed F.bottom G.bottom
+        F.well_formed_bottom G.well_formed_bottom };
 
-    ghost well_formed_applied = { applied_is_record F.well_formed G.well_formed F.applied G.applied F.well_formed_applied G.well_formed_applied };
+    ghost well_formed_applied = { applied_is_record F.well_formed G.well_formed F.applied G.applied
+        F.well_formed_applied G.well_formed_applied };
 
-    ghost well_formed_joined = { joined_are_records F.well_formed G.well_formed F.joined G.joined F.well_formed_joined G.well_formed_joined };
+    ghost well_formed_joined = { joined_are_records F.well_formed G.well_formed F.joined G.joined
+        F.well_formed_joined G.well_formed_joined };
 
-    ghost joined_assoc = { joined_records_assoc F.well_formed G.well_formed F.joined G.joined F.joined_assoc G.joined_assoc };
+    ghost joined_assoc = { joined_records_assoc F.well_formed G.well_formed F.joined G.joined F.joined_assoc
+        G.joined_assoc };
 
-    ghost joined_comm = { joined_records_comm F.well_formed G.well_formed F.joined G.joined F.joined_comm G.joined_comm };
+    ghost joined_comm = { joined_records_comm F.well_formed G.well_formed F.joined G.joined F.joined_comm
+        G.joined_comm };
 
-    ghost joined_itself = { joined_records_itself F.well_formed G.well_formed F.joined G.joined F.joined_itself G.joined_itself };
+    ghost joined_itself = { joined_records_itself F.well_formed G.well_formed F.joined G.joined F.joined_itself
+        G.joined_itself };
 
-    ghost joined_bottoms = { bottom_records_join F.bottom G.bottom F.joined G.joined F.joined_bottoms G.joined_bottoms };
+    ghost joined_bottoms = { bottom_records_join F.bottom G.bottom F.joined G.joined F.joined_bottoms
+        G.joined_bottoms };
 
-    ghost bottom_stands = { bottom_record_stands F.bottom G.bottom F.stands_for G.stands_for F.bottom_stands G.bottom_stands };
+    ghost bottom_stands = { bottom_record_stands F.bottom G.bottom F.stands_for G.stands_for F.bottom_stands
+        G.bottom_stands };
 
-    ghost applied_stands = { record_adds_change F.well_formed G.well_formed F.is_history G.is_history F.stands_for G.stands_for F.applied G.applied F.applied_stands G.applied_stands };
+    ghost applied_stands = { record_adds_change F.well_formed G.well_formed F.is_history G.is_history
+        F.stands_for G.stands_for F.applied G.applied F.applied_stands G.applied_stands };
 
-    ghost joined_stands = { record_joins_histories F.well_formed G.well_formed F.is_history G.is_history F.stands_for G.stands_for F.joined G.joined F.joined_stands G.joined_stands };
+    ghost joined_stands = { record_joins_histories F.well_formed G.well_formed F.is_history G.is_history
+        F.stands_for G.stands_for F.joined G.joined F.joined_stands G.joined_stands };
 
     ghost stands_same = { record_stands_for_sets F.stands_for G.stands_for F.stands_same G.stands_same };
 }

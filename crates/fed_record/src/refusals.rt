@@ -2,7 +2,8 @@
 ghost use Rattle.std.specs.Prelude.{◌≡◌, ◌≤◌};
 ghost use Rattle.fed_record.specs.Refusal.{number_of};
 
-use fed_stamp::SiteId;
+use fed_lattice::NoMemory;
+use fed_stamp::{ClockFull, SiteId};
 use thiserror::Error;
 
 /// Why a command is refused, in the order in which the reasons are looked for: the first that applies is
@@ -42,8 +43,8 @@ pub enum Refusal {
     /// 11: the job hasn't begun. To Finish.
     #[error("the job has not begun")]
     NotBegun,
-    /// 12: the window's end is not above its start or is above 1,000,000,000,000, or its nodes are 0 or above
-    /// 1,000,000. To Reserve.
+    /// 12: the window's end is not above its start or is above `MAX_MOMENT`, or its nodes are 0 or above
+    /// `MAX_NODES`. To Reserve.
     #[error("bad window")]
     BadWindow,
     /// 13: the reservation isn't on the site's board, or is cancelled. To Cancel.
@@ -53,13 +54,35 @@ pub enum Refusal {
     /// Reserve). Jobs that are gone and reservations that are cancelled count.
     #[error("the site is full")]
     SiteFull,
-    /// 15: an operation would be added, and the greatest counter that the site has seen is 1,000,000,000. To all
-    /// commands. To Grant also where the term that was handed back is 1,000,000,000.
+    /// 15: an operation would be added, and the greatest counter that the site has seen is `MAX_COUNTER`. To all
+    /// commands. To Grant also where the term that was handed back is `MAX_TERM`.
     #[error("every counter is in use")]
     ClockFull,
     /// 16: a growth was refused memory. To all commands.
     #[error("out of memory")]
     NoMemory,
+}
+
+/// 16: memory was refused.
+impl From<NoMemory> for Refusal {
+    ghost use Rattle.fed_record.specs.declared.refusals.Refusal.TheVariants.{NoMemory};
+
+    ghost from_gives = { λ _ refusal. refusal ≡ NoMemory };
+
+    fn from(_error: NoMemory) -> Refusal {
+        Refusal::NoMemory
+    }
+}
+
+/// 15: no greater counter is left for a stamp.
+impl From<ClockFull> for Refusal {
+    ghost use Rattle.fed_record.specs.declared.refusals.Refusal.TheVariants.{ClockFull};
+
+    ghost from_gives = { λ _ refusal. refusal ≡ ClockFull };
+
+    fn from(_error: ClockFull) -> Refusal {
+        Refusal::ClockFull
+    }
 }
 
 impl Refusal {

@@ -1,17 +1,9 @@
 //! Reservations of nodes.
 ghost use Rattle.std.specs.Prelude.{◌≡◌, ◌↔◌, None, Some, IsTrue, IsSome, IfSome, refl};
 ghost use Rattle.fed_lattice.specs.History.{History, OneEach};
-ghost use Rattle.fed_lattice.specs.Part.{part};
-ghost use Rattle.fed_lattice.specs.PartLaws.{same_part};
-ghost use Rattle.fed_lattice.specs.Register.{stamped_cmp, joined_registers, register_stands_for};
-ghost use Rattle.fed_lattice.specs.RegisterLaws.{stamped_total, exact_stamped, register_stands_same};
-ghost use Rattle.fed_lattice.specs.GreatestLaws.{option_max_assoc, option_max_comm, option_max_itself};
-ghost use Rattle.fed_lattice.specs.Stamped.{with_stamp};
 ghost use Rattle.fed_record.specs.Operation.{bodies};
-ghost use Rattle.fed_record.specs.Reservation.{ReservationView, reservation_view, window_change};
-ghost use Rattle.fed_record.specs.ReservationLaws.{exact_option_window, tells_reservations, reservation_applied_stands, reservation_joined_stands};
-ghost use Rattle.fed_record.specs.ValueOrders.{option_window_cmp};
-ghost use Rattle.fed_record.specs.ValueOrderLaws.{option_window_total};
+ghost use Rattle.fed_record.specs.Reservation.{ReservationView, reservation_view, applied_reservation, joined_reservations, reservation_stands_for};
+ghost use Rattle.fed_record.specs.ReservationLaws.{tells_reservations, joined_reservations_assoc, joined_reservations_comm, joined_reservations_itself, reservation_adds_change, reservation_joins_histories, reservation_stands_for_sets};
 ghost use Rattle.fed_record.specs.declared.operations.Operation.{Operation};
 
 use crate::operations::Operation;
@@ -90,13 +82,13 @@ impl Causal for Reservation {
 
     ghost bottom = { None };
 
-    ghost applied = { λ x s c. joined_registers option_window_cmp x (with_stamp s (window_change c)) };
+    ghost applied = { applied_reservation };
 
-    ghost joined = { λ x _ y _. joined_registers option_window_cmp x y };
+    ghost joined = { joined_reservations };
 
     ghost is_history = { λ _. Unit {0} };
 
-    ghost stands_for = { λ x h. register_stands_for x (part window_change h) };
+    ghost stands_for = { reservation_stands_for };
 
     ghost is_inline = { Unit {0} };
 
@@ -130,21 +122,21 @@ impl Causal for Reservation {
 
     ghost well_formed_joined = { λ _ _ _ _ _ _. tt };
 
-    ghost joined_assoc = { λ x y z _ _ _ _ _ _. option_max_assoc (stamped_cmp option_window_cmp) (stamped_total option_window_cmp option_window_total) (exact_stamped option_window_cmp exact_option_window) x y z };
+    ghost joined_assoc = { joined_reservations_assoc };
 
-    ghost joined_comm = { λ x y _ _ _ _. option_max_comm (stamped_cmp option_window_cmp) (stamped_total option_window_cmp option_window_total) (exact_stamped option_window_cmp exact_option_window) x y };
+    ghost joined_comm = { joined_reservations_comm };
 
-    ghost joined_itself = { λ x _ _. option_max_itself (stamped_cmp option_window_cmp) x };
+    ghost joined_itself = { joined_reservations_itself };
 
     ghost joined_bottoms = { λ _ _. refl };
 
     ghost bottom_stands = { refl };
 
-    ghost applied_stands = { λ x h s c _ r _ _ _. reservation_applied_stands x h s c r };
+    ghost applied_stands = { reservation_adds_change };
 
-    ghost joined_stands = { λ x y _ _ g h _ _ p q _ _ _. reservation_joined_stands x y g h p q };
+    ghost joined_stands = { reservation_joins_histories };
 
-    ghost stands_same = { λ x g h e p. register_stands_same x (part window_change g) (part window_change h) (same_part window_change g h e) p };
+    ghost stands_same = { reservation_stands_for_sets };
 }
 
 /// A reservation that stands for a history of operations, of which different ones have different stamps, is their

@@ -38,15 +38,24 @@ pub struct StageChanges<Deleted, Grant, Begun, Finished> {
 }
 
 /// Two are identical exactly where their parts are equal.
-impl<Deleted: ExactEq, Grant: ExactEq, Begun: ExactEq, Finished: ExactEq> ExactEq for Stages<Deleted, Grant, Begun, Finished> {
-    ghost exact_eq = { tells_stages Deleted.eq Grant.eq Begun.eq Finished.eq Deleted.exact_eq Grant.exact_eq Begun.exact_eq Finished.exact_eq };
+impl<Deleted: ExactEq, Grant: ExactEq, Begun: ExactEq, Finished: ExactEq> ExactEq
+    for Stages<Deleted, Grant, Begun, Finished> {
+    ghost exact_eq = { tells_stages Deleted.eq Grant.eq Begun.eq Finished.eq
+        Deleted.exact_eq Grant.exact_eq Begun.exact_eq Finished.exact_eq };
 }
 
 /// Each part changes and joins by itself. A change is of the parts that it names; the others stay.
-impl<Deleted: Inline + Drop, Grant: Inline + Drop, Begun: Inline + Drop, Finished: Inline + Drop> Causal for Stages<Deleted, Grant, Begun, Finished> {
+impl<
+    Deleted: Inline + Drop,
+    Grant: Inline + Drop,
+    Begun: Inline + Drop,
+    Finished: Inline + Drop,
+> Causal for Stages<Deleted, Grant, Begun, Finished> {
     type Change = StageChanges<Deleted::Change, Grant::Change, Begun::Change, Finished::Change>;
 
-    ghost well_formed = { λ x. Deleted.well_formed x.deleted × Grant.well_formed x.grant × Begun.well_formed x.begun × Finished.well_formed x.finished };
+    ghost well_formed = { λ x.
+        Deleted.well_formed x.deleted × Grant.well_formed x.grant × Begun.well_formed x.begun ×
+        Finished.well_formed x.finished };
 
     ghost bottom = { record {
       deleted = Deleted.bottom;
@@ -69,9 +78,13 @@ impl<Deleted: Inline + Drop, Grant: Inline + Drop, Begun: Inline + Drop, Finishe
       finished = Finished.joined x.finished v y.finished w;
     } };
 
-    ghost is_history = { λ h. Deleted.is_history (part deleted_change h) × Grant.is_history (part grant_change h) × Begun.is_history (part begun_change h) × Finished.is_history (part finished_change h) };
+    ghost is_history = { λ h.
+        Deleted.is_history (part deleted_change h) × Grant.is_history (part grant_change h) ×
+        Begun.is_history (part begun_change h) × Finished.is_history (part finished_change h) };
 
-    ghost stands_for = { λ x h. Deleted.stands_for x.deleted (part deleted_change h) × Grant.stands_for x.grant (part grant_change h) × Begun.stands_for x.begun (part begun_change h) × Finished.stands_for x.finished (part finished_change h) };
+    ghost stands_for = { λ x h.
+        Deleted.stands_for x.deleted (part deleted_change h) × Grant.stands_for x.grant (part grant_change h) ×
+        Begun.stands_for x.begun (part begun_change h) × Finished.stands_for x.finished (part finished_change h) };
 
     ghost is_inline = { Deleted.is_inline × Grant.is_inline × Begun.is_inline × Finished.is_inline };
 
@@ -93,7 +106,11 @@ impl<Deleted: Inline + Drop, Grant: Inline + Drop, Begun: Inline + Drop, Finishe
         })
     }
 
-    fn apply(&mut self, at: Stamp, change: &StageChanges<Deleted::Change, Grant::Change, Begun::Change, Finished::Change>) -> Result<(), NoMemory> {
+    fn apply(
+        &mut self,
+        at: Stamp,
+        change: &StageChanges<Deleted::Change, Grant::Change, Begun::Change, Finished::Change>,
+    ) -> Result<(), NoMemory> {
         apply_option(&mut self.deleted, at, &change.deleted);
         apply_option(&mut self.grant, at, &change.grant);
         apply_option(&mut self.begun, at, &change.begun);
@@ -110,7 +127,12 @@ impl<Deleted: Inline + Drop, Grant: Inline + Drop, Begun: Inline + Drop, Finishe
         })
     }
 
-    ghost well_formed_bottom = { (Deleted.well_formed_bottom, Grant.well_formed_bottom, Begun.well_formed_bottom, Finished.well_formed_bottom) };
+    ghost well_formed_bottom = { (
+      Deleted.well_formed_bottom,
+      Grant.well_formed_bottom,
+      Begun.well_formed_bottom,
+      Finished.well_formed_bottom,
+    ) };
 
     ghost well_formed_applied = { λ x s c p. (
       applied_well_formed _ _ Deleted.well_formed_applied x.deleted s c.deleted p.0,
@@ -154,7 +176,12 @@ impl<Deleted: Inline + Drop, Grant: Inline + Drop, Begun: Inline + Drop, Finishe
       finished = Finished.joined_bottoms v w i;
     } };
 
-    ghost bottom_stands = { (Deleted.bottom_stands, Grant.bottom_stands, Begun.bottom_stands, Finished.bottom_stands) };
+    ghost bottom_stands = { (
+      Deleted.bottom_stands,
+      Grant.bottom_stands,
+      Begun.bottom_stands,
+      Finished.bottom_stands,
+    ) };
 
     ghost applied_stands = { λ x h s c p r k f i. (
       part_adds_change deleted_change _ _ _ _ Deleted.applied_stands x.deleted h s c p.0 r.0 k.0 f i.0,
@@ -164,10 +191,14 @@ impl<Deleted: Inline + Drop, Grant: Inline + Drop, Begun: Inline + Drop, Finishe
     ) };
 
     ghost joined_stands = { λ x y v w g h p q rx ry a i j. (
-      part_joins_histories deleted_change _ _ _ _ Deleted.joined_stands x.deleted y.deleted v w g h p.0 q.0 rx.0 ry.0 a i.0 j.0,
-      part_joins_histories grant_change _ _ _ _ Grant.joined_stands x.grant y.grant v w g h p.1 q.1 rx.1 ry.1 a i.1 j.1,
-      part_joins_histories begun_change _ _ _ _ Begun.joined_stands x.begun y.begun v w g h p.2 q.2 rx.2 ry.2 a i.2 j.2,
-      part_joins_histories finished_change _ _ _ _ Finished.joined_stands x.finished y.finished v w g h p.3 q.3 rx.3 ry.3 a i.3 j.3,
+      part_joins_histories deleted_change _ _ _ _ Deleted.joined_stands x.deleted y.deleted v w g h
+          p.0 q.0 rx.0 ry.0 a i.0 j.0,
+      part_joins_histories grant_change _ _ _ _ Grant.joined_stands x.grant y.grant v w g h
+          p.1 q.1 rx.1 ry.1 a i.1 j.1,
+      part_joins_histories begun_change _ _ _ _ Begun.joined_stands x.begun y.begun v w g h
+          p.2 q.2 rx.2 ry.2 a i.2 j.2,
+      part_joins_histories finished_change _ _ _ _ Finished.joined_stands x.finished y.finished v w g h
+          p.3 q.3 rx.3 ry.3 a i.3 j.3,
     ) };
 
     ghost stands_same = { λ x g h e p. (
@@ -179,6 +210,16 @@ impl<Deleted: Inline + Drop, Grant: Inline + Drop, Begun: Inline + Drop, Finishe
 }
 
 /// Its copies, changes and joins are never refused memory.
-impl<Deleted: Inline + Drop, Grant: Inline + Drop, Begun: Inline + Drop, Finished: Inline + Drop> Inline for Stages<Deleted, Grant, Begun, Finished> {
-    ghost never_refused = { (Deleted.never_refused, Grant.never_refused, Begun.never_refused, Finished.never_refused) };
+impl<
+    Deleted: Inline + Drop,
+    Grant: Inline + Drop,
+    Begun: Inline + Drop,
+    Finished: Inline + Drop,
+> Inline for Stages<Deleted, Grant, Begun, Finished> {
+    ghost never_refused = { (
+      Deleted.never_refused,
+      Grant.never_refused,
+      Begun.never_refused,
+      Finished.never_refused,
+    ) };
 }

@@ -6,7 +6,7 @@ use std::marker::Model;
 /// The greatest term.
 pub const MAX_TERM: u64 = 1_000_000_000;
 
-/// The term of a grant, from 1 to 1,000,000,000. The grants of a job have the terms 1, 2 and so on, each handed
+/// The term of a grant, from 1 to `MAX_TERM`. The grants of a job have the terms 1, 2 and so on, each handed
 /// back before the next.
 #[derive(Clone, Copy, PartialEq, Eq, PartialOrd, Ord, Debug)]
 pub struct Term {
@@ -15,12 +15,13 @@ pub struct Term {
 
 impl Model for Term {
     ghost use Rattle.std.specs.Prelude.{ℕ, ◌≤◌};
+    ghost use Rattle.fed_record.specs.declared.terms.TheConstants.{MAX_TERM};
 
     ghost Value = { ℕ };
 
     ghost view = { λ n. n.number };
 
-    ghost invariant = { λ n. (1 ≤ n.number) × (n.number ≤ 1_000_000_000) };
+    ghost invariant = { λ n. (1 ≤ n.number) × (n.number ≤ MAX_TERM) };
 
     ghost inverse = { λ n. record { number = n } };
 }

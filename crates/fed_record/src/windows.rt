@@ -3,8 +3,8 @@ use fed_stamp::SiteId;
 
 /// Nodes of a site that are kept free from the second `start` on to the second before `end`.
 ///
-/// A window that a Reserve is accepted with has an end above its start and of at most 1,000,000,000,000, and from 1 to
-/// 1,000,000 nodes. The type itself doesn't keep this, since a window that somebody asks for may be another: such a
+/// A window that a Reserve is accepted with has an end above its start and of at most `MAX_MOMENT`, and from 1 to
+/// `MAX_NODES` nodes. The type itself doesn't keep this, since a window that somebody asks for may be another: such a
 /// one is refused with `Refusal::BadWindow`.
 #[derive(Clone, Copy, PartialEq, Eq, PartialOrd, Ord, Debug)]
 pub struct Window {

@@ -1,4 +1,4 @@
-use Rattle.fed_record.specs.CoveredLaws.{covered_joined, covered_same}
+use Rattle.fed_record.proofs.CoveredLaws.{covered_joined, covered_same}
 use Rattle.fed_record.specs.RecordLaws.{hold_order, hold_exact, site_order, site_exact}
 use Rattle.fed_record.proofs.records.RecordCausal.join.Goals as goal
 
