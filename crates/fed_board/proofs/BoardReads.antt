@@ -5,9 +5,9 @@ use Rattle.std.specs.Prelude.{if◌then◌else◌}
 use Rattle.std.proofs.Common.{◌≡◌, ℕ, List, Bool, true, false, cond, Option, Some, None, is_some, refl, sym, ap, ap₂, subst, ◌∙◌}
 use Rattle.std.proofs.lemmas.Cmp.{tied_itself}
 use Rattle.std.proofs.lemmas.Map.Views.{tells_apart}
-use Rattle.fed_stamp.specs.Stamp.{StampValue}
+use Rattle.fed_stamp.specs.Stamp.{StampValue, same_stamp}
 use Rattle.fed_stamp.specs.Version.{joined, raised}
-use Rattle.fed_lattice.specs.ExactLaws.{exact_stamp}
+use Rattle.fed_lattice.specs.ExactLaws.{exact_stamp, same_stamp_is, same_stamp_itself}
 use Rattle.fed_lattice.specs.Latest.{stamp_cmp}
 use Rattle.fed_lattice.specs.LatestLaws.{stamp_total}
 use Rattle.fed_lattice.specs.Laws.{BottomsJoin}
@@ -16,7 +16,7 @@ use Rattle.fed_lattice.specs.Stamped.{with_stamp}
 use Rattle.fed_lattice.specs.Table.{value_at}
 use Rattle.fed_lattice.proofs.TableValues.{value_at-insert_entry, value_at-joined_tables}
 use Rattle.fed_record.specs.declared.operations.Operation.{Operation}
-use Rattle.fed_record.specs.Body.{Body, Body.Submit, Body.Set, Body.Hold, Body.Release, Body.Delete, Body.Grant, Body.HandBack, Body.Begin, Body.Finish, Body.Reserve, Body.Cancel, job_of, reservation_of, is_named, same_stamp, is_of_job, is_of_reservation}
+use Rattle.fed_record.specs.Body.{Body, Body.Submit, Body.Set, Body.Hold, Body.Release, Body.Delete, Body.Grant, Body.HandBack, Body.Begin, Body.Finish, Body.Reserve, Body.Cancel, job_of, reservation_of, is_named, is_of_job, is_of_reservation}
 use Rattle.fed_record.specs.Field.{window_in}
 use Rattle.fed_record.specs.JobRecord.{JobRecordValue, reads as reads_job}
 use Rattle.fed_record.specs.JobSteps.{add_to_job, join_jobs}
@@ -24,7 +24,6 @@ use Rattle.fed_record.specs.JobView.{JobView}
 use Rattle.fed_record.specs.Operation.{body_of}
 use Rattle.fed_record.specs.Reservation.{ReservationView}
 use Rattle.fed_record.specs.ValueOrders.{option_window_cmp}
-use Rattle.fed_record.proofs.PairLaws.{same_stamp_is, same_stamp_itself}
 use Rattle.fed_board.specs.Board.{BoardValue, no_operation, reads, merged, changed_job, changed_reservation}
 use Rattle.fed_board.specs.ViewSteps.{add_to_view, join_views}
 

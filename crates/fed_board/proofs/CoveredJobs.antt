@@ -4,21 +4,22 @@ use Rattle.std.specs.Ordering.{ord_max, is_lt, nat_cmp, int_cmp}
 use Rattle.std.proofs.Common.{◌≡◌, ℕ, ◌<◌, max, List, length, length-set, Bool, true, false, cond, Option, Some, None, Ordering, refl, subst, ◌∙◌, inl, inr, arith}
 use Rattle.std.proofs.lemmas.Bool.{and_parts}
 use Rattle.std.proofs.lemmas.Option.{IfSome_then}
-use Rattle.fed_stamp.specs.Stamp.{StampValue}
+use Rattle.fed_stamp.specs.Stamp.{StampValue, same_stamp}
 use Rattle.fed_stamp.specs.Version.{covers, joined, raised}
 use Rattle.fed_stamp.proofs.VersionLaws.{covers_more, below_joined_left, below_joined_right, length-joined}
 use Rattle.fed_lattice.specs.Register.{stamped_cmp, joined_registers}
 use Rattle.fed_lattice.specs.Stamped.{with_stamp}
-use Rattle.fed_record.specs.Body.{Body, Body.Submit, Body.Set, Body.Hold, Body.Release, Body.Delete, Body.Grant, Body.HandBack, Body.Begin, Body.Finish, Body.Reserve, Body.Cancel, same_stamp}
+use Rattle.fed_record.specs.Body.{Body, Body.Submit, Body.Set, Body.Hold, Body.Release, Body.Delete, Body.Grant, Body.HandBack, Body.Begin, Body.Finish, Body.Reserve, Body.Cancel}
 use Rattle.fed_record.proofs.CoveredLaws.{either_side, old_or_new}
 use Rattle.fed_record.specs.Field.{owner_in, name_in, priority_in, nodes_in, limit_in, account_in, begin_in, finish_in}
 use Rattle.fed_record.specs.Grant.{grant_cmp, grant_in, stamp_of}
 use Rattle.fed_record.specs.JobRecord.{reads as reads_job}
 use Rattle.fed_record.specs.JobSteps.{add_to_job, join_jobs}
 use Rattle.fed_record.specs.JobView.{JobView}
-use Rattle.fed_record.specs.Pairs.{adds_site, removes_site, adds_hold, removes_hold, adds_pair, add_live, join_live}
+use Rattle.fed_record.specs.Pairs.{adds_site, removes_site, adds_hold, removes_hold, adds_pair, add_live}
+use Rattle.fed_tags.specs.Tags.{stays}
 use Rattle.fed_record.specs.ValueOrders.{name_cmp, account_cmp, beginning_cmp, ending_cmp}
-use Rattle.fed_record.proofs.PairLaws.{same_stamp_is}
+use Rattle.fed_lattice.specs.ExactLaws.{same_stamp_is}
 use Rattle.fed_board.specs.Board.{no_operation}
 use Rattle.fed_board.specs.CoveredJob.{IsCoveredAt, IsCoveredRegister, AreCoveredPairs, IsCoveredJob}
 use Rattle.fed_board.proofs.VersionGrowth.{covers_raised, own_raised}
@@ -114,7 +115,7 @@ module _ (v w : List ℕ) (x y : JobView) (i : IsCoveredJob x) (k : IsCoveredJob
       (later_covered (λ (r : StampValue × T). r.0) y.touched (joined x.touched y.touched) right q b)
 
   both_pairs : {E : Type 0} (here there : E → StampValue → Bool) → AreCoveredPairs x.touched here → AreCoveredPairs y.touched there
-      → AreCoveredPairs (joined x.touched y.touched) (λ element tag. join_live (here element tag) (covers v tag) (there element tag) (covers w tag))
+      → AreCoveredPairs (joined x.touched y.touched) (λ element tag. stays (here element tag) (covers v tag) (there element tag) (covers w tag))
   both_pairs here there p q element tag e = elim (either_side (here element tag) (covers v tag) (there element tag) (covers w tag) e) [
     | inl l ↦ left tag (p element tag l)
     | inr r ↦ right tag (q element tag r)

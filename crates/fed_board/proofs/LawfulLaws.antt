@@ -1,6 +1,6 @@
 -- Lawful sets.
 use Rattle.std.proofs.Common.{◌≡◌, ℕ, zero, suc, ◌++◌, Bool, true, subst}
-use Rattle.fed_stamp.specs.Stamp.{StampValue}
+use Rattle.fed_stamp.specs.Stamp.{StampValue, same_stamp}
 use Rattle.fed_lattice.specs.Sets.{Has, Includes, IsSameSet}
 use Rattle.fed_lattice.specs.SetLaws.{same_union_comm}
 use Rattle.fed_lattice.specs.History.{History, Agree}
@@ -8,9 +8,9 @@ use Rattle.fed_lattice.proofs.FilterLaws.{Has-filter, filter-Has}
 use Rattle.fed_lattice.specs.VersionOf.{version_of}
 use Rattle.fed_lattice.proofs.VersionOfLaws.{version_of-covers}
 use Rattle.fed_record.specs.declared.holds.HoldKind.{HoldKind}
-use Rattle.fed_record.specs.Body.{Body, Body.Submit, Body.Set, Body.Hold, Body.Release, Body.Delete, Body.Grant, Body.HandBack, Body.Begin, Body.Finish, Body.Reserve, Body.Cancel, same_stamp, is_of_job, of_job}
+use Rattle.fed_record.specs.Body.{Body, Body.Submit, Body.Set, Body.Hold, Body.Release, Body.Delete, Body.Grant, Body.HandBack, Body.Begin, Body.Finish, Body.Reserve, Body.Cancel, is_of_job, of_job}
 use Rattle.fed_record.specs.Pairs.{adds_site, removes_site, adds_hold, removes_hold, IsJobHistory}
-use Rattle.fed_record.proofs.PairLaws.{same_stamp_is}
+use Rattle.fed_lattice.specs.ExactLaws.{same_stamp_is}
 use Rattle.fed_board.specs.Lawful.{IsSubmitted, HasAdded, IsNextTerm, IsGrounded, IsLawful, AreKin}
 
 -- what rests on a set rests on a larger one

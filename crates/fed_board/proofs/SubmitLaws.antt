@@ -2,17 +2,18 @@
 use Rattle.std.specs.Prelude.{is_some}
 use Rattle.std.proofs.Common.{◌≡◌, [], true, false, Some, refl, ap, subst}
 use Rattle.std.proofs.lemmas.Bool.{both_ways}
-use Rattle.fed_stamp.specs.Stamp.{StampValue}
+use Rattle.fed_stamp.specs.Stamp.{StampValue, same_stamp}
 use Rattle.fed_lattice.specs.Sets.{Has}
 use Rattle.fed_lattice.specs.SetLaws.{empty_from_none}
 use Rattle.fed_lattice.specs.History.{History}
 use Rattle.fed_lattice.proofs.FilterLaws.{Has-filter, filter-Has}
-use Rattle.fed_record.specs.Body.{Body, Body.Submit, Body.Set, Body.Hold, Body.Release, Body.Delete, Body.Grant, Body.HandBack, Body.Begin, Body.Finish, Body.Reserve, Body.Cancel, same_stamp, is_of_job, of_job, is_of_reservation, of_reservation}
+use Rattle.fed_record.specs.Body.{Body, Body.Submit, Body.Set, Body.Hold, Body.Release, Body.Delete, Body.Grant, Body.HandBack, Body.Begin, Body.Finish, Body.Reserve, Body.Cancel, is_of_job, of_job, is_of_reservation, of_reservation}
 use Rattle.fed_record.specs.Field.{window_in, field}
 use Rattle.fed_record.specs.JobView.{job_view}
 use Rattle.fed_record.specs.Letter.{is_submitted}
 use Rattle.fed_record.proofs.FoundLaws.{some_found, field_found, said_found, submit_found, submitted_from}
-use Rattle.fed_record.proofs.PairLaws.{same_stamp_is, same_stamp_itself}
+use Rattle.fed_lattice.specs.ExactLaws.{same_stamp_itself}
+use Rattle.fed_lattice.specs.ExactLaws.{same_stamp_is}
 use Rattle.fed_board.specs.View.{view, HasSubmit, HasReserve}
 use Rattle.fed_board.specs.Lawful.{IsSubmitted, IsGrounded, IsLawful}
 

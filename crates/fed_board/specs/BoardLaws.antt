@@ -4,10 +4,9 @@ use Rattle.std.specs.Cmp.{IsPartialEquivalence, both_ways}
 use Rattle.std.specs.Cmp.Lexicographic.{pointwise}
 use Rattle.std.proofs.Common.{ap, sym, ◌∙◌}
 use Rattle.std.proofs.lemmas.Bool.{and_parts}
-use Rattle.fed_stamp.specs.Stamp.{StampValue}
+use Rattle.fed_stamp.specs.Stamp.{StampValue, same_stamp}
 use Rattle.fed_lattice.specs.Exact.{TellsApart}
 use Rattle.fed_lattice.specs.ExactLaws.{and_both, tells_numbers, tells_stamps, tells_pairs, tells_lists}
-use Rattle.fed_record.specs.Body.{same_stamp}
 use Rattle.fed_record.specs.JobRecord.{JobRecordValue}
 use Rattle.fed_record.specs.JobRecordLaws.{same_job_record, tells_job_records}
 use Rattle.fed_record.specs.Reservation.{ReservationView}

@@ -1,11 +1,17 @@
 //! What a set of operations says as a whole, and the boards that stand for such sets.
 #![tactic(auto)]
 
+/// Boards, what is read of them, and how they change and merge.
 pub mod boards;
+/// How many names each site gave.
 pub mod counts;
+/// Laws of what is read of sets of operations.
 pub mod laws;
+/// How many jobs and reservations a site may name.
 pub mod limits;
+/// The laws of merging, on all boards.
 pub mod merging;
+/// That boards are told apart by what they read as.
 pub mod readings;
 
 pub use boards::Board;

@@ -5,7 +5,7 @@ ghost use Rattle.fed_desk.specs.Desk.{decision, first_of, grant_refusals};
 
 use crate::cases::first_refusal;
 use crate::decisions::Decision;
-use crate::jobs::{holder, is_barred, is_gone, is_granted_to, is_held_back, is_taken};
+use crate::jobs::{is_barred, is_held_back, is_taken};
 use fed_board::Board;
 use fed_record::Refusal;
 use fed_stamp::{JobId, SiteId};
@@ -20,13 +20,13 @@ pub fn grant_refusal(board: &Board, me: SiteId, job: JobId, asker: SiteId) -> Op
         return Some(Refusal::UnknownJob);
     };
     first_refusal(&[
-        (is_gone(record), Refusal::Gone),
+        (record.is_gone(), Refusal::Gone),
         (job.site() != me, Refusal::NotOrigin),
         (is_held_back(record), Refusal::Held),
         (is_barred(asker, record), Refusal::NotEligible),
         (
             is_taken(asker, record),
-            Refusal::TakenBy(holder(record).unwrap_or(asker)),
+            Refusal::TakenBy(record.holder().unwrap_or(asker)),
         ),
     ])
 }
@@ -41,7 +41,7 @@ pub fn decide(board: &Board, me: SiteId, job: JobId, asker: SiteId) -> Decision
         return Decision::Refused(refusal);
     }
     match board.job(job) {
-        Some(record) if is_granted_to(asker, record) => Decision::Yours,
+        Some(record) if record.is_granted_to(asker) => Decision::Yours,
         _ => Decision::Grant,
     }
 }

@@ -1,12 +1,19 @@
 //! The JSON values of jobs, and what is read of them.
 #![tactic(auto)]
 
+/// The fields of a job.
 pub mod fields;
+/// Formats of packets.
 pub mod formats;
+/// The stage of a job's grants.
 pub mod grants;
+/// The live pairs of a job.
 pub mod pairs;
+/// What was read of a job, part by part.
 pub mod parts;
+/// The Begin and the Finish of a job.
 pub mod progress;
+/// Sites, stamps and versions.
 pub mod stamps;
 
 pub use formats::Format;

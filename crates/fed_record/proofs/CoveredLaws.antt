@@ -7,12 +7,11 @@ use Rattle.fed_stamp.specs.Stamp.{StampValue}
 use Rattle.fed_stamp.specs.Version.{covers, counter_of, joined, raised}
 use Rattle.fed_stamp.proofs.VersionLaws.{covers-joined}
 use Rattle.fed_lattice.proofs.VersionOfLaws.{raised_cases}
-use Rattle.fed_tags.specs.Tags.{has, stamped, applied_tags, joined_tags}
+use Rattle.fed_tags.specs.Tags.{has, stamped, applied_tags, joined_tags, stays}
 use Rattle.fed_tags.specs.TagLaws.{has_member, member, has_joined, has_applied, stamped_at}
-use Rattle.fed_record.specs.Pairs.{join_live}
 use Rattle.fed_record.specs.Record.{IsCoveredStamp, AreCovered}
 
-pub either_side : (a c b d : Bool) → join_live a c b d ≡ true → (a ≡ true) ⊎ (b ≡ true)
+pub either_side : (a c b d : Bool) → stays a c b d ≡ true → (a ≡ true) ⊎ (b ≡ true)
 either_side true c b d e = inl refl
 either_side false c true d e = inr refl
 either_side false c false d e = cc

@@ -3,24 +3,18 @@ use Rattle.std.specs.List.{list_any}
 use Rattle.std.proofs.Common.{◌≡◌, ℕ, List, [], ◌∷◌, ◌++◌, Bool, true, false, not, ◌&&◌, ◌||◌, refl, sym, subst, ◌∙◌, arith}
 use Rattle.std.proofs.lemmas.Bool.{and_parts}
 use Rattle.std.proofs.lemmas.List.Folds.{list_any-append}
-use Rattle.fed_stamp.specs.Stamp.{StampValue}
+use Rattle.fed_stamp.specs.Stamp.{StampValue, same_stamp}
 use Rattle.fed_stamp.specs.Version.{covers}
 use Rattle.fed_lattice.specs.Sets.{Has, IsSameSet}
 use Rattle.fed_lattice.specs.SetLaws.{found, any_from, any_same}
 use Rattle.fed_lattice.specs.History.{History, IsFresh, Agree}
-use Rattle.fed_lattice.specs.ExactLaws.{tells_stamps}
-use Rattle.fed_record.specs.Body.{same_stamp}
-use Rattle.fed_record.specs.Pairs.{adds_pair, removes_pair, is_live, RemovesAdded, add_live, join_live}
-
-pub same_stamp_is : (s t : StampValue) → same_stamp s t ≡ true → s ≡ t
-same_stamp_is s t e = (tells_stamps s t).0 e
-
-pub same_stamp_itself : (s : StampValue) → same_stamp s s ≡ true
-same_stamp_itself s = (tells_stamps s s).1 refl
+use Rattle.fed_lattice.specs.ExactLaws.{same_stamp_is, same_stamp_itself}
+use Rattle.fed_record.specs.Pairs.{adds_pair, removes_pair, is_live, RemovesAdded, add_live}
+use Rattle.fed_tags.specs.Tags.{stays}
 
 -- the two sides in bits: added, removed and covered, here and there
 join_bits : (a r c b s d : Bool) → (b ≡ true → c ≡ true → a ≡ true) → (a ≡ true → d ≡ true → b ≡ true) → (r ≡ true → c ≡ true) → (s ≡ true → d ≡ true)
-    → ((a || b) && not (r || s)) ≡ join_live (a && not r) c (b && not s) d
+    → ((a || b) && not (r || s)) ≡ stays (a && not r) c (b && not s) d
 join_bits a r c b s d p q k l = grind arith
 
 -- added and removed before, and by the new operation: what was removed is not added just now
@@ -53,7 +47,7 @@ module _ {C E : Type 0} (adds : C → E → Bool) (removes : C → E → StampVa
       let f = found (removes_pair adds removes element tag) h e in rests f.0 element tag f.1 f.2
 
   pub live_union : (v w : List ℕ) (g h : History C) → Agree v g w h → RemovesAdded adds removes g → RemovesAdded adds removes h
-      → is_live adds removes (g ++ h) element tag ≡ join_live (is_live adds removes g element tag) (covers v tag) (is_live adds removes h element tag) (covers w tag)
+      → is_live adds removes (g ++ h) element tag ≡ stays (is_live adds removes g element tag) (covers v tag) (is_live adds removes h element tag) (covers w tag)
   unfolding added removed
   live_union v w g h agree rests_g rests_h =
       let a = list_any-append (adds_pair adds removes element tag) g h in

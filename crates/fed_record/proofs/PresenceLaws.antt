@@ -3,17 +3,17 @@ use Rattle.std.proofs.Common.{◌≡◌, ℕ, zero, suc, ◌≤◌, ◌<◌, Lis
 use Rattle.std.specs.Prelude.{◌↔◌}
 use Rattle.std.specs.List.{list_any}
 use Rattle.std.proofs.lemmas.Bool.{or_cases, or_left, or_right, cases_eq, and_parts}
-use Rattle.fed_stamp.specs.Stamp.{StampValue}
+use Rattle.fed_stamp.specs.Stamp.{StampValue, same_stamp}
 use Rattle.fed_stamp.specs.Version.{counter_of}
 use Rattle.fed_lattice.specs.Sets.{Has}
 use Rattle.fed_lattice.specs.SetLaws.{found}
 use Rattle.fed_lattice.specs.History.{History}
 use Rattle.fed_lattice.specs.VersionOf.{version_of, HasSites}
 use Rattle.fed_lattice.proofs.VersionOfLaws.{version_of-Has}
-use Rattle.fed_record.specs.Body.{Body, same_stamp}
+use Rattle.fed_record.specs.Body.{Body}
 use Rattle.fed_record.specs.Letter.{any_below, any_covered}
 use Rattle.fed_record.specs.Pairs.{adds_pair, is_live}
-use Rattle.fed_record.proofs.PairLaws.{same_stamp_is}
+use Rattle.fed_lattice.specs.ExactLaws.{same_stamp_is}
 
 pub any_below_from : (n : ℕ) (test : ℕ → Bool) (k : ℕ) → k < n → test k ≡ true → any_below n test ≡ true
 unfolding any_below

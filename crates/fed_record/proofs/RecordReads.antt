@@ -8,10 +8,10 @@ use Rattle.std.proofs.lemmas.Bool.{and_parts, ltb-true}
 use Rattle.std.proofs.lemmas.Cmp.{tied_itself}
 use Rattle.std.proofs.lemmas.Map.Lookups.{CmpEqualImpliesEq, exact_unsigned}
 use Rattle.std.proofs.lemmas.Map.Views.{tells_apart}
-use Rattle.fed_stamp.specs.Stamp.{StampValue}
+use Rattle.fed_stamp.specs.Stamp.{StampValue, same_stamp}
 use Rattle.fed_lattice.specs.Both.{applied_option}
 use Rattle.fed_lattice.specs.Exact.{TellsApart}
-use Rattle.fed_lattice.specs.ExactLaws.{and_both, tells_numbers}
+use Rattle.fed_lattice.specs.ExactLaws.{and_both, tells_numbers, same_stamp_is, same_stamp_itself}
 use Rattle.fed_lattice.proofs.FilterLaws.{Has-filter, filter-Has}
 use Rattle.fed_lattice.specs.FlagLaws.{or_comm}
 use Rattle.fed_lattice.specs.Register.{stamped_cmp, joined_registers}
@@ -22,13 +22,12 @@ use Rattle.fed_tags.specs.TagLaws.{pair_total, exact_pair, has_member, member, h
 use Rattle.fed_record.specs.declared.holds.HoldKind.{HoldKind}
 use Rattle.fed_record.specs.declared.holds.HoldKind.TheVariants.{User, Operator, System}
 use Rattle.fed_record.specs.declared.operations.Operation.{Operation}
-use Rattle.fed_record.specs.Body.{Body, Body.Submit, Body.Set, same_stamp}
+use Rattle.fed_record.specs.Body.{Body, Body.Submit, Body.Set}
 use Rattle.fed_record.specs.Changes.{all_kinds, removed_holds, removed_sites, hold_change, site_change}
 use Rattle.fed_record.specs.Hold.{same_kind, kind_cmp}
 use Rattle.fed_record.specs.HoldLaws.{kind_total, exact_kind}
 use Rattle.fed_record.specs.Operation.{body_of}
 use Rattle.fed_record.specs.Pairs.{adds_pair, add_live, adds_site, removes_site, adds_hold, removes_hold, is_site_named}
-use Rattle.fed_record.proofs.PairLaws.{same_stamp_is, same_stamp_itself}
 
 -- ---- registers, stages and marks, of which an operation may say nothing
 pub max_none : {T : Type 0} (cmp : T → T → Ordering) (x : Option T) → ord_max (option_cmp cmp) x None ≡ x

@@ -4,8 +4,8 @@ use Rattle.std.specs.List.{list_any}
 use Rattle.std.proofs.Common.{◌≡◌, ◌↔◌, List, Bool, true, false, not, Some, Ordering, refl, sym, ap, subst, ◌∙◌, inl, inr}
 use Rattle.std.proofs.lemmas.Bool.{and_parts, cases_Bool}
 use Rattle.std.proofs.lemmas.Map.Lookups.{CmpEqualImpliesEq}
-use Rattle.fed_stamp.specs.Stamp.{StampValue}
-use Rattle.fed_lattice.specs.ExactLaws.{and_both}
+use Rattle.fed_stamp.specs.Stamp.{StampValue, same_stamp}
+use Rattle.fed_lattice.specs.ExactLaws.{and_both, same_stamp_is, same_stamp_itself}
 use Rattle.fed_lattice.specs.Sets.{Has}
 use Rattle.fed_lattice.specs.SetLaws.{found, any_from}
 use Rattle.fed_lattice.specs.History.{History}
@@ -14,12 +14,11 @@ use Rattle.fed_lattice.specs.PartLaws.{source, Has-part}
 use Rattle.fed_tags.specs.Tags.{pair_cmp, has, IsAdded, IsRemoved, tags_stand_for}
 use Rattle.fed_tags.specs.TagLaws.{pair_total, exact_pair, has_member, member}
 use Rattle.fed_record.specs.declared.operations.Operation.{Operation}
-use Rattle.fed_record.specs.Body.{Body, same_stamp}
+use Rattle.fed_record.specs.Body.{Body}
 use Rattle.fed_record.specs.Changes.{always}
 use Rattle.fed_record.specs.Operation.{body_of, bodies}
 use Rattle.fed_record.specs.Pairs.{adds_pair, removes_pair, is_live}
 use Rattle.fed_record.proofs.BodyLaws.{bodies-Has, Has-bodies}
-use Rattle.fed_record.proofs.PairLaws.{same_stamp_is, same_stamp_itself}
 
 not_true : (b : Bool) → not b ≡ true → b ≡ true → ⊥
 not_true true e f = cc

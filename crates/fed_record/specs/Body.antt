@@ -1,7 +1,7 @@
 -- Operations: what a site does, each time under a stamp of its own. A set of operations is a history of their
 -- bodies.
-use Rattle.std.specs.Prelude.{ℕ, Bool, false, ◌&&◌, ◌==◌, List, filter, Option, Some, None}
-use Rattle.fed_stamp.specs.Stamp.{StampValue}
+use Rattle.std.specs.Prelude.{ℕ, Bool, false, List, filter, Option, Some, None}
+use Rattle.fed_stamp.specs.Stamp.{StampValue, same_stamp}
 use Rattle.fed_lattice.specs.History.{History}
 use Rattle.fed_record.specs.declared.holds.HoldKind.{HoldKind}
 use Rattle.fed_record.specs.declared.holds.HoldKinds.{HoldKinds}
@@ -24,9 +24,6 @@ pub data Body : Type 0 where
   Finish : (job : StampValue) (ending : Ending) → Body
   Reserve : (window : Window) → Body
   Cancel : (reservation : StampValue) → Body
-
-abbrev pub same_stamp : StampValue → StampValue → Bool
-same_stamp s t = s.counter == t.counter && s.site == t.site
 
 -- the job that the operation is of: a job is named by the stamp of its Submit
 abbrev pub job_of : StampValue → Body → Option StampValue

@@ -7,12 +7,11 @@ use Rattle.std.specs.Ordering.{int_cmp, int_eq, eq_by_cmp}
 use Rattle.std.proofs.Common.{ap, refl}
 use Rattle.std.proofs.lemmas.Cmp.{int_cmp_total}
 use Rattle.std.proofs.lemmas.Map.Lookups.{exact_signed}
-use Rattle.fed_stamp.specs.Stamp.{StampValue}
+use Rattle.fed_stamp.specs.Stamp.{StampValue, same_stamp}
 use Rattle.fed_lattice.specs.Exact.{TellsApart}
 use Rattle.fed_lattice.specs.ExactLaws.{tells_booleans, tells_numbers, tells_stamps, tells_options, tells_pairs, tells_lists, tells_by_order}
 use Rattle.fed_record.specs.declared.progress.Beginning.{Beginning}
 use Rattle.fed_record.specs.declared.progress.Ending.{Ending}
-use Rattle.fed_record.specs.Body.{same_stamp}
 use Rattle.fed_record.specs.FieldsLaws.{same_fields, tells_fields}
 use Rattle.fed_record.specs.Grant.{grant_cmp}
 use Rattle.fed_record.specs.GrantLaws.{grant_total, exact_grant}

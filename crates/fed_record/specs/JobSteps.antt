@@ -9,7 +9,8 @@ use Rattle.fed_lattice.specs.Stamped.{with_stamp}
 use Rattle.fed_record.specs.Body.{Body}
 use Rattle.fed_record.specs.Field.{owner_in, name_in, priority_in, nodes_in, limit_in, account_in, deletion_in, begin_in, finish_in}
 use Rattle.fed_record.specs.Grant.{grant_cmp, grant_in}
-use Rattle.fed_record.specs.Pairs.{adds_site, removes_site, adds_hold, removes_hold, adds_pair, add_live, join_live}
+use Rattle.fed_record.specs.Pairs.{adds_site, removes_site, adds_hold, removes_hold, adds_pair, add_live}
+use Rattle.fed_tags.specs.Tags.{stays}
 use Rattle.fed_record.specs.JobView.{JobView}
 use Rattle.fed_record.specs.ValueOrders.{name_cmp, account_cmp, beginning_cmp, ending_cmp}
 
@@ -42,8 +43,8 @@ join_jobs v j w k = record {
   nodes = joined_registers nat_cmp j.nodes k.nodes;
   limit = joined_registers nat_cmp j.limit k.limit;
   account = joined_registers account_cmp j.account k.account;
-  sites = λ site tag. join_live (j.sites site tag) (covers v tag) (k.sites site tag) (covers w tag);
-  holds = λ kind tag. join_live (j.holds kind tag) (covers v tag) (k.holds kind tag) (covers w tag);
+  sites = λ site tag. stays (j.sites site tag) (covers v tag) (k.sites site tag) (covers w tag);
+  holds = λ kind tag. stays (j.holds kind tag) (covers v tag) (k.holds kind tag) (covers w tag);
   deleted = j.deleted || k.deleted;
   grant = ord_max (option_cmp grant_cmp) j.grant k.grant;
   begun = joined_registers beginning_cmp j.begun k.begun;

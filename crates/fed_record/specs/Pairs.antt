@@ -1,14 +1,14 @@
 -- Tagged elements: an element beside the stamp of the operation that added it.
 use Rattle.std.specs.Prelude.{◌≡◌, ℕ, Bool, true, false, not, ◌&&◌, ◌||◌, List, Option, Some, None}
 use Rattle.std.specs.List.{list_any}
-use Rattle.fed_stamp.specs.Stamp.{StampValue}
+use Rattle.fed_stamp.specs.Stamp.{StampValue, same_stamp}
 use Rattle.fed_stamp.specs.SiteSet.{has as has_site}
 use Rattle.fed_lattice.specs.Sets.{Has}
 use Rattle.fed_lattice.specs.History.{History}
 use Rattle.fed_record.specs.declared.holds.HoldKind.{HoldKind}
 use Rattle.fed_record.specs.declared.holds.HoldKind.TheVariants.{User}
 use Rattle.fed_record.specs.Hold.{has_kind}
-use Rattle.fed_record.specs.Body.{Body, Body.Submit, Body.Set, Body.Hold, Body.Release, same_stamp}
+use Rattle.fed_record.specs.Body.{Body, Body.Submit, Body.Set, Body.Hold, Body.Release}
 
 -- `adds` says which elements an operation adds, `removes` which pairs it removes
 module _ {C E : Type 0} (adds : C → E → Bool) (removes : C → E → StampValue → Bool) where
@@ -30,11 +30,6 @@ module _ {C E : Type 0} (adds : C → E → Bool) (removes : C → E → StampVa
 -- of a pair, once one more operation is there: whether it was live, is added, is removed
 abbrev pub add_live : Bool → Bool → Bool → Bool
 add_live live added removed = (live || added) && not removed
-
--- of a pair, on two sides each beside a version: a pair that is live on both stays, and one that is live on one
--- side alone stays where the other side's version does not cover its tag
-abbrev pub join_live : Bool → Bool → Bool → Bool → Bool
-join_live here covered_here there covered_there = (here && (there || not covered_there)) || (there && not covered_here)
 
 -- a site that is among those named
 abbrev pub is_site_named : Option (List Bool) → ℕ → Bool

@@ -11,11 +11,11 @@ use Rattle.std.proofs.lemmas.Map.Lookups.{CmpEqualImpliesEq}
 use Rattle.std.proofs.lemmas.Map.Views.{tells_apart, IfSome-lookup_from_All}
 use Rattle.std.proofs.lemmas.Bool.Decides.{Decides-eqb}
 use Rattle.std.proofs.lemmas.Slice.Eq.{slice_eq-Decides}
-use Rattle.fed_stamp.specs.Stamp.{StampValue}
+use Rattle.fed_stamp.specs.Stamp.{StampValue, same_stamp}
 use Rattle.fed_lattice.specs.Table.{IsTable}
 use Rattle.fed_lattice.specs.TableEntryLaws.{same_tables}
 use Rattle.fed_tags.specs.Tags.{pair_cmp, tags_of}
-use Rattle.fed_tags.specs.TagLaws.{stamp_eq, pair_total, exact_pair}
+use Rattle.fed_tags.specs.TagLaws.{pair_total, exact_pair}
 use Rattle.fed_tags.specs.Groups.{pairs, IsGroup}
 use Rattle.fed_tags.proofs.GroupLaws.{tags_pairs}
 
@@ -30,13 +30,13 @@ both_decide true true p q f g = (λ _. f (p.0 refl) (q.0 refl), λ _. refl)
 both_decide true false p q f g = (λ e. cc, λ r. q.1 (g r).1)
 both_decide false b p q f g = (λ e. cc, λ r. p.1 (g r).0)
 
-stamp_decides : (s t : StampValue) → Decides (stamp_eq s t) (s ≡ t)
+stamp_decides : (s t : StampValue) → Decides (same_stamp s t) (s ≡ t)
 stamp_decides s t = both_decide (nat_eq s.counter t.counter) (nat_eq s.site t.site) (Decides-eqb s.counter t.counter) (Decides-eqb s.site t.site)
     (λ a b. ap₂ (λ c d. let r : StampValue = record { counter = c; site = d } in r) a b)
     (λ e. (ap (λ (x : StampValue). x.counter) e, ap (λ (x : StampValue). x.site) e))
 
-pub stamps_decide : (ss us : List StampValue) → Decides (pointwise stamp_eq ss us) (ss ≡ us)
-stamps_decide ss us = slice_eq-Decides stamp_decides ss us (pointwise stamp_eq ss us) refl
+pub stamps_decide : (ss us : List StampValue) → Decides (pointwise same_stamp ss us) (ss ≡ us)
+stamps_decide ss us = slice_eq-Decides stamp_decides ss us (pointwise same_stamp ss us) refl
 
 module _ {K : Type 0} (R : K → K → Ordering) (o : IsTotalOrder R) (exact : CmpEqualImpliesEq R) where
   order_decides : (a b : K) → Decides (eq_by_cmp R a b) (a ≡ b)

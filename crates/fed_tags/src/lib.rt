@@ -3,13 +3,21 @@
 //! tag are kept: a pair that one side of a join lacks was removed there if that side's version covers its stamp.
 #![tactic(auto)]
 
+/// Changes of tag sets.
 pub mod changes;
+/// How far a pair has come in a join.
+pub mod laws;
+/// How tag sets change, join and stand for histories.
 pub mod merges;
+/// The pairs of a tag set, one after another.
 pub mod pairs;
+/// Tag sets.
 pub mod sets;
+/// The tags of one element.
 pub mod tags;
 
 pub use changes::TagChange;
+pub use laws::joins_take_the_later_stage;
 pub use pairs::Pairs;
 pub use sets::TagSet;
 pub use tags::Tags;

@@ -20,7 +20,7 @@ pub struct Tags {
 impl Model for Tags {
     ghost use Rattle.std.specs.Prelude.{List};
     ghost use Rattle.std.specs.List.Sorted.{IsStrictlySortedBy};
-    ghost use Rattle.fed_stamp.specs.Stamp.{StampValue};
+    ghost use Rattle.fed_stamp.specs.Stamp.{StampValue, same_stamp};
     ghost use Rattle.fed_lattice.specs.Latest.{stamp_cmp};
 
     ghost Value = { List StampValue };
@@ -90,9 +90,9 @@ impl Tags {
 /// Tags are equal where they have the same stamps.
 impl PartialEq for Tags {
     ghost use Rattle.std.specs.Cmp.Lexicographic.{pointwise};
-    ghost use Rattle.fed_tags.specs.TagLaws.{stamp_eq, stamp_lists_eq};
+    ghost use Rattle.fed_tags.specs.TagLaws.{stamp_lists_eq};
 
-    ghost eq = { pointwise stamp_eq };
+    ghost eq = { pointwise same_stamp };
 
     ghost laws = { stamp_lists_eq };
 

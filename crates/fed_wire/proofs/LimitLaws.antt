@@ -37,7 +37,7 @@ use Rattle.fed_record.specs.JobView.{JobView, job_view}
 use Rattle.fed_record.specs.Letter.{is_submitted}
 use Rattle.fed_record.specs.Pairs.{adds_site, removes_site, adds_hold, removes_hold}
 use Rattle.fed_record.specs.Reservation.{ReservationView}
-use Rattle.fed_record.proofs.PairLaws.{same_stamp_itself}
+use Rattle.fed_lattice.specs.ExactLaws.{same_stamp_itself}
 use Rattle.fed_board.specs.Board.{BoardValue, IsBoard, IsKnownJob, IsKnownReservation, no_operation, reads}
 use Rattle.fed_board.specs.CoveredJob.{IsCoveredAt, AreCoveredPairs}
 use Rattle.fed_board.specs.Counts.{names_of}

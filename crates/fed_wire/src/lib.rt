@@ -1,15 +1,25 @@
 //! Packets of a federated batch queue as JSON text.
 #![tactic(auto)]
 
+/// Packets read from JSON values.
 mod bodies;
+/// Why a packet could not be read.
 pub mod faults;
+/// The jobs of a packet, read from a JSON value.
 pub mod jobs;
+/// Which packets are within limits.
 pub mod laws;
+/// The names of a packet's jobs or reservations, as they are read.
 mod names;
+/// Packets.
 pub mod packets;
+/// Versions and the sender of a packet, read from JSON values.
 pub mod readings;
+/// Reservations read from JSON values.
 pub mod reservations;
+/// Packets as text.
 pub mod texts;
+/// Packets written as JSON values.
 mod writing;
 
 pub use faults::{Part, Place, WireFault};
