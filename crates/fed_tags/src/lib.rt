@@ -4,15 +4,17 @@
 #![tactic(auto)]
 
 pub mod changes;
+pub mod elements;
+mod groups;
 pub mod merges;
 pub mod pairs;
 pub mod sets;
-pub mod tags;
+mod tags;
 
 pub use changes::TagChange;
+pub use elements::Elements;
 pub use pairs::Pairs;
 pub use sets::TagSet;
-pub use tags::Tags;
 
 #[cfg(test)]
 mod tests;
