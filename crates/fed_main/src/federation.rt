@@ -15,6 +15,7 @@ ghost use Rattle.fed_main.specs.Session.{Asks, Does, begun, can_run as is_runnab
 use crate::instructions::{Instruction, Request};
 use crate::listing::{identifier_text, job_text, list};
 use crate::requests::{alteration, submission};
+use crate::rosters::HeldRoster;
 use fed_board::{Board, boards_that_read_the_same_are_equal};
 use fed_lattice::NoMemory;
 use fed_record::{Operation, Priority};
@@ -25,7 +26,7 @@ use std::marker::Model;
 /// The sites of a script, a board for each, and the packets that were made.
 #[derive(Drop)]
 pub struct Federation {
-    roster: Roster,
+    roster: HeldRoster,
     boards: Vec<Board>,
     packets: Vec<Board>,
 }
@@ -40,11 +41,11 @@ impl Model for Federation {
 
 impl Federation {
     /// A federation with a board of no operation at each site.
-    pub fn new(alloc: Global, roster: Roster) -> Result<Federation, AllocError>
+    pub fn new(alloc: Global, roster: HeldRoster) -> Result<Federation, AllocError>
         ensures { IfOk result (λ f. reads f ≡ begun roster) }
     {
         let mut boards = Vec::new(alloc);
-        for _site in 0..roster.len() {
+        for _site in 0..roster.get().len() {
             boards.push(Board::new(alloc))?;
         }
         Ok(Federation {
@@ -58,7 +59,7 @@ impl Federation {
     pub fn roster(&self) -> &Roster
         ensures { result.now ≡ self.now.roster }
     {
-        &self.roster
+        self.roster.get()
     }
 
     /// Whether the sites of an instruction are of the federation and its packet has been made.
@@ -109,10 +110,9 @@ impl Federation {
     {
         match self.board(site).version().next(site) {
             Ok(at) => {
-                let roster = self.roster;
-                let mut text = identifier_text(alloc, &roster, at)?;
+                let mut text = identifier_text(alloc, self.roster(), at)?;
                 text.push_str("\n")?;
-                let operation = submission(alloc, &roster, user)?;
+                let operation = submission(alloc, self.roster(), user)?;
                 self.add(site, at, &operation)?;
                 Ok(text)
             }
@@ -154,7 +154,7 @@ impl Federation {
             ((view_of (reads self.now) site).job job)) }
     {
         match self.board(site).job(job) {
-            Some(held) => job_text(alloc, &self.roster, job, held),
+            Some(held) => job_text(alloc, self.roster(), job, held),
             None => Ok(String::new(alloc)),
         }
     }
@@ -235,8 +235,7 @@ impl Federation {
                 self.prioritize(alloc, site, user, priority, job)
             }
             Request::ListAll => {
-                let roster = self.roster;
-                Ok(list(alloc, &roster, self.board(site))?)
+                Ok(list(alloc, self.roster(), self.board(site))?)
             }
             Request::ListOne { job } => Ok(self.list_one(alloc, site, job)?),
             Request::Misused => Ok(String::from_str(alloc, "usage 1\n")?),

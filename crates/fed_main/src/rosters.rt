@@ -7,6 +7,37 @@ ghost use Rattle.fed_main.specs.Rosters.{is_reserved as begins_another_line, ros
 use crate::decimals::read_decimal;
 use fed_stamp::Roster;
 use std::alloc::{AllocError, Global};
+use std::marker::Model;
+
+/// A roster in memory of its own, so that what holds it is small.
+#[derive(Drop)]
+pub struct HeldRoster {
+    roster: Box<Roster>,
+}
+
+impl Model for HeldRoster {
+    ghost use Rattle.std.specs.Prelude.{List, ℕ};
+
+    ghost Value = { List (List ℕ × ℕ) };
+
+    ghost view = { λ h. h.roster.value };
+}
+
+impl HeldRoster {
+    pub fn new(alloc: Global, roster: Roster) -> Result<HeldRoster, AllocError>
+        ensures { IfOk result (λ held. held ≡ roster) }
+    {
+        Ok(HeldRoster {
+            roster: Box::new(alloc, roster)?,
+        })
+    }
+
+    pub fn get(&self) -> &Roster
+        ensures { result.now ≡ self.now }
+    {
+        &self.roster
+    }
+}
 
 /// The roster of these words, each `NAME:NODES`, the name of a site, a colon and its number of nodes in decimal
 /// digits. `None` where a word has another form, `Roster::new` refuses the sites, or one of them is named `roster` or

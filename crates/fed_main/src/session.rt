@@ -5,9 +5,8 @@ ghost use Rattle.fed_main.specs.Session.{CanDo, Step, line_in, state_of, told_li
 use crate::federation::Federation;
 use crate::instructions::{Instruction, read_instruction};
 use crate::lines::{line_text, words};
-use crate::rosters::read_roster;
+use crate::rosters::{HeldRoster, read_roster};
 use fed_lattice::NoMemory;
-use fed_stamp::Roster;
 use std::alloc::{AllocError, Global};
 
 /// Why a line was not run.
@@ -20,12 +19,12 @@ pub enum LineFault {
 }
 
 /// A line of a script that can be read.
-#[derive(Clone, Copy, Debug, PartialEq, Eq)]
+#[derive(Drop)]
 pub enum Line {
     /// A line that is empty or a comment.
     Skip,
     /// The line that names the sites.
-    Begin { roster: Roster },
+    Begin { roster: HeldRoster },
     /// Any other line.
     Run { instruction: Instruction },
 }
@@ -72,6 +71,7 @@ impl Session {
                 let Some(roster) = read_roster(alloc, words)? else {
                     return Ok(None);
                 };
+                let roster = HeldRoster::new(alloc, roster)?;
                 Ok(Some(Line::Begin { roster }))
             }
         }

@@ -1,10 +1,8 @@
 //! What is read of the record of a job.
 ghost use Rattle.std.specs.Prelude.{◌≡◌, ◌↔◌, ℕ, Some, None, IsTrue};
 ghost use Rattle.std.specs.List.Sorted.{IsStrictlySortedBy};
-ghost use Rattle.std.specs.Map.Iter.{ShowsInOrder, deref};
 ghost use Rattle.std.specs.Ordering.{nat_cmp};
 ghost use Rattle.fed_lattice.specs.Sets.{Has};
-ghost use Rattle.fed_stamp.specs.declared.sites.SiteId.{SiteId};
 ghost use Rattle.fed_record.specs.declared.holds.HoldKind.{HoldKind};
 ghost use Rattle.fed_tags.specs.Tags.{pair_cmp};
 ghost use Rattle.fed_record.specs.Hold.{kind_cmp, has_kind, sum_of_bits};
@@ -23,8 +21,7 @@ use crate::priorities::Priority;
 use crate::progress::{Beginning, Ending};
 use crate::records::Record;
 use fed_stamp::{SiteId, Stamp, Version, Word};
-use fed_tags::{Pairs, Tags};
-use std::collections::btree_map::Keys;
+use fed_tags::{Elements, Pairs};
 
 /// How far a job has come: its Begin and its Finish, each with its stamp.
 #[derive(Clone, Copy, PartialEq, Eq, Debug)]
@@ -126,10 +123,9 @@ impl Record<JobFields, JobStages> {
     }
 
     /// The sites that the job may run at, ascending.
-    pub fn sites(&self) -> Keys<'_, SiteId, Tags>
+    pub fn sites(&self) -> Elements<'_, SiteId>
         ensures ascending { IsStrictlySortedBy nat_cmp result }
         ensures members { (site : ℕ) → Has result site ↔ IsTrue (is_site_present (reads self.now) site) }
-        ensures runs { ShowsInOrder (deref {X = SiteId}) }
     {
         self.sites.elements()
     }

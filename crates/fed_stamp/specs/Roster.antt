@@ -6,6 +6,8 @@ use Rattle.std.specs.Cmp.Lexicographic.{pointwise}
 use Rattle.std.specs.List.{All, AllPairs, find, list_all, filter_map, range_with_len}
 use Rattle.std.specs.Option.{option_map, option_or}
 use Rattle.fed_stamp.specs.Word.{is_name}
+use Rattle.fed_stamp.specs.declared.sites.TheConstants.{SITES}
+use Rattle.fed_stamp.specs.declared.rosters.TheConstants.{MAX_NODES}
 use Rattle.fed_stamp.specs.declared.rosters.RosterFault.{RosterFault}
 use Rattle.fed_stamp.specs.declared.rosters.RosterFault.TheVariants.{Count, Name, Twice, Nodes}
 
@@ -19,12 +21,12 @@ is_site_name text = is_name text && list_all is_site_byte text
 
 -- how many nodes a site may have
 abbrev pub is_node_count : ℕ → Bool
-is_node_count n = nat_le 1 n && nat_le n 1_000_000
+is_node_count n = nat_le 1 n && nat_le n MAX_NODES
 
 -- what makes a list of sites a roster
 pub record IsRoster (sites : List (List ℕ × ℕ)) : Type 0 where
   pub at_least : 1 ≤ length sites
-  pub at_most : length sites ≤ 16
+  pub at_most : length sites ≤ SITES
   pub named : All (λ s. IsTrue (is_site_name s.0)) sites
   pub apart : AllPairs (λ s t. s.0 ≢ t.0) sites
   pub counted : All (λ s. IsTrue (is_node_count s.1)) sites
@@ -59,7 +61,7 @@ has_wrong_nodes sites k = not (is_node_count (nodes_at sites k))
 -- the fault of the least number, and of it the one of the least index
 unfoldable pub first_fault : List (List ℕ × ℕ) → Option RosterFault
 first_fault sites =
-    if nat_le 1 (length sites) && nat_le (length sites) 16 then
+    if nat_le 1 (length sites) && nat_le (length sites) SITES then
     option_or (option_map Name (least_index (is_misnamed sites) (length sites)))
     (option_or (option_map Twice (least_index (is_repeated sites) (length sites)))
     (option_map Nodes (least_index (has_wrong_nodes sites) (length sites))))
@@ -80,9 +82,9 @@ ok_unless (Some e) x = Err e
 abbrev pub sites_of : List (Bor (List ℕ) × ℕ) → List (List ℕ × ℕ)
 sites_of pairs = map (λ s. (s.0.now, s.1)) pairs
 
--- as a roster is stored: 16 places, the sites in the first of them
+-- as a roster is stored: a place for each site that may be, the sites in the first of them
 abbrev pub places : List (List ℕ × ℕ) → List (Option (List ℕ × ℕ))
-places sites = map Some sites ++ replicate (16 - length sites) None
+places sites = map Some sites ++ replicate (SITES - length sites) None
 
 abbrev pub sites_in : List (Option (List ℕ × ℕ)) → List (List ℕ × ℕ)
 sites_in stored = filter_map (λ s. s) stored

@@ -66,9 +66,10 @@ impl Model for Roster {
     ghost inverse_ok = { λ r h i. record { sites = h.0 i } };
 }
 
-/// Whether a text has the form of a site's name.
+/// Whether a text has the form of a site's name: 1 to 15 characters, of which the first is an ASCII letter, and each
+/// other one an ASCII letter, an ASCII digit or `-`.
 #[tactic(auto, unfolding(crate::specs::Roster::is_site_name))]
-fn is_site_name(text: &str) -> bool
+pub fn is_site_name(text: &str) -> bool
     ensures { result ≡ has_form_of_site_name text.now }
 {
     if Word::new(text).is_none() {

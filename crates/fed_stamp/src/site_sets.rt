@@ -1,7 +1,7 @@
 //! Sets of sites.
-ghost use Rattle.std.specs.Prelude.{◌≡◌, ◌<◌, ◌==◌, ◌↔◌, ℕ, length, IsTrue, IfSome, if◌then◌else◌};
+ghost use Rattle.std.specs.Prelude.{◌≡◌, ◌<◌, ◌==◌, ◌↔◌, ◌⊎◌, ℕ, length, IsTrue, IfSome, if◌then◌else◌};
 ghost use Rattle.std.specs.List.{Contains};
-ghost use Rattle.fed_stamp.specs.SiteSet.{has as is_member, set_of};
+ghost use Rattle.fed_stamp.specs.SiteSet.{has as is_member, set_of, with_site};
 
 use crate::sites::{SITES, SiteId};
 use std::marker::Model;
@@ -15,12 +15,13 @@ pub struct SiteSet {
 
 impl Model for SiteSet {
     ghost use Rattle.std.specs.Prelude.{◌≡◌, Bool, List, length};
+    ghost use Rattle.fed_stamp.specs.declared.sites.TheConstants.{SITES};
 
     ghost Value = { List Bool };
 
     ghost view = { λ s. s.members };
 
-    ghost invariant = { λ s. length s.members ≡ 16 };
+    ghost invariant = { λ s. length s.members ≡ SITES };
 
     ghost inverse = { λ m. record { members = m } };
 }
@@ -40,6 +41,17 @@ impl SiteSet {
             members[site.get() as usize] = true;
         }
         Some(SiteSet { members })
+    }
+
+    /// This set, with a site more.
+    pub fn with(&self, site: SiteId) -> SiteSet
+        ensures same { result ≡ with_site self.now site }
+        ensures members { (other : ℕ) → IsTrue (is_member result other) ↔
+            (IsTrue (is_member self.now other) ⊎ (other ≡ site)) }
+    {
+        let mut members = self.members;
+        members[site.get() as usize] = true;
+        SiteSet { members }
     }
 
     /// Whether a site is in the set.

@@ -1,6 +1,7 @@
 //! Examples of rosters, names, sets, stamps and versions.
 use crate::{
     ClockFull, JobId, MAX_COUNTER, Roster, RosterFault, SiteId, SiteSet, Stamp, Version, Word,
+    is_site_name,
 };
 use std::test::Fail;
 
@@ -53,6 +54,9 @@ fn roster_reads_back(rt: HostRuntime) -> Result<(), Fail> {
     assert_eq!(rt; roster.find("lemont"), Some(lemont));
     assert_eq!(rt; roster.find("batavia"), None);
     assert!(rt; Roster::new(&[("abcdefghijklmn1", 1_000_000)]).is_ok());
+    assert!(rt;
+        is_site_name("a-1") && !is_site_name("a_1") && !is_site_name("1a") && !is_site_name("")
+    );
     Ok(())
 }
 
@@ -93,6 +97,9 @@ fn sets_of_sites(rt: HostRuntime) -> Result<(), Fail> {
     let set = SiteSet::new(&[last, first, last]).ok_or("set")?;
     assert!(rt; set.has(first) && set.has(last) && !set.has(middle));
     assert!(rt; SiteSet::new(&[first, last]) == Some(set));
+    assert!(rt;
+        set.with(first) == set && set.with(middle).has(middle) && set.with(middle).has(last)
+    );
     Ok(())
 }
 
@@ -114,6 +121,8 @@ fn stamps_and_versions(rt: HostRuntime) -> Result<(), Fail> {
     let both = none.with(six).join(&seen);
     assert!(rt; both.get(a) == 6 && both.get(b) == 5);
     assert!(rt; both.meet(&seen) == seen);
+    assert!(rt; both.first_above(&seen) == Some(a) && seen.first_above(&both).is_none());
+    assert!(rt; both.counters()[0] == 6 && both.counters()[1] == 5 && both.counters()[2] == 0);
     let full = none.with(Stamp::new(MAX_COUNTER, b).ok_or("stamp")?);
     assert!(rt; full.next(a) == Err(ClockFull));
     let mut counters = [0; 16];

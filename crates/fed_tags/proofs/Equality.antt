@@ -12,6 +12,7 @@ use Rattle.std.proofs.lemmas.Map.Views.{tells_apart, IfSome-lookup_from_All}
 use Rattle.std.proofs.lemmas.Bool.Decides.{Decides-eqb}
 use Rattle.std.proofs.lemmas.Slice.Eq.{slice_eq-Decides}
 use Rattle.fed_stamp.specs.Stamp.{StampValue, same_stamp}
+use Rattle.fed_stamp.proofs.StampLaws.{same_stamp-Decides}
 use Rattle.fed_lattice.specs.Table.{IsTable}
 use Rattle.fed_lattice.specs.TableEntryLaws.{same_tables}
 use Rattle.fed_tags.specs.Tags.{pair_cmp, tags_of}
@@ -30,13 +31,15 @@ both_decide true true p q f g = (λ _. f (p.0 refl) (q.0 refl), λ _. refl)
 both_decide true false p q f g = (λ e. cc, λ r. q.1 (g r).1)
 both_decide false b p q f g = (λ e. cc, λ r. p.1 (g r).0)
 
-stamp_decides : (s t : StampValue) → Decides (same_stamp s t) (s ≡ t)
-stamp_decides s t = both_decide (nat_eq s.counter t.counter) (nat_eq s.site t.site) (Decides-eqb s.counter t.counter) (Decides-eqb s.site t.site)
-    (λ a b. ap₂ (λ c d. let r : StampValue = record { counter = c; site = d } in r) a b)
-    (λ e. (ap (λ (x : StampValue). x.counter) e, ap (λ (x : StampValue). x.site) e))
-
 pub stamps_decide : (ss us : List StampValue) → Decides (pointwise same_stamp ss us) (ss ≡ us)
-stamps_decide ss us = slice_eq-Decides stamp_decides ss us (pointwise same_stamp ss us) refl
+stamps_decide ss us = slice_eq-Decides same_stamp-Decides ss us (pointwise same_stamp ss us) refl
+
+-- entries are equal where their keys and values are
+pub entries_decide : {K X : Type 0} {E : K → K → Bool} {F : X → X → Bool} → ((a b : K) → Decides (E a b) (a ≡ b)) → ((a b : X) → Decides (F a b) (a ≡ b)) → (es fs : List (K × X)) (r : Bool) → r ≡ pointwise (λ (p q : K × X). E p.0 q.0 && F p.1 q.1) es fs → Decides r (es ≡ fs)
+entries_decide {K} {X} {E} {F} keys values es fs r e =
+    slice_eq-Decides (λ (p q : K × X). both_decide (E p.0 q.0) (F p.1 q.1) (keys p.0 q.0) (values p.1 q.1)
+    (λ a b. ap₂ (λ (x : K) (y : X). (x, y)) a b)
+    (λ h. (ap (λ (x : K × X). x.0) h, ap (λ (x : K × X). x.1) h))) es fs r e
 
 module _ {K : Type 0} (R : K → K → Ordering) (o : IsTotalOrder R) (exact : CmpEqualImpliesEq R) where
   order_decides : (a b : K) → Decides (eq_by_cmp R a b) (a ≡ b)

@@ -3,3 +3,4 @@ pub mod StampLists
 pub mod GroupLaws
 pub mod TagLoops
 pub mod Equality
+pub mod Places

@@ -1,11 +1,11 @@
 -- Strictly sorted lists: what is inserted at its place, and what a test takes out.
 use Rattle.std.specs.List.{HoldsAt, list_any, insert}
 use Rattle.std.specs.List.Retain.{RetainsInTurn}
-use Rattle.std.specs.List.Sorted.{IsStrictlySortedBy, IsNonDecreasingBy, IsPartitionPoint}
+use Rattle.std.specs.List.Sorted.{IsStrictlySortedBy, IsNonDecreasingBy, IsPartitionPoint, IsSearchInRange, IsBinarySearchResult}
 use Rattle.std.specs.Ordering.{is_eq, is_lt, eq_by_cmp, ordering_reverse, ordering_index, match_ordering}
 use Rattle.std.specs.BTreeSet.{insert_key}
 use Rattle.std.specs.Cmp.{IsTotalOrder}
-use Rattle.std.proofs.Common.{◌≡◌, ℕ, zero, suc, ◌+◌, ◌<◌, ◌≤◌, List, [], ◌∷◌, Bool, true, false, cond, ◌||◌, length, get_or, filter, Ordering, Less, Equal, Greater, refl, sym, ap, subst, ◌∙◌, arith}
+use Rattle.std.proofs.Common.{◌≡◌, ℕ, zero, suc, ◌+◌, ◌<◌, ◌≤◌, List, [], ◌∷◌, Bool, true, false, cond, ◌||◌, length, get_or, filter, Ordering, Less, Equal, Greater, Result, Ok, Err, is_ok, refl, sym, ap, ap₂, subst, ◌∙◌, arith}
 use Rattle.std.proofs.lemmas.List.Folds.{list_any_at}
 use Rattle.std.proofs.lemmas.List.Sorted.{searchable_from_sorted}
 use Rattle.std.proofs.lemmas.Map.Keys.{Less-from_sorted}
@@ -39,6 +39,22 @@ module _ {K : Type 0} (R : K → K → Ordering) (o : IsTotalOrder R) where
 
   any_at : (xs : List K) (i : ℕ) (k : K) → i < length xs → HoldsAt (λ y. R y k ≡ Equal) xs i → list_any (eq_by_cmp R k) xs ≡ true
   any_at xs i k l h = list_any_at (eq_by_cmp R k) xs i k l (ap is_eq (o.antisymm k (get_or xs i k) ∙ ap ordering_reverse (h k)))
+
+  -- at a gap the key is not there
+  any_gap : (xs : List K) (i : ℕ) (k : K) → i ≤ length xs → IsPartitionPoint (λ y. R y k ≡ Less) (λ y. R y k ≡ Greater) xs i → list_any (eq_by_cmp R k) xs ≡ false
+  any_gap [] i k l p = refl
+  any_gap (x ∷ xs) zero k l p =
+      ap₂ (λ a b. a || b) (ap is_eq (o.antisymm k x ∙ ap ordering_reverse (p.1 0 x (omega arith) (omega arith))))
+      (any_gap xs zero k (omega arith) (λ j d a b. absurd (omega arith), λ j d a b. p.1 (suc j) d (omega arith) (omega arith)))
+  any_gap (x ∷ xs) (suc i) k l p =
+      ap₂ (λ a b. a || b) (ap is_eq (o.antisymm k x ∙ ap ordering_reverse (p.0 0 x (omega arith) (omega arith))))
+      (any_gap xs i k (omega arith) (λ j d a b. p.0 (suc j) d (omega arith) (omega arith), λ j d a b. p.1 (suc j) d (omega arith) (omega arith)))
+
+  -- what a search of ys, which is xs, says of whether a key is there
+  pub any_found : (xs ys : List K) (k : K) → ys ≡ xs → IsStrictlySortedBy R xs → (r : Result ℕ ℕ) → IsSearchInRange r (length ys) → IsBinarySearchResult (λ y. R y k) ys r → is_ok r ≡ list_any (eq_by_cmp R k) xs
+  any_found xs ys k e s (Ok i) b p = sym (any_at ys i k b p) ∙ ap (λ l. list_any (eq_by_cmp R k) l) e
+  any_found xs ys k e s (Err i) b p =
+      sym (any_gap ys i k b (p (searchable ys k (subst (IsStrictlySortedBy R) (sym e) s)))) ∙ ap (λ l. list_any (eq_by_cmp R k) l) e
 
   module _ (exact : CmpEqualImpliesEq R) where
     -- a key that is there already

@@ -5,6 +5,10 @@
 
 /// Changes of tag sets.
 pub mod changes;
+/// The elements of a tag set, one after another.
+pub mod elements;
+/// The elements with their tags, as a tag set keeps them.
+mod groups;
 /// How far a pair has come in a join.
 pub mod laws;
 /// How tag sets change, join and stand for histories.
@@ -14,13 +18,13 @@ pub mod pairs;
 /// Tag sets.
 pub mod sets;
 /// The tags of one element.
-pub mod tags;
+mod tags;
 
 pub use changes::TagChange;
+pub use elements::Elements;
 pub use laws::joins_take_the_later_stage;
 pub use pairs::Pairs;
 pub use sets::TagSet;
-pub use tags::Tags;
 
 #[cfg(test)]
 mod tests;

@@ -7,14 +7,13 @@ ghost use Rattle.fed_tags.specs.Groups.{pairs, IsGroup};
 use crate::tags::Tags;
 use fed_lattice::Exact;
 use fed_stamp::Stamp;
-use std::collections::btree_map::Iter;
 use std::marker::Model;
 
 /// The live pairs of a set that are left, by element and then by stamp.
 #[derive(Drop)]
 pub struct Pairs<'a, T: Exact> {
     front: Option<(T, &'a [Stamp])>,
-    groups: Iter<'a, T, Tags>,
+    groups: &'a [(T, Tags)],
 }
 
 impl<'a, T: Exact> Model for Pairs<'a, T> {
@@ -25,15 +24,15 @@ impl<'a, T: Exact> Model for Pairs<'a, T> {
 
     ghost Value = { List (T × StampValue) };
 
-    ghost view = { λ p. front_pairs p.front ++ pairs p.groups };
+    ghost view = { λ p. front_pairs p.front ++ pairs p.groups.now };
 
-    ghost invariant = { λ p. All IsGroup (values_of p.groups) };
+    ghost invariant = { λ p. All IsGroup (values_of p.groups.now) };
 }
 
 impl<'a, T: Exact> Pairs<'a, T> {
-    pub(crate) fn new(groups: Iter<'a, T, Tags>) -> Self
-        requires { All IsGroup (values_of groups) }
-        ensures { result ≡ pairs groups.entry }
+    pub(crate) fn new(groups: &'a [(T, Tags)]) -> Self
+        requires { All IsGroup (values_of groups.now) }
+        ensures { result ≡ pairs groups.now }
     {
         Pairs {
             front: None,
@@ -56,7 +55,8 @@ impl<'a, T: Exact> Iterator for Pairs<'a, T> {
             self.front = Some((element, others));
             return Some((element, *stamp));
         }
-        let (element, tags) = self.groups.next()?;
+        let ((element, tags), groups) = self.groups.split_first()?;
+        self.groups = groups;
         let (stamp, others) = tags.as_slice().split_first()?;
         self.front = Some((*element, others));
         Some((*element, *stamp))

@@ -2,27 +2,29 @@
 ghost use Rattle.std.specs.Prelude.{◌≡◌, ◌↔◌, [], ◌∷◌, IfOk, OnOk, OnErr, IsOk, IsTrue};
 ghost use Rattle.std.specs.List.Sorted.{IsStrictlySortedBy};
 ghost use Rattle.std.specs.BTreeSet.{insert_key};
-ghost use Rattle.std.specs.Map.Iter.{ShowsInOrder, deref};
+ghost use Rattle.fed_lattice.specs.Latest.{stamp_cmp};
 ghost use Rattle.fed_lattice.specs.Sets.{Has};
-ghost use Rattle.fed_tags.specs.Tags.{pair_cmp, inserted, stamped, without, tags_of, IsElement, lacking, kept, joined_tags};
+ghost use Rattle.fed_tags.specs.Tags.{pair_cmp, inserted, stamped, without, tags_of as stamps_of, IsElement, lacking, kept, joined_tags};
 
+use crate::elements::Elements;
+use crate::groups::{find, tags_of};
 use crate::pairs::Pairs;
 use crate::tags::Tags;
 use fed_lattice::{Exact, ExactEq, NoMemory};
 use fed_stamp::{Stamp, Version};
 use std::alloc::Global;
-use std::collections::BTreeMap;
-use std::collections::btree_map::Keys;
 use std::marker::Model;
 
 /// A set of elements, each with the stamps of the operations that added it and are in effect. It is seen as the
 /// list of these live pairs of an element and a stamp, by element and then by stamp.
 ///
-/// A change of one element finds it in time logarithmic in the number of elements, and moves that element's tags alone.
+/// An element is found in time logarithmic in the number of elements. One that is new, or that goes, moves those behind
+/// it.
 #[derive(Drop)]
 pub struct TagSet<T: Exact> {
     alloc: Global,
-    groups: BTreeMap<T, Tags>,
+    // each element with its tags, by element
+    groups: Vec<(T, Tags)>,
 }
 
 impl<T: Exact> Model for TagSet<T> {
@@ -33,9 +35,9 @@ impl<T: Exact> Model for TagSet<T> {
 
     ghost Value = { List (T × StampValue) };
 
-    ghost view = { λ s. pairs s.groups.entries };
+    ghost view = { λ s. pairs s.groups.items };
 
-    ghost invariant = { λ s. IsTable T.cmp IsGroup s.groups.entries };
+    ghost invariant = { λ s. IsTable T.cmp IsGroup s.groups.items };
 }
 
 impl<T: Exact> TagSet<T> {
@@ -45,7 +47,7 @@ impl<T: Exact> TagSet<T> {
     {
         TagSet {
             alloc,
-            groups: BTreeMap::new(alloc),
+            groups: Vec::new(alloc),
         }
     }
 
@@ -53,7 +55,7 @@ impl<T: Exact> TagSet<T> {
     pub fn contains(&self, element: &T, stamp: Stamp) -> bool
         ensures { IsTrue result ↔ Has self.now (element.now, stamp) }
     {
-        match self.groups.get(element) {
+        match tags_of(&self.groups, element) {
             Some(tags) => tags.contains(stamp),
             None => false,
         }
@@ -63,14 +65,15 @@ impl<T: Exact> TagSet<T> {
     pub fn has(&self, element: &T) -> bool
         ensures { IsTrue result ↔ IsElement self.now element.now }
     {
-        self.groups.contains_key(element)
+        find(&self.groups, element).is_ok()
     }
 
     /// The stamps of the element's tags, ascending. There are none where the element is absent.
     pub fn tags(&self, element: &T) -> &[Stamp]
-        ensures { result.now ≡ tags_of T.cmp self.now element.now }
+        ensures tags { result.now ≡ stamps_of T.cmp self.now element.now }
+        ensures ascending { IsStrictlySortedBy stamp_cmp result.now }
     {
-        match self.groups.get(element) {
+        match tags_of(&self.groups, element) {
             Some(tags) => tags.as_slice(),
             None => &[],
         }
@@ -88,23 +91,27 @@ impl<T: Exact> TagSet<T> {
         ensures ok { OnOk result (self.new ≡ insert_key (pair_cmp T.cmp) self.old (element, stamp)) }
         ensures unchanged { OnErr result (self.new ≡ self.old) }
     {
-        if let Some(tags) = self.groups.get_mut(&element) {
-            return tags.insert(stamp);
+        match find(&self.groups, &element) {
+            Ok(place) => self.groups[place].1.insert(stamp),
+            Err(place) => {
+                let tags = Tags::one(self.alloc, stamp);
+                self.groups.insert(place, (element, tags))?;
+                Ok(())
+            }
         }
-        self.groups.insert(element, Tags::one(self.alloc, stamp))?;
-        Ok(())
     }
 
     /// Removes a pair, if it is live.
     fn remove_one(&mut self, element: T, stamp: Stamp)
         ensures { self.new ≡ without (pair_cmp T.cmp) self.old ((element, stamp) ∷ []) }
     {
-        let Some(tags) = self.groups.get_mut(&element) else {
+        let Ok(place) = find(&self.groups, &element) else {
             return;
         };
+        let tags = &mut self.groups[place].1;
         tags.remove(stamp);
         if tags.is_empty() {
-            drop(self.groups.remove(&element));
+            drop(self.groups.remove(place));
         }
     }
 
@@ -184,12 +191,11 @@ impl<T: Exact> TagSet<T> {
     }
 
     /// The elements, ascending.
-    pub fn elements(&self) -> Keys<'_, T, Tags>
+    pub fn elements(&self) -> Elements<'_, T>
         ensures ascending { IsStrictlySortedBy T.cmp result }
         ensures members { (t : T) → Has result t ↔ IsElement self.now t }
-        ensures runs { ShowsInOrder (deref {X = T}) }
     {
-        self.groups.keys()
+        Elements::new(&self.groups)
     }
 
     /// The live pairs, by element and then by stamp.
@@ -197,16 +203,16 @@ impl<T: Exact> TagSet<T> {
         ensures rest { result ≡ self.now }
         ensures ascending { IsStrictlySortedBy (pair_cmp T.cmp) self.now }
     {
-        Pairs::new(self.groups.iter())
+        Pairs::new(&self.groups)
     }
 
     pub(crate) fn copied(&self) -> Result<TagSet<T>, NoMemory>
         ensures same { IfOk result (λ r. r ≡ self.now) }
         ensures ascending { OnOk result (IsStrictlySortedBy (pair_cmp T.cmp) self.now) }
     {
-        let mut groups = BTreeMap::new(self.alloc);
+        let mut groups = Vec::with_capacity(self.alloc, self.groups.len())?;
         for (element, tags) in &self.groups {
-            groups.insert(*element, tags.copy()?)?;
+            groups.push((*element, tags.copy()?))?;
         }
         Ok(TagSet {
             alloc: self.alloc,

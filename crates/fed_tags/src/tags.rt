@@ -2,6 +2,7 @@
 ghost use Rattle.std.specs.Prelude.{◌≡◌, [], ◌∷◌, OnOk, OnErr, IfOk, IsTrue, ◌↔◌, filter, not};
 ghost use Rattle.std.specs.Ordering.{is_eq, eq_by_cmp};
 ghost use Rattle.std.specs.List.{list_any};
+ghost use Rattle.std.specs.List.Sorted.{IsStrictlySortedBy};
 ghost use Rattle.std.specs.BTreeSet.{insert_key};
 ghost use Rattle.fed_lattice.specs.Latest.{stamp_cmp};
 
@@ -11,16 +12,16 @@ use smallvec::SmallVec;
 use std::alloc::Global;
 use std::marker::Model;
 
-/// The stamps of one element's tags, which ascend. Up to four of them take no allocation.
+/// The stamps of one element's tags, which ascend. Up to two of them take no allocation.
 #[derive(Drop)]
-pub struct Tags {
-    stamps: SmallVec<Stamp, 4>,
+pub(crate) struct Tags {
+    stamps: SmallVec<Stamp, 2>,
 }
 
 impl Model for Tags {
     ghost use Rattle.std.specs.Prelude.{List};
     ghost use Rattle.std.specs.List.Sorted.{IsStrictlySortedBy};
-    ghost use Rattle.fed_stamp.specs.Stamp.{StampValue, same_stamp};
+    ghost use Rattle.fed_stamp.specs.Stamp.{StampValue};
     ghost use Rattle.fed_lattice.specs.Latest.{stamp_cmp};
 
     ghost Value = { List StampValue };
@@ -41,24 +42,25 @@ impl Tags {
     }
 
     /// The stamps, ascending.
-    pub fn as_slice(&self) -> &[Stamp]
-        ensures { result.now ≡ self.now }
+    pub(crate) fn as_slice(&self) -> &[Stamp]
+        ensures same { result.now ≡ self.now }
+        ensures ascending { IsStrictlySortedBy stamp_cmp self.now }
     {
         self.stamps.as_slice()
     }
 
     /// Whether there is no tag.
-    pub fn is_empty(&self) -> bool
+    pub(crate) fn is_empty(&self) -> bool
         ensures { IsTrue result ↔ (self.now ≡ []) }
     {
         self.stamps.is_empty()
     }
 
     /// Whether one of the tags has this stamp.
-    pub fn contains(&self, stamp: Stamp) -> bool
+    pub(crate) fn contains(&self, stamp: Stamp) -> bool
         ensures { result ≡ list_any (eq_by_cmp stamp_cmp stamp) self.now }
     {
-        self.as_slice().iter().any(|tag| stamp.cmp(tag).is_eq())
+        self.as_slice().binary_search(&stamp).is_ok()
     }
 
     pub(crate) fn copy(&self) -> Result<Tags, NoMemory>
@@ -89,12 +91,13 @@ impl Tags {
 
 /// Tags are equal where they have the same stamps.
 impl PartialEq for Tags {
-    ghost use Rattle.std.specs.Cmp.Lexicographic.{pointwise};
-    ghost use Rattle.fed_tags.specs.TagLaws.{stamp_lists_eq};
+    ghost use Rattle.std.specs.Cmp.Lexicographic.{pointwise, lists_per};
+    ghost use Rattle.fed_stamp.specs.Stamp.{same_stamp};
+    ghost use Rattle.fed_stamp.proofs.StampLaws.{same_stamp-per};
 
     ghost eq = { pointwise same_stamp };
 
-    ghost laws = { stamp_lists_eq };
+    ghost laws = { lists_per same_stamp-per };
 
     fn eq(&self, other: &Self) -> bool {
         self.as_slice() == other.as_slice()

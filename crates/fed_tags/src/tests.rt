@@ -139,7 +139,7 @@ fn reads_a_small_set(rt: HostRuntime) -> Result<(), Fail> {
     assert!(rt; set.tags(&7) == [first, third].as_slice());
     assert!(rt; set.tags(&8).is_empty());
     assert!(rt; set.contains(&9, second) && !set.contains(&9, first));
-    assert!(rt; set.elements().copied().eq([7, 9]));
+    assert!(rt; set.elements().eq([7, 9]));
     assert!(rt; set.iter().eq(pairs));
     let again = set.copy()?;
     assert!(rt; again == set);

@@ -1,40 +1,56 @@
-use Rattle.std.proofs.Common.{ap, sym, ◌∙◌, subst, List, BTreeMap}
-use Rattle.fed_stamp.specs.Stamp.{StampValue}
+use Rattle.std.proofs.Common.{ap, sym, ◌∙◌, subst, refl}
 use Rattle.fed_lattice.specs.Table.{IsTable}
 use Rattle.fed_lattice.proofs.TableWrites.{on_ok_then, on_err_then, in_either}
 use Rattle.fed_tags.specs.Groups.{pairs, IsGroup}
 use Rattle.fed_tags.proofs.GroupLaws.{inserted_table, inserted_view, present_entries, absent_entries, same_entries}
+use Rattle.fed_tags.proofs.Places.{found_here, written_here, none_found, put_in}
 use Rattle.fed_tags.proofs.sets.TagSet.insert.Goals as goal
 
 pub invariant_of-self : goal.invariant_of-self
 invariant_of-self g c =
     let cmp = g.T.Ord.cmp in
-    let written = (c.get_mut.follows.holds c.insert.new.self).0 in
+    let o = g.met.T.Ord.total in
+    let exact = g.met.T.Exact.exact in
+    let found = found_here cmp o exact _ _ c.deref.ensures.value c.args.element c.in-Ok.place c.self.invariant.0 c.in-Ok.ensures.found c.index_mut.result.now c.index_mut.ensures.value in
+    let written = written_here cmp o exact _ _ c.deref.ensures.value c.args.element c.in-Ok.place c.self.invariant.0 c.in-Ok.ensures.found c.index_mut.result.now c.index_mut.ensures.value c.insert.new.self in
     in_either c.insert.result c.insert.ensures.ok c.insert.ensures.unchanged
-    (λ e. inserted_table cmp g.met.T.Ord.total g.met.T.Exact.exact _ _ c.args.element c.args.stamp c.self.invariant
-    (present_entries cmp g.met.T.Ord.total g.met.T.Exact.exact _ _ _ _ _ _ c.self.invariant c.in-Some.ensures.value written e))
-    (λ e. subst (IsTable cmp IsGroup) (sym (same_entries cmp g.met.T.Ord.total g.met.T.Exact.exact _ _ _ _ _ c.in-Some.ensures.value written e)) c.self.invariant)
+    (λ e. inserted_table cmp o exact _ _ c.args.element c.args.stamp c.self.invariant (present_entries cmp o exact _ _ _ _ _ _ c.self.invariant found written e))
+    (λ e. subst (IsTable cmp IsGroup) (sym (same_entries cmp o exact _ _ _ _ _ found written e)) c.self.invariant)
 
-pub returns-in-Some-clause-ok : goal.returns-in-Some-clause-ok
-returns-in-Some-clause-ok g c =
+pub returns-in-Ok-clause-ok : goal.returns-in-Ok-clause-ok
+returns-in-Ok-clause-ok g c =
     let cmp = g.T.Ord.cmp in
+    let o = g.met.T.Ord.total in
+    let exact = g.met.T.Exact.exact in
+    let found = found_here cmp o exact _ _ c.deref.ensures.value c.args.element c.in-Ok.place c.self.invariant.0 c.in-Ok.ensures.found c.index_mut.result.now c.index_mut.ensures.value in
+    let written = written_here cmp o exact _ _ c.deref.ensures.value c.args.element c.in-Ok.place c.self.invariant.0 c.in-Ok.ensures.found c.index_mut.result.now c.index_mut.ensures.value c.insert.new.self in
     on_ok_then c.insert.result
-    (λ e. inserted_view cmp g.met.T.Ord.total g.met.T.Exact.exact _ _ _ c.args.element c.args.stamp c.self.view_is c.self.invariant
-    (present_entries cmp g.met.T.Ord.total g.met.T.Exact.exact _ _ _ _ _ _ c.self.invariant c.in-Some.ensures.value (c.get_mut.follows.holds c.insert.new.self).0 e))
+    (λ e. inserted_view cmp o exact _ _ _ c.args.element c.args.stamp c.self.view_is c.self.invariant (present_entries cmp o exact _ _ _ _ _ _ c.self.invariant found written e))
     c.insert.ensures.ok
 
-pub returns-in-Some-clause-unchanged : goal.returns-in-Some-clause-unchanged
-returns-in-Some-clause-unchanged g c =
-    on_err_then c.insert.result
-    (λ e. ap pairs (same_entries g.T.Ord.cmp g.met.T.Ord.total g.met.T.Exact.exact _ _ _ _ _ c.in-Some.ensures.value (c.get_mut.follows.holds c.insert.new.self).0 e) ∙ c.self.view_is)
-    c.insert.ensures.unchanged
+pub returns-in-Ok-clause-unchanged : goal.returns-in-Ok-clause-unchanged
+returns-in-Ok-clause-unchanged g c =
+    let cmp = g.T.Ord.cmp in
+    let o = g.met.T.Ord.total in
+    let exact = g.met.T.Exact.exact in
+    let found = found_here cmp o exact _ _ c.deref.ensures.value c.args.element c.in-Ok.place c.self.invariant.0 c.in-Ok.ensures.found c.index_mut.result.now c.index_mut.ensures.value in
+    let written = written_here cmp o exact _ _ c.deref.ensures.value c.args.element c.in-Ok.place c.self.invariant.0 c.in-Ok.ensures.found c.index_mut.result.now c.index_mut.ensures.value c.insert.new.self in
+    on_err_then c.insert.result (λ e. ap (λ l. pairs l) (same_entries cmp o exact _ _ _ _ _ found written e) ∙ c.self.view_is) c.insert.ensures.unchanged
 
-pub invariant_of-self-2 : goal.invariant_of-self-2
-invariant_of-self-2 g c =
-    inserted_table g.T.Ord.cmp g.met.T.Ord.total g.met.T.Exact.exact _ _ c.args.element c.args.stamp c.self.invariant
-    (absent_entries g.T.Ord.cmp g.met.T.Ord.total g.met.T.Exact.exact _ _ _ _ _ _ (ap (λ (m : BTreeMap g.row.T.Denot (List StampValue)). m.entries) c.get_mut.follows.holds-at-none) c.in_default.ensures.value c.in_ok-insert.ensures.entries c.one.ensures)
+pub invariant_of-self-in-Err : goal.invariant_of-self-in-Err
+invariant_of-self-in-Err g c =
+    let cmp = g.T.Ord.cmp in
+    let o = g.met.T.Ord.total in
+    let exact = g.met.T.Exact.exact in
+    let none = none_found cmp o exact _ _ c.deref.ensures.value c.args.element c.in-Err.place c.in-Err.ensures.absent in
+    inserted_table cmp o exact _ _ c.args.element c.args.stamp c.self.invariant
+    (absent_entries cmp o exact _ _ _ _ _ _ refl none (c.in_ok-insert-in-Err.ensures.items ∙ put_in cmp o exact _ _ c.deref.ensures.value c.args.element c.in-Err.place c.one-tags.result c.in-Err.ensures.absent) c.one-tags.ensures)
 
-pub returns-clause-ok : goal.returns-clause-ok
-returns-clause-ok g c =
-    inserted_view g.T.Ord.cmp g.met.T.Ord.total g.met.T.Exact.exact _ _ _ c.args.element c.args.stamp c.self.view_is c.self.invariant
-    (absent_entries g.T.Ord.cmp g.met.T.Ord.total g.met.T.Exact.exact _ _ _ _ _ _ (ap (λ (m : BTreeMap g.row.T.Denot (List StampValue)). m.entries) c.get_mut.follows.holds-at-none) c.in_default.ensures.value c.in_ok-insert.ensures.entries c.one.ensures)
+pub returns-in_ok-insert-in-Err-clause-ok : goal.returns-in_ok-insert-in-Err-clause-ok
+returns-in_ok-insert-in-Err-clause-ok g c =
+    let cmp = g.T.Ord.cmp in
+    let o = g.met.T.Ord.total in
+    let exact = g.met.T.Exact.exact in
+    let none = none_found cmp o exact _ _ c.deref.ensures.value c.args.element c.in-Err.place c.in-Err.ensures.absent in
+    inserted_view cmp o exact _ _ _ c.args.element c.args.stamp c.self.view_is c.self.invariant
+    (absent_entries cmp o exact _ _ _ _ _ _ refl none (c.in_ok-insert-in-Err.ensures.items ∙ put_in cmp o exact _ _ c.deref.ensures.value c.args.element c.in-Err.place c.one-tags.result c.in-Err.ensures.absent) c.one-tags.ensures)

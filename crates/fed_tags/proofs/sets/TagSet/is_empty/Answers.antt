@@ -1,5 +1,7 @@
+use Rattle.std.proofs.Common.{◌≡◌, ap, ◌∙◌, rules, arith}
+use Rattle.std.proofs.lemmas.Bool.Decides.{nat_tests}
 use Rattle.fed_tags.proofs.GroupLaws.{empty_pairs}
 use Rattle.fed_tags.proofs.sets.TagSet.is_empty.Goals as goal
 
 pub returns : goal.returns
-returns g c = empty_pairs g.T.Ord.cmp _ _ c.is_empty.result c.self.view_is c.self.invariant c.is_empty.ensures
+returns g c = empty_pairs g.T.Ord.cmp _ _ c.is_empty.result c.self.view_is c.self.invariant (grind (arith, nat_tests, c.is_empty.ensures, c.self.inside.groups.ok))

@@ -1,0 +1,10 @@
+use Rattle.std.proofs.Common.{sym, subst, List, [], arith}
+use Rattle.std.specs.List.Sorted.{IsStrictlySortedBy}
+use Rattle.fed_stamp.specs.Stamp.{StampValue}
+use Rattle.fed_lattice.specs.Table.{IsTable}
+use Rattle.fed_tags.specs.Groups.{IsGroup}
+use Rattle.fed_tags.proofs.sets.TagSet.new.Goals as goal
+
+pub invariant_of-result : goal.invariant_of-result
+unfolding IsStrictlySortedBy
+invariant_of-result g c = subst (λ es. IsTable g.T.Ord.cmp IsGroup es) (sym c.new.ensures.items) (tt, λ k d l. absurd (omega arith))
