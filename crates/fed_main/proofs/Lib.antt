@@ -1,5 +1,4 @@
 pub mod Columns
-pub mod DigitWords
 pub mod FewWords
 pub mod KnownBytes
 pub mod LineCuts

@@ -6,11 +6,13 @@
 -- and `equal SITE SITE`. All other words after USER are answered by `usage 1`, also where PRIORITY or JOB is none. A
 -- USER with a role can't be read, and neither can `grant`, `begin`, `finish`, `handback` or `plan` behind a site.
 use Rattle.std.specs.Prelude.{ℕ, Bool, ◌||◌, List, [], ◌∷◌, codes, Some, None, Option, option_map, option_and_then, unwrap_or, if◌then◌else◌}
+use Rattle.std.specs.Result.{result_ok}
 use Rattle.std.specs.Str.{bytes_eq}
 use Rattle.fed_stamp.specs.Word.{is_name}
-use Rattle.fed_main.specs.Decimals.{decimal_of}
-use Rattle.fed_main.specs.Identifiers.{identifier_of, site_named}
-use Rattle.fed_main.specs.Priorities.{priority_of}
+use Rattle.fed_words.specs.Identifier.{job_in}
+use Rattle.fed_words.specs.Number.{decimal_in}
+use Rattle.fed_words.specs.Priority.{priority_in}
+use Rattle.fed_words.specs.Site.{site_named}
 use Rattle.fed_main.specs.declared.instructions.Instruction.{Instruction}
 use Rattle.fed_main.specs.declared.instructions.Instruction.TheVariants.{Ask, Ship, Take, Compare}
 use Rattle.fed_main.specs.declared.instructions.Request.{Request}
@@ -23,7 +25,7 @@ submit_of (word ∷ words) = Request.Misused
 -- `qstat` or `qstat JOB`
 abbrev pub list_of : List (List ℕ × ℕ) → ℕ → List (List ℕ) → Request
 list_of roster here [] = Request.ListAll
-list_of roster here (job ∷ []) = unwrap_or (option_map Request.ListOne (identifier_of roster here job)) Request.Misused
+list_of roster here (job ∷ []) = unwrap_or (option_map Request.ListOne (result_ok (job_in roster here job))) Request.Misused
 list_of roster here (job ∷ word ∷ words) = Request.Misused
 
 -- `qalter -p PRIORITY JOB`
@@ -31,7 +33,7 @@ abbrev pub prioritize_of : List (List ℕ × ℕ) → ℕ → List (List ℕ) �
 prioritize_of roster here [] = Request.Misused
 prioritize_of roster here (priority ∷ []) = Request.Misused
 prioritize_of roster here (priority ∷ job ∷ []) = unwrap_or
-    (option_and_then (λ p. option_map (Request.Prioritize p) (identifier_of roster here job)) (priority_of priority))
+    (option_and_then (λ p. option_map (Request.Prioritize p) (result_ok (job_in roster here job))) (priority_in priority))
     Request.Misused
 prioritize_of roster here (priority ∷ job ∷ word ∷ words) = Request.Misused
 
@@ -59,7 +61,7 @@ ship_of roster site (name ∷ word ∷ words) = None
 
 abbrev pub take_of : ℕ → List (List ℕ) → Option Instruction
 take_of site [] = None
-take_of site (number ∷ []) = option_map (Take site) (decimal_of number)
+take_of site (number ∷ []) = option_map (Take site) (decimal_in number)
 take_of site (number ∷ word ∷ words) = None
 
 abbrev pub compare_of : List (List ℕ × ℕ) → List (List ℕ) → Option Instruction

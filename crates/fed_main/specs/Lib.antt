@@ -1,12 +1,9 @@
 -- What the contracts of this crate cite.
-pub mod Decimals
 pub mod Fault
 pub mod Federation
-pub mod Identifiers
 pub mod Instructions
 pub mod Lines
 pub mod Listing
-pub mod Priorities
 pub mod Reading
 pub mod Replay
 pub mod Rosters

@@ -4,7 +4,7 @@ use Rattle.std.specs.List.{before_first, after_first, filter_map, list_all, list
 use Rattle.std.specs.Result.{result_ok}
 use Rattle.std.specs.Str.{bytes_eq}
 use Rattle.fed_stamp.specs.Roster.{first_fault, ok_unless}
-use Rattle.fed_main.specs.Decimals.{decimal_of}
+use Rattle.fed_words.specs.Number.{decimal_in}
 
 abbrev pub is_colon : ℕ → Bool
 is_colon byte = byte == 58
@@ -12,7 +12,7 @@ is_colon byte = byte == 58
 -- `NAME:NODES`
 abbrev pub site_of : List ℕ → Option (List ℕ × ℕ)
 site_of word = if is_some (position is_colon word)
-    then option_map (λ nodes. (before_first is_colon word, nodes)) (decimal_of (after_first is_colon word))
+    then option_map (λ nodes. (before_first is_colon word, nodes)) (decimal_in (after_first is_colon word))
     else None
 
 -- the sites that the words name, where each names one

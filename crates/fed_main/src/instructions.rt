@@ -1,6 +1,6 @@
 //! What the words of a line say, after the line that names the sites.
 //!
-//! For now a part of the script language is run, and this module, `requests`, `priorities`, `federation`, `session` and
+//! For now a part of the script language is run, and this module, `requests`, `federation`, `session` and
 //! `specs/` say which part. After the line `roster NAME:NODES ..` these lines are run: `SITE USER qsub`,
 //! `SITE USER qalter -p PRIORITY JOB`, `SITE USER qstat` with one JOB or none, `SITE ship SITE`, `SITE take PACKET`
 //! and `equal SITE SITE`. All other words after USER are answered by `usage 1`, also where PRIORITY or JOB is none. A
@@ -8,11 +8,9 @@
 ghost use Rattle.std.specs.Prelude.{◌≡◌, map};
 ghost use Rattle.fed_main.specs.Instructions.{alter_of, ask_of, at_site, compare_of, instruction_of, is_unread_verb, list_of, prioritize_of, request_of, ship_of, submit_of, take_of};
 
-use crate::decimals::read_decimal;
-use crate::identifiers::read_identifier;
-use crate::priorities::read_priority;
 use fed_record::Priority;
 use fed_stamp::{JobId, Roster, SiteId, Word};
+use fed_words::{read_identifier, read_number, read_priority};
 
 /// What a user asks of a site.
 #[derive(Clone, Copy, Debug, PartialEq, Eq)]
@@ -71,8 +69,8 @@ fn read_list(roster: &Roster, here: SiteId, operands: &[&str]) -> Request
     match operands {
         [] => Request::ListAll,
         [job] => match read_identifier(roster, here, job) {
-            Some(job) => Request::ListOne { job },
-            None => Request::Misused,
+            Ok(job) => Request::ListOne { job },
+            Err(_) => Request::Misused,
         },
         [_, _, ..] => Request::Misused,
     }
@@ -84,7 +82,7 @@ fn read_prioritize(roster: &Roster, here: SiteId, operands: &[&str]) -> Request
     match operands {
         [priority, job] => {
             match (read_priority(priority), read_identifier(roster, here, job)) {
-                (Some(priority), Some(job)) => Request::Prioritize { priority, job },
+                (Some(priority), Ok(job)) => Request::Prioritize { priority, job },
                 _ => Request::Misused,
             }
         }
@@ -152,7 +150,7 @@ fn read_take(site: SiteId, words: &[&str]) -> Option<Instruction>
 {
     match words {
         [number] => {
-            let packet = read_decimal(number)?;
+            let packet = read_number(number)?;
             Some(Instruction::Take { site, packet })
         }
         [] => None,

@@ -1,15 +1,12 @@
 //! Replaying the scripts of a federation of batch queues.
 #![tactic(auto)]
 
-mod decimals;
 mod fault;
 mod federation;
-mod identifiers;
 mod instructions;
 mod laws;
 mod lines;
 mod listing;
-mod priorities;
 mod requests;
 mod rosters;
 mod run;

@@ -4,8 +4,8 @@ ghost use Rattle.std.specs.List.{list_any};
 ghost use Rattle.fed_stamp.specs.Roster.{sites_of};
 ghost use Rattle.fed_main.specs.Rosters.{is_reserved as begins_another_line, roster_of, site_of, sites_in};
 
-use crate::decimals::read_decimal;
 use fed_stamp::Roster;
+use fed_words::read_number;
 use std::alloc::{AllocError, Global};
 use std::marker::Model;
 
@@ -90,5 +90,5 @@ fn read_site(word: &str) -> Option<(&str, u64)>
     ensures { option_map (λ s. (s.0.now, s.1)) result ≡ site_of word.now }
 {
     let (name, nodes) = word.split_once(':')?;
-    Some((name, read_decimal(nodes)?))
+    Some((name, read_number(nodes)?))
 }
