@@ -1,5 +1,5 @@
 -- What `{:<n}` writes of a text, and `{:>n}` of a number, as the text and spaces.
-use Rattle.std.proofs.Common.{◌≡◌, ℕ, ℤ, pos, negsuc, nat_abs, suc, zero, ◌-◌, ◌^◌, ◌<◌, ◌≤◌, Bool, true, false, cond, eqb, List, [], ◌∷◌, ◌++◌, length, replicate, refl, ap, arith, append_assoc, append-nil}
+use Rattle.std.proofs.Common.{◌≡◌, ℕ, ℤ, pos, negsuc, nat_abs, suc, zero, ◌-◌, ◌^◌, ◌<◌, ◌≤◌, Bool, true, false, cond, eqb, List, [], ◌∷◌, ◌++◌, length, replicate, refl, ap, ◌∙◌, arith, append_assoc, append-nil}
 use Rattle.std.specs.Fmt.{padded, padded_integral, format_spec, decimal, signed_decimal, char_count, take_chars, is_char_start}
 use Rattle.std.specs.Int.{is_negative}
 use Rattle.std.specs.List.{join_with_byte, repeat}
@@ -46,6 +46,21 @@ padded_integral-signed width (pos n) =
     rw positive (padded_integral-right width (decimal n))
 padded_integral-signed width (negsuc n) = padded_integral-negative width (decimal (suc n))
 
--- two parts of a line, and its line feed
-pub join-both : (a b c d e f g h : List ℕ) → join_with_byte 32 (a ∷ b ∷ c ∷ d ∷ []) ++ (32 ∷ (join_with_byte 32 (e ∷ f ∷ g ∷ h ∷ []) ++ 10 ∷ [])) ≡ join_with_byte 32 (a ∷ b ∷ c ∷ d ∷ e ∷ f ∷ g ∷ h ∷ []) ++ 10 ∷ []
-join-both a b c d e f g h = simp append_assoc
+-- fields with a space behind each
+pub join-names : (a b c d : List ℕ) → a ++ 32 ∷ (b ++ 32 ∷ (c ++ 32 ∷ (d ++ 32 ∷ []))) ≡ join_with_byte 32 (a ∷ b ∷ c ∷ d ∷ []) ++ 32 ∷ []
+join-names a b c d = simp append_assoc
+
+pub join-numbers : (a b c : List ℕ) → a ++ 32 ∷ (b ++ 32 ∷ (c ++ 32 ∷ [])) ≡ join_with_byte 32 (a ∷ b ∷ c ∷ []) ++ 32 ∷ []
+join-numbers a b c = simp append_assoc
+
+-- the parts of a line, one written behind the other
+behind : (o p s q t h n : List ℕ) → (((o ++ (p ++ s)) ++ (q ++ t)) ++ h) ++ n ≡ o ++ (p ++ (s ++ (q ++ (t ++ (h ++ n)))))
+behind o p s q t h n = simp append_assoc
+
+join-rest : (a b c d e f g h n : List ℕ) → join_with_byte 32 (a ∷ b ∷ c ∷ d ∷ []) ++ 32 ∷ (join_with_byte 32 (e ∷ f ∷ g ∷ []) ++ 32 ∷ (h ++ n)) ≡ join_with_byte 32 (a ∷ b ∷ c ∷ d ∷ e ∷ f ∷ g ∷ h ∷ []) ++ n
+join-rest a b c d e f g h n = simp append_assoc
+
+pub join-parts : (old a b c d e f g h : List ℕ) → (((old ++ (join_with_byte 32 (a ∷ b ∷ c ∷ d ∷ []) ++ 32 ∷ [])) ++ (join_with_byte 32 (e ∷ f ∷ g ∷ []) ++ 32 ∷ [])) ++ h) ++ 10 ∷ [] ≡ old ++ (join_with_byte 32 (a ∷ b ∷ c ∷ d ∷ e ∷ f ∷ g ∷ h ∷ []) ++ 10 ∷ [])
+join-parts old a b c d e f g h =
+    behind old (join_with_byte 32 (a ∷ b ∷ c ∷ d ∷ [])) (32 ∷ []) (join_with_byte 32 (e ∷ f ∷ g ∷ [])) (32 ∷ []) h (10 ∷ [])
+    ∙ ap (λ l. old ++ l) (join-rest a b c d e f g h (10 ∷ []))

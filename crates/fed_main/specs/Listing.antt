@@ -40,14 +40,14 @@ abbrev pub names : List ℕ → List ℕ → List ℕ → ℕ → List (List ℕ
 names identifier name owner letter =
     left_in 18 identifier ∷ left_in 16 name ∷ left_in 16 owner ∷ encode_utf8 letter ∷ []
 
-abbrev pub numbers : ℤ → ℕ → ℕ → List ℕ → List (List ℕ)
-numbers priority nodes limit granted =
-    right_in 6 (signed_decimal priority) ∷ right_in 8 (decimal nodes) ∷ right_in 9 (decimal limit) ∷ granted ∷ []
+abbrev pub numbers : ℤ → ℕ → ℕ → List (List ℕ)
+numbers priority nodes limit =
+    right_in 6 (signed_decimal priority) ∷ right_in 8 (decimal nodes) ∷ right_in 9 (decimal limit) ∷ []
 
 -- the line that shows a job: its fields, parted by one space, and a line feed
 abbrev pub line_of : List (List ℕ × ℕ) → ShownJob → List ℕ
 line_of roster job = join_with_byte 32 (names (identifier_text roster job.id) job.name job.owner job.letter ++
-    numbers job.priority job.nodes job.limit (granted_text roster job.granted)) ++ 10 ∷ []
+    numbers job.priority job.nodes job.limit ++ granted_text roster job.granted ∷ []) ++ 10 ∷ []
 
 -- the letter that stands for the state of a job
 abbrev pub letter_sign : Letter → ℕ

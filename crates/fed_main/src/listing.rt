@@ -1,5 +1,5 @@
 //! The text of identifiers and listings.
-ghost use Rattle.std.specs.Prelude.{◌≡◌, List, IfOk, string_bytes};
+ghost use Rattle.std.specs.Prelude.{◌≡◌, List, [], ◌∷◌, ◌++◌, IfOk, OnOk, string_bytes};
 ghost use Rattle.std.specs.List.{join_with_byte};
 ghost use Rattle.fed_stamp.specs.Stamp.{StampValue};
 ghost use Rattle.fed_record.specs.JobRecord.{reads as reads_job};
@@ -11,6 +11,9 @@ use fed_board::Board;
 use fed_record::{JobRecord, Letter, Limit, Nodes, Priority};
 use fed_stamp::{JobId, Roster, SiteId, Word};
 use std::alloc::{AllocError, Global};
+
+/// The most bytes that an identifier has.
+const IDENTIFIER_BYTES: usize = 26;
 
 /// What a short listing shows of a job.
 #[derive(Clone, Copy, Drop)]
@@ -26,13 +29,13 @@ pub struct ShownJob {
     pub granted: Option<SiteId>,
 }
 
-/// The name of a site, or `#` and its number where the roster has no such site.
-fn site_text(alloc: Global, roster: &Roster, site: SiteId) -> Result<String, AllocError>
-    ensures { IfOk result (λ text. string_bytes text ≡ text_of_site roster.now site) }
+/// Writes the name of a site, or `#` and its number where the roster has no such site.
+fn write_site(text: &mut String, roster: &Roster, site: SiteId) -> Result<(), AllocError>
+    ensures { OnOk result (string_bytes text.new ≡ string_bytes text.old ++ text_of_site roster.now site) }
 {
     match roster.name(site) {
-        Some(name) => String::from_str(alloc, name),
-        None => format!(in alloc; "#{}", site.get()),
+        Some(name) => text.push_str(name),
+        None => write!(text, "#{}", site.get()),
     }
 }
 
@@ -40,66 +43,67 @@ fn site_text(alloc: Global, roster: &Roster, site: SiteId) -> Result<String, All
 pub fn identifier_text(alloc: Global, roster: &Roster, id: JobId) -> Result<String, AllocError>
     ensures { IfOk result (λ text. string_bytes text ≡ text_of_identifier roster.now id) }
 {
-    let site = site_text(alloc, roster, id.site())?;
     let counter = id.counter();
-    format!(in alloc; "{counter}.{site}")
+    let mut text = String::with_capacity(alloc, IDENTIFIER_BYTES)?;
+    write!(text, "{counter}.")?;
+    write_site(&mut text, roster, id.site())?;
+    Ok(text)
 }
 
-/// The site that a job is granted to, or `-` where there is none.
-fn granted_text(
-    alloc: Global,
+/// Writes the site that a job is granted to, or `-` where there is none.
+fn write_granted(
+    text: &mut String,
     roster: &Roster,
     granted: Option<SiteId>,
-) -> Result<String, AllocError>
-    ensures { IfOk result (λ text. string_bytes text ≡ text_of_granted roster.now granted) }
+) -> Result<(), AllocError>
+    ensures { OnOk result (string_bytes text.new ≡ string_bytes text.old ++ text_of_granted roster.now granted) }
 {
     match granted {
-        Some(site) => site_text(alloc, roster, site),
-        None => String::from_str(alloc, "-"),
+        Some(site) => write_site(text, roster, site),
+        None => text.push_str("-"),
     }
 }
 
-/// The fields of a job's line that are names, each left in its columns, and the letter.
-fn names_text(
-    alloc: Global,
+/// Writes the fields of a job's line that are names, each left in its columns, and the letter, with a space behind each.
+fn write_names(
+    text: &mut String,
     identifier: &str,
     name: &str,
     owner: &str,
     letter: char,
-) -> Result<String, AllocError>
-    ensures { IfOk result (λ text.
-        string_bytes text ≡ join_with_byte 32 (names identifier.now name.now owner.now letter)) }
+) -> Result<(), AllocError>
+    ensures { OnOk result (string_bytes text.new ≡ string_bytes text.old ++
+        (join_with_byte 32 (names identifier.now name.now owner.now letter) ++ 32 ∷ [])) }
 {
-    format!(in alloc; "{identifier:<18} {name:<16} {owner:<16} {letter}")
+    write!(text, "{identifier:<18} {name:<16} {owner:<16} {letter} ")
 }
 
-/// The fields of a job's line that are numbers, each right in its columns, and the granted site.
-fn numbers_text(
-    alloc: Global,
-    priority: i16,
-    nodes: u64,
-    limit: u64,
-    granted: &str,
-) -> Result<String, AllocError>
-    ensures { IfOk result (λ text. string_bytes text ≡ join_with_byte 32 (numbers priority nodes limit granted.now)) }
+/// Writes the fields of a job's line that are numbers, each right in its columns, with a space behind each.
+fn write_numbers(text: &mut String, priority: i16, nodes: u64, limit: u64) -> Result<(), AllocError>
+    ensures { OnOk result (string_bytes text.new ≡ string_bytes text.old ++
+        (join_with_byte 32 (numbers priority nodes limit) ++ 32 ∷ [])) }
 {
-    format!(in alloc; "{priority:>6} {nodes:>8} {limit:>9} {granted}")
+    write!(text, "{priority:>6} {nodes:>8} {limit:>9} ")
 }
 
-/// The line of a short listing that shows a job. Its fields are parted by one space: the identifier left in 18
+/// Writes the line of a short listing that shows a job. Its fields are parted by one space: the identifier left in 18
 /// columns, the name left in 16, the owner left in 16, the letter, the priority right in 6, the nodes right in 8, the
 /// limit right in 9, and the granted site or `-`. A longer field isn't cut. A line feed ends the line.
-pub fn job_line(alloc: Global, roster: &Roster, job: &ShownJob) -> Result<String, AllocError>
-    ensures { IfOk result (λ text. string_bytes text ≡ line_of roster.now job.now) }
+fn write_line(
+    alloc: Global,
+    text: &mut String,
+    roster: &Roster,
+    job: &ShownJob,
+) -> Result<(), AllocError>
+    ensures { OnOk result (string_bytes text.new ≡ string_bytes text.old ++ line_of roster.now job.now) }
 {
     let identifier = identifier_text(alloc, roster, job.id)?;
-    let granted = granted_text(alloc, roster, job.granted)?;
     let (name, owner) = (job.name.as_str(), job.owner.as_str());
-    let names = names_text(alloc, identifier.as_str(), name, owner, job.letter)?;
-    let priority = job.priority.get();
+    write_names(text, identifier.as_str(), name, owner, job.letter)?;
     let (nodes, limit) = (job.nodes.get(), job.limit.get());
-    let numbers = numbers_text(alloc, priority, nodes, limit, granted.as_str())?;
-    format!(in alloc; "{names} {numbers}\n")
+    write_numbers(text, job.priority.get(), nodes, limit)?;
+    write_granted(text, roster, job.granted)?;
+    text.push_str("\n")
 }
 
 /// The letter that stands for the state of a job.
@@ -145,6 +149,23 @@ fn shown(id: JobId, held: &JobRecord) -> Option<ShownJob>
     })
 }
 
+/// Writes the line of a job, or nothing where the record is of a job that is not submitted. The text ends as it was where
+/// memory is refused, or with part of the line.
+fn write_job(
+    alloc: Global,
+    text: &mut String,
+    roster: &Roster,
+    id: JobId,
+    held: &JobRecord,
+) -> Result<(), AllocError>
+    ensures { OnOk result (string_bytes text.new ≡ string_bytes text.old ++ text_of_job roster.now id (reads_job held.now)) }
+{
+    match shown(id, held) {
+        Some(job) => write_line(alloc, text, roster, &job),
+        None => Ok(()),
+    }
+}
+
 /// The line of a job, or nothing where the record is of a job that is not submitted.
 pub fn job_text(
     alloc: Global,
@@ -154,10 +175,9 @@ pub fn job_text(
 ) -> Result<String, AllocError>
     ensures { IfOk result (λ text. string_bytes text ≡ text_of_job roster.now id (reads_job held.now)) }
 {
-    match shown(id, held) {
-        Some(job) => job_line(alloc, roster, &job),
-        None => Ok(String::new(alloc)),
-    }
+    let mut text = String::new(alloc);
+    write_job(alloc, &mut text, roster, id, held)?;
+    Ok(text)
 }
 
 /// A line for each job of a board, in the order of their stamps.
@@ -167,8 +187,7 @@ pub fn list(alloc: Global, roster: &Roster, board: &Board) -> Result<String, All
 {
     let mut text = String::new(alloc);
     for (id, held) in board.jobs() {
-        let line = job_text(alloc, roster, *id, held)?;
-        text.push_str(line.as_str())?;
+        write_job(alloc, &mut text, roster, *id, held)?;
     }
     Ok(text)
 }
