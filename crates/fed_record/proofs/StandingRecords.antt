@@ -34,14 +34,14 @@ use Rattle.fed_record.specs.RecordLaws.{hold_order, hold_exact, site_order, site
 use Rattle.fed_record.proofs.BodyLaws.{part-always, part-bodies, part-stamped, part-stamped_bodies, one_each_bodies}
 use Rattle.fed_record.proofs.RecordReads.{every_kind, every_site, removed_hold, removed_site}
 
--- ---- registers, over the operations or over a nest of parts of their changes
+-- ---- registers
 pub field_is : {T : Type 0} (says : Body → Option T) (x : Option (StampValue × T)) (h : History Operation) (l : History T)
     → OneEach h → l ≡ part says (bodies h) → register_stands_for x l → x ≡ field says (bodies h)
 field_is says x h l one e p =
     latest_from_stands x (field says (bodies h)) (part says (bodies h)) (one_each_part says (bodies h) (one_each_bodies h one))
     (subst (register_stands_for x) e p) (latest_stands (part says (bodies h)))
 
--- a part of a nest is what the bodies say
+-- what the changes of an operation say of a part is what its body says
 pub said_by : {C D T : Type 0} (f : D → Option T) (k : C → D) (g : C → Option T) (l : History C) (m : History T) → ((c : C) → f (k c) ≡ g c) → part g l ≡ m → part f (part (always k) l) ≡ m
 said_by {C} f k g l m same e = part-always f k l ∙ ap (λ (q : C → _). part q l) (λ i c. same c i) ∙ e
 

@@ -1,8 +1,8 @@
 -- The laws of one part of a value whose parts change by name: `change` is what a change of the whole changes in it.
-use Rattle.std.proofs.Common.{ℕ, List, ◌∷◌, ◌++◌, Option, Some, None}
+use Rattle.std.proofs.Common.{ℕ, List, ◌∷◌, ◌++◌, Option}
 use Rattle.fed_stamp.specs.Stamp.{StampValue}
 use Rattle.fed_lattice.specs.Both.{applied_option}
-use Rattle.fed_lattice.specs.BothLaws.{option_stands, part_joined_stands}
+use Rattle.fed_lattice.specs.BothLaws.{well_formed_option, option_stands, part_joined_stands}
 use Rattle.fed_lattice.specs.History.{History, IsFresh, Agree}
 use Rattle.fed_lattice.specs.Laws.{AddsChange, JoinsHistories, StandsForSets}
 use Rattle.fed_lattice.specs.Part.{part}
@@ -12,8 +12,7 @@ use Rattle.fed_lattice.specs.Sets.{IsSameSet}
 pub applied_well_formed : {X D : Type 0} (applied : X → StampValue → D → X) (well_formed : X → Type 0)
     → ((x : X) (s : StampValue) (d : D) → well_formed x → well_formed (applied x s d))
     → (x : X) (s : StampValue) (c : Option D) → well_formed x → well_formed (applied_option applied x s c)
-applied_well_formed applied well_formed law x s None p = p
-applied_well_formed applied well_formed law x s (Some d) p = law x s d p
+applied_well_formed applied well_formed law x s c p = well_formed_option applied well_formed x s c p (λ d. law x s d p)
 
 module _ {X C D : Type 0} (change : C → Option D) (well_formed : X → Type 0) (is_history : History D → Type 0) (stands_for : X → History D → Type 0) where
   pub part_adds_change : (applied : X → StampValue → D → X) → AddsChange well_formed is_history stands_for applied

@@ -1,4 +1,4 @@
--- A record of a job, over a nest of registers F and a nest of stages G.
+-- A record of a job, over its fields F and its stages G.
 use Rattle.std.specs.Prelude.{◌≡◌, ◌<◌, ℕ, List, true}
 use Rattle.fed_stamp.specs.Stamp.{StampValue}
 use Rattle.fed_stamp.specs.Version.{covers}

@@ -81,13 +81,12 @@ fn set(alloc: Global, changes: Changes, pairs: &[(SiteId, Stamp)]) -> Result<Ope
     })
 }
 
-/// A Begin at second 100, on 1 node.
+/// A Begin at second 100, on 1 node and for an hour at most.
 fn beginning() -> Result<Beginning, Fail> {
-    Ok(Beginning {
-        moment: Moment::new(100).ok_or("moment")?,
-        nodes: Nodes::new(1).ok_or("nodes")?,
-        end: 3700,
-    })
+    let moment = Moment::new(100).ok_or("moment")?;
+    let nodes = Nodes::new(1).ok_or("nodes")?;
+    let limit = Limit::new(3600).ok_or("limit")?;
+    Ok(Beginning::new(moment, nodes, limit))
 }
 
 /// Whether the readers answer the parts.
@@ -195,7 +194,8 @@ fn a_grant_is_handed_back_and_made_anew(rt: HostRuntime) -> Result<(), Fail> {
         site: site(4),
     };
     assert!(rt; granted.grant() == Some(open));
-    assert!(rt; granted.letter() == Some(Letter::Granted));
+    assert!(rt; granted.letter() == Some(Letter::Granted) && granted.holder() == Some(site(4)));
+    assert!(rt; granted.is_granted_to(site(4)) && !granted.is_granted_to(site(2)));
     let hand_back = Operation::HandBack { job: job(), term };
     let handed_back = after(granted, stamp(7, 4), hand_back)?;
     let returned = GrantStage::Returned {
@@ -203,7 +203,8 @@ fn a_grant_is_handed_back_and_made_anew(rt: HostRuntime) -> Result<(), Fail> {
         stamp: stamp(7, 4),
     };
     assert!(rt; handed_back.grant() == Some(returned));
-    assert!(rt; handed_back.letter() == Some(Letter::Queued));
+    assert!(rt; handed_back.letter() == Some(Letter::Queued) && handed_back.holder().is_none());
+    assert!(rt; !handed_back.is_granted_to(site(4)));
     let anew = Operation::Grant {
         job: job(),
         site: site(1),
@@ -224,15 +225,15 @@ fn a_deleted_job_exits_where_it_has_begun(rt: HostRuntime) -> Result<(), Fail> {
     let seen = submitted(rt.alloc(), true)?;
     let copied = seen.copy()?;
     let gone = after(copied, stamp(6, 3), Operation::Delete { job: job() })?;
-    assert!(rt; gone.deleted() && gone.letter().is_none());
+    assert!(rt; gone.deleted() && gone.is_gone() && gone.letter().is_none());
     let begin = Operation::Begin {
         job: job(),
         beginning: beginning()?,
     };
     let begun = after(seen, stamp(7, 4), begin)?;
-    assert!(rt; begun.letter() == Some(Letter::Running));
+    assert!(rt; begun.letter() == Some(Letter::Running) && beginning()?.end == 3700);
     let exiting = after(begun, stamp(8, 3), Operation::Delete { job: job() })?;
-    assert!(rt; exiting.letter() == Some(Letter::Exiting));
+    assert!(rt; exiting.letter() == Some(Letter::Exiting) && !exiting.is_gone());
     let ending = Ending {
         moment: Moment::new(200).ok_or("moment")?,
         status: 7,
@@ -243,7 +244,8 @@ fn a_deleted_job_exits_where_it_has_begun(rt: HostRuntime) -> Result<(), Fail> {
         begun: Some((stamp(7, 4), beginning()?)),
         finished: Some((stamp(9, 4), ending)),
     };
-    assert!(rt; finished.letter().is_none() && finished.progress() == progress);
+    assert!(rt; finished.is_gone() && finished.letter().is_none());
+    assert!(rt; finished.progress() == progress);
     Ok(())
 }
 

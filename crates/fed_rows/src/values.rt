@@ -1,10 +1,11 @@
 //! Examples of values.
 use bitflags::Flags;
+use fed_lattice::NoMemory;
 use fed_record::{
-    Account, GrantStage, HoldKind, HoldKinds, Limit, Moment, Nodes, Operation, Priority, Refusal,
-    Term,
+    Account, GrantStage, HoldKind, HoldKinds, Limit, MAX_END, Moment, Nodes, Operation, Priority,
+    Refusal, Term,
 };
-use fed_stamp::{SiteId, Stamp};
+use fed_stamp::{ClockFull, SiteId, Stamp};
 use std::test::Fail;
 
 #[test]
@@ -19,6 +20,7 @@ fn ends_of_ranges(rt: HostRuntime) -> Result<(), Fail> {
     assert!(rt;
         Moment::new(1_000_000_000_000).is_some() && Moment::new(1_000_000_000_001).is_none()
     );
+    assert_eq!(rt; MAX_END, 1_000_010_000_000);
     assert!(rt; Term::new(0).is_none() && Term::new(1).is_some());
     assert!(rt; Term::new(1_000_000_000).is_some() && Term::new(1_000_000_001).is_none());
     Ok(())
@@ -74,6 +76,8 @@ fn numbers_of_refusals(rt: HostRuntime) -> Result<(), Fail> {
     assert_eq!(rt; Refusal::UnknownJob.number(), 1);
     assert_eq!(rt; Refusal::TakenBy(site).number(), 8);
     assert_eq!(rt; Refusal::NoMemory.number(), 16);
+    assert!(rt; Refusal::from(NoMemory) == Refusal::NoMemory);
+    assert!(rt; Refusal::from(ClockFull) == Refusal::ClockFull);
     Ok(())
 }
 
