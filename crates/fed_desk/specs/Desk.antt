@@ -37,8 +37,8 @@ abbrev pub decision_unless : Option Refusal → Bool → Decision
 decision_unless (Some refusal) is_yours = Decision.Refused refusal
 decision_unless None is_yours = if is_yours then Decision.Yours else Decision.Grant
 
--- what the site `here` decides where a site asks for a job: the first refusal that applies, else `Yours` where the job is
--- granted to the asker, else `Grant`
+-- what the site `here` decides where a site asks for a job: the first refusal that applies, else `Yours` where the job
+-- is granted to the asker, else `Grant`
 abbrev pub decision : View → ℕ → StampValue → ℕ → Decision
 decision v here job asker =
     decision_unless (first_of (grant_refusals v here job asker)) (is_granted_to (v.job job) asker)

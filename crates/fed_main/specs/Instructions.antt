@@ -25,7 +25,8 @@ submit_of (word ∷ words) = Request.Misused
 -- `qstat` or `qstat JOB`
 abbrev pub list_of : List (List ℕ × ℕ) → ℕ → List (List ℕ) → Request
 list_of roster here [] = Request.ListAll
-list_of roster here (job ∷ []) = unwrap_or (option_map Request.ListOne (result_ok (job_in roster here job))) Request.Misused
+list_of roster here (job ∷ []) =
+    unwrap_or (option_map Request.ListOne (result_ok (job_in roster here job))) Request.Misused
 list_of roster here (job ∷ word ∷ words) = Request.Misused
 
 -- `qalter -p PRIORITY JOB`
@@ -33,7 +34,9 @@ abbrev pub prioritize_of : List (List ℕ × ℕ) → ℕ → List (List ℕ) �
 prioritize_of roster here [] = Request.Misused
 prioritize_of roster here (priority ∷ []) = Request.Misused
 prioritize_of roster here (priority ∷ job ∷ []) = unwrap_or
-    (option_and_then (λ p. option_map (Request.Prioritize p) (result_ok (job_in roster here job))) (priority_in priority))
+    (option_and_then
+    (λ p. option_map (Request.Prioritize p) (result_ok (job_in roster here job)))
+    (priority_in priority))
     Request.Misused
 prioritize_of roster here (priority ∷ job ∷ word ∷ words) = Request.Misused
 

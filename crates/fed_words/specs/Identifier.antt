@@ -13,7 +13,8 @@ is_dot byte = byte == 46
 
 -- 1 to 10 decimal digits
 abbrev pub sequence_in : List ℕ → Answer ℕ
-sequence_in word = if nat_le (length word) 10 then ok_or (number_in 1 1_000_000_000 word) BadIdentifier else Err BadIdentifier
+sequence_in word =
+    if nat_le (length word) 10 then ok_or (number_in 1 1_000_000_000 word) BadIdentifier else Err BadIdentifier
 
 -- what the word says of the site: the name behind the first dot, or, where there is none, the site that reads it
 abbrev pub place_in : List (List ℕ × ℕ) → ℕ → List ℕ → Answer ℕ

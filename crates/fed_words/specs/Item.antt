@@ -14,4 +14,5 @@ abbrev pub items_of : List Item → List ItemValue
 items_of items = map (λ item. (item.option, item.argument.now)) items
 
 abbrev pub spelling_of : Held → Spelling (List (List ℕ))
-spelling_of held = record { items = items_of held.items.items; rest = answer_map (λ words. words_of words.now) held.operands }
+spelling_of held =
+    record { items = items_of held.items.items; rest = answer_map (λ words. words_of words.now) held.operands }

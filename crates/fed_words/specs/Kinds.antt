@@ -15,5 +15,7 @@ has_letter letter text = list_any (λ b. b == letter) text
 -- one or more of the letters `u`, `o`, `s`
 abbrev pub kinds_in : List ℕ → Option HoldKinds
 kinds_in text = if nat_lt 0 (length text) && list_all is_kind_letter text
-    then Some (record { 0 = sum_of_bits (has_letter (byte "u") text) (has_letter (byte "o") text) (has_letter (byte "s") text) })
+    then Some (record {
+      0 = sum_of_bits (has_letter (byte "u") text) (has_letter (byte "o") text) (has_letter (byte "s") text);
+    })
     else None

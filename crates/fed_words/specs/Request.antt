@@ -86,7 +86,8 @@ jobs_in roster here Qstat operands = named_jobs roster here operands
 jobs_in roster here utility [] = Err MissingOperand
 jobs_in roster here utility (operand ∷ operands) = named_jobs roster here (operand ∷ operands)
 
--- what words ask where they are read, or their first fault
+-- what words ask where they are read, or their first fault: the options that are split off stand before the place where
+-- splitting ends, and the operands behind it
 abbrev pub request_in : List (List ℕ × ℕ) → ℕ → List (List ℕ) → Answer Asked
 request_in roster here [] = Err UnknownUtility
 request_in roster here (name ∷ words) = do

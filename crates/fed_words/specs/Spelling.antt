@@ -35,7 +35,7 @@ group utility (letter ∷ letters) = option_map_or
 abbrev pub is_options : List ℕ → Bool
 is_options word = nat_lt 1 (length word) && (slice_index word 0 == byte "-")
 
--- these items, and then what follows from what stands behind them
+-- these items, and then what follows of what stands behind them; a fault stays
 abbrev pub before : {R Rest : Type 0} → List Item → Answer R → (R → Spelling Rest) → Spelling Rest
 before items (Ok x) next = record { items = items ++ (next x).items; rest = (next x).rest }
 before items (Err fault) next = record { items = items; rest = Err fault }
@@ -44,7 +44,9 @@ before items (Err fault) next = record { items = items; rest = Err fault }
 abbrev pub spelling : Utility → Option Choice → List (List ℕ) → Spelling (List (List ℕ))
 spelling utility None [] = record { items = []; rest = Ok [] }
 spelling utility None (word ∷ words) = if bytes_eq word (codes "--") then record { items = []; rest = Ok words }
-    else (if is_options word then before (group utility (drop 1 word)).items (group utility (drop 1 word)).rest (λ wanted. spelling utility wanted words)
+    else (if is_options word
+    then (let letters = group utility (drop 1 word) in
+    before letters.items letters.rest (λ wanted. spelling utility wanted words))
     else record { items = []; rest = Ok (word ∷ words) })
 spelling utility (Some option) [] = record { items = []; rest = Err MissingArgument }
 spelling utility (Some option) (word ∷ words) = with_item (option, word) (spelling utility None words)

@@ -14,7 +14,8 @@ abbrev pub utility_named : List ℕ → Option Utility
 utility_named word = option_map (λ u. u.1) (find (λ u. bytes_eq word u.0) utilities)
 
 abbrev pub choices : Utility → List (ℕ × Choice)
-choices Qsub = (byte "A", Account) ∷ (byte "h", Held) ∷ (byte "l", Resources) ∷ (byte "N", Name) ∷ (byte "p", Priority) ∷ []
+choices Qsub =
+    (byte "A", Account) ∷ (byte "h", Held) ∷ (byte "l", Resources) ∷ (byte "N", Name) ∷ (byte "p", Priority) ∷ []
 choices Qalter = (byte "A", Account) ∷ (byte "l", Resources) ∷ (byte "N", Name) ∷ (byte "p", Priority) ∷ []
 choices Qhold = (byte "h", Kinds) ∷ []
 choices Qrls = (byte "h", Kinds) ∷ []

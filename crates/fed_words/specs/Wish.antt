@@ -123,7 +123,8 @@ HasJobs Qstat jobs = Unit {0}
 HasJobs _ jobs = 0 < length jobs
 
 -- what a user can ask of a utility
-pub record IsAsked (roster : List (List ℕ × ℕ)) (utility : Utility) (wishes : List Wish) (jobs : List StampValue) : Type 0 where
+pub record IsAsked (roster : List (List ℕ × ℕ)) (utility : Utility) (wishes : List Wish) (jobs : List StampValue)
+    : Type 0 where
   pub options : All (IsOption roster utility) wishes
   pub wished : All (IsWish roster) wishes
   pub known : All (IsJob roster) jobs

@@ -5,8 +5,8 @@ ghost use Rattle.fed_words.specs.Kinds.{has_letter as stands_in, is_kind_letter 
 
 use fed_record::HoldKinds;
 
-/// The kinds that a list of the letters `u`, `o` and `s` names, in any order and with repeats, or `None` where it is empty
-/// or has another character.
+/// The kinds that a list of the letters `u`, `o` and `s` names, in any order and with repeats, or `None` where it is
+/// empty or has another character.
 pub fn read_kinds(text: &str) -> Option<HoldKinds>
     ensures { result ≡ kinds_in text.now }
 {

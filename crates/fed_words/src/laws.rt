@@ -1,5 +1,5 @@
-//! What words are by the utility syntax, and the way back: words that say what a user asks are read as that. Each function
-//! does nothing: its contract is the law.
+//! What words are by the utility syntax, and the way back: words that say what a user asks are read as that. Each
+//! function does nothing: its contract is the law.
 ghost use Rattle.std.specs.Prelude.{◌≡◌, ℕ, ◌<◌, List, None, Ok, length};
 ghost use Rattle.fed_stamp.specs.Roster.{IsRoster};
 ghost use Rattle.fed_words.specs.declared.utilities.Utility.{Utility};
@@ -22,8 +22,8 @@ pub fn all_words_are_of_the_grammar()
         (line : Line) × IsLine utility line × (words ≡ words_of_line line) }
 {}
 
-/// Each request that a user can ask for is asked by words: by each option in a word of its own, with its argument in the
-/// next word, then `--`, and then the jobs by their whole identifiers. The words ask the same at each site.
+/// Each request that a user can ask for is asked by words: by each option in a word of its own, with its argument in
+/// the next word, then `--`, and then the jobs by their whole identifiers. The words ask the same at each site.
 pub fn requests_are_read_from_words()
     ensures { (roster : List (List ℕ × ℕ)) (here : ℕ) (request : Asked) (asked : CanBeAsked roster request) →
         IsRoster roster → request_in roster here (words_for roster request asked) ≡ Ok request }

@@ -25,8 +25,8 @@ pub fn read_nodes(word: &str) -> Option<Nodes>
     Nodes::new(read_number(word)?)
 }
 
-/// The time limit that a word writes in decimal digits, from 1 to 10,000,000 whole seconds, or `None` where the word has
-/// another form or the number is out of this range.
+/// The time limit that a word writes in decimal digits, from 1 to 10,000,000 whole seconds, or `None` where the word
+/// has another form or the number is out of this range.
 pub fn read_limit(word: &str) -> Option<Limit>
     ensures { result ≡ number_in 1 10_000_000 word.now }
 {

@@ -145,7 +145,8 @@ fn submission(
     roster: &Roster,
     settings: &Settings,
 ) -> Result<Vec<Command>, AllocError>
-    ensures { IfOk result (λ commands. commands.items ≡ Command.Submit (values_of roster.now settings.now) settings.now.held ∷ []) }
+    ensures { IfOk result (λ commands.
+        commands.items ≡ Command.Submit (values_of roster.now settings.now) settings.now.held ∷ []) }
 {
     let values = values(alloc, roster, settings)?;
     Ok(vec![in alloc;
@@ -188,20 +189,20 @@ fn answer(
     settings: &Settings,
     operands: &[&str],
 ) -> Result<Request, UsageFault>
-    ensures { Gives asked_by result
-        (answer_map (request_of roster.now utility settings.now) (jobs_in roster.now here utility (words_of operands.now))) }
+    ensures { let named = jobs_in roster.now here utility (words_of operands.now) in
+        Gives asked_by result (answer_map (request_of roster.now utility settings.now) named) }
 {
     let jobs = read_jobs(alloc, roster, here, utility, operands)?;
     Ok(make_request(alloc, roster, utility, settings, jobs)?)
 }
 
-/// What the words of a utility ask, the first of which is its name, where they are read at the site `here`: commands, one
-/// for each job that the operands name or one that submits a job, or a listing. An operand without a site's name is a job
-/// of `here`. Of an option given twice the last counts, and a job named twice counts once, at its first place.
+/// What the words of a utility ask, the first of which is its name, where they are read at the site `here`: commands,
+/// one for each job that the operands name or one that submits a job, or a listing. An operand without a site's name is
+/// a job of `here`. Of an option given twice the last counts; a job named twice counts once, at its first place.
 ///
-/// Words are read from left to right, a list of resources pair by pair and its sites name by name, and the first fault is
-/// answered; `UsageFault` says what each is. `MissingOperand` stands behind all options. `NoMemory` is answered where a
-/// growth was refused.
+/// Words are read from left to right, a list of resources pair by pair and its sites name by name, and the first fault
+/// is answered; `UsageFault` says what each is. `MissingOperand` stands behind all options. `NoMemory` is answered where
+/// a growth was refused.
 pub fn read_words(
     alloc: Global,
     words: &[&str],

@@ -47,7 +47,8 @@ impl Resources {
 
     /// One resource more, which takes the place of an earlier one of its name.
     pub(crate) fn with(self, resource: Resource) -> Resources
-        ensures { (given : List Resource) → self ≡ last_resources given → result ≡ last_resources (given ++ resource ∷ []) }
+        ensures { (given : List Resource) → self ≡ last_resources given →
+            result ≡ last_resources (given ++ resource ∷ []) }
     {
         match resource {
             Resource::Nodes(nodes) => Resources {
@@ -113,8 +114,8 @@ fn read_resource(alloc: Global, roster: &Roster, pair: &str) -> Result<Resource,
 
 /// What a list of `resource=value` pairs, joined by single commas, sets; of a resource given twice the last counts.
 ///
-/// The first fault of the pairs in their order, and in a value of `sites` of its names in their order: `BadValue` where a
-/// pair has no `=`, names no resource, or has a value out of its range or form; `UnknownSite` where the roster has no
+/// The first fault of the pairs in their order, and in a value of `sites` of its names in their order: `BadValue` where
+/// a pair has no `=`, names no resource, or has a value out of its range or form; `UnknownSite` where the roster has no
 /// site of a name; `NoMemory` where a growth was refused.
 pub fn read_resources(alloc: Global, roster: &Roster, text: &str) -> Result<Resources, UsageFault>
     ensures { Gives (λ resources. resources) result (resources_in roster.now text.now) }

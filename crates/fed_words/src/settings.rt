@@ -69,7 +69,8 @@ impl Settings {
 
     /// One option more, which takes the place of an earlier one of its letter.
     pub(crate) fn with(self, setting: Setting) -> Settings
-        ensures { (given : List Setting) → self ≡ last_settings given → result ≡ last_settings (given ++ setting ∷ []) }
+        ensures { (given : List Setting) → self ≡ last_settings given →
+            result ≡ last_settings (given ++ setting ∷ []) }
     {
         match setting {
             Setting::Account(account) => Settings {

@@ -24,8 +24,8 @@ fn is_site_name(text: &str) -> bool
     true
 }
 
-/// The site of this name. `malformed` where the text hasn't the form of a site's name, and `UnknownSite` where the roster
-/// has no site of this name.
+/// The site of this name. `malformed` where the text hasn't the form of a site's name, and `UnknownSite` where the
+/// roster has no site of this name.
 pub fn read_site(malformed: UsageFault, roster: &Roster, name: &str) -> Result<SiteId, UsageFault>
     ensures { result ≡ site_in malformed roster.now name.now }
 {

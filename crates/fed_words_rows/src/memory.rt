@@ -1,5 +1,5 @@
-//! Words that are read where memory may be refused. Each reading is answered as with ample memory, or by `NoMemory` and so
-//! by 8: the test passes whichever growth is refused, which `rt try --test --fail-alloc N` does for the Nth.
+//! Words that are read where memory may be refused. Each reading is answered as with ample memory, or by `NoMemory` and
+//! so by 8: the test passes whichever growth is refused, which `rt try --test --fail-alloc N` does for the Nth.
 use fed_stamp::{Roster, SiteId};
 use fed_words::read_words;
 use std::test::Fail;

@@ -1,5 +1,5 @@
-//! A plain reader of words, slow and short. It goes through one text, in which each word ends with a line feed, and looks at
-//! each value where it stands, so that it stops at the first fault.
+//! A plain reader of words, slow and short. It goes through one text, in which each word ends with a line feed, and
+//! looks at each value where it stands, so that it stops at the first fault.
 use fed_record::{Account, Changes, Command, HoldKinds, JobValues, Limit, Nodes, Priority};
 use fed_stamp::{JobId, SiteId, SiteSet, Stamp, Word};
 use std::alloc::Global;
@@ -33,8 +33,8 @@ const NOTHING: Changes = Changes {
     sites: None,
 };
 
-/// The number that digits write, or `None` where a character is no digit or there is none. A number that is too large is
-/// the greatest of 64 bits.
+/// The number that digits write, or `None` where a character is no digit or there is none. A number that is too large
+/// is the greatest of 64 bits.
 fn number(text: &str) -> Option<u64> {
     let mut value: u64 = 0;
     for c in text.chars() {
