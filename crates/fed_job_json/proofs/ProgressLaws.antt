@@ -4,7 +4,7 @@ use Rattle.std.specs.Prelude.{codes, is_some, IfSome}
 use Rattle.serde_json.specs.Data.{Data, string}
 use Rattle.serde_json.specs.Find.{as_null}
 use Rattle.fed_stamp.specs.declared.rosters.TheConstants.{MAX_NODES}
-use Rattle.fed_record.specs.declared.moments.TheConstants.{MAX_MOMENT}
+use Rattle.fed_record.specs.declared.moments.TheConstants.{MAX_END, MAX_MOMENT}
 use Rattle.fed_record.specs.declared.progress.Beginning.{Beginning}
 use Rattle.fed_json.specs.declared.flaws.Flaw.TheVariants.{Shape}
 use Rattle.fed_json.specs.Reading.{Reading, ◌>>=◌, mapped, both, where_true}
@@ -29,23 +29,23 @@ four a b c d x y z w p q r s more = rw (p, q, r, s) refl
 
 begun_takes : (a b c d : Data) (g : Begun) → begun_of a b c d ≡ Ok g → ((more : List Data) → a ∷ b ∷ c ∷ d ∷ more ≡ begun_values g more) × IsBegun g
 begun_takes a b c d g e =
-    let i = bind_ok (mapped (λ p. (p.0, record { moment = p.1.0; nodes = p.1.1.0; end = p.1.1.1 })) (both (stamp_of a) (both (natural_in 0 MAX_MOMENT b) (both (natural_in 1 MAX_NODES c) (natural_in 0 1_000_010_000_000 d))))) (where_true ends_later) g e in
+    let i = bind_ok (mapped (λ p. (p.0, record { moment = p.1.0; nodes = p.1.1.0; end = p.1.1.1 })) (both (stamp_of a) (both (natural_in 0 MAX_MOMENT b) (both (natural_in 1 MAX_NODES c) (natural_in 0 MAX_END d))))) (where_true ends_later) g e in
     let u = where_true_ok ends_later i.0 g (ends_later i.0) refl i.2 in
-    let m = mapped_ok (both (stamp_of a) (both (natural_in 0 MAX_MOMENT b) (both (natural_in 1 MAX_NODES c) (natural_in 0 1_000_010_000_000 d)))) (λ p. (p.0, record { moment = p.1.0; nodes = p.1.1.0; end = p.1.1.1 })) i.0 i.1 in
-    let r = both_ok (stamp_of a) (both (natural_in 0 MAX_MOMENT b) (both (natural_in 1 MAX_NODES c) (natural_in 0 1_000_010_000_000 d))) m.0 m.1 in
-    let q = both_ok (natural_in 0 MAX_MOMENT b) (both (natural_in 1 MAX_NODES c) (natural_in 0 1_000_010_000_000 d)) m.0.1 r.1 in
-    let t = both_ok (natural_in 1 MAX_NODES c) (natural_in 0 1_000_010_000_000 d) m.0.1.1 q.1 in
+    let m = mapped_ok (both (stamp_of a) (both (natural_in 0 MAX_MOMENT b) (both (natural_in 1 MAX_NODES c) (natural_in 0 MAX_END d)))) (λ p. (p.0, record { moment = p.1.0; nodes = p.1.1.0; end = p.1.1.1 })) i.0 i.1 in
+    let r = both_ok (stamp_of a) (both (natural_in 0 MAX_MOMENT b) (both (natural_in 1 MAX_NODES c) (natural_in 0 MAX_END d))) m.0 m.1 in
+    let q = both_ok (natural_in 0 MAX_MOMENT b) (both (natural_in 1 MAX_NODES c) (natural_in 0 MAX_END d)) m.0.1 r.1 in
+    let t = both_ok (natural_in 1 MAX_NODES c) (natural_in 0 MAX_END d) m.0.1.1 q.1 in
     let s = (stamp_form).takes a m.0.0 r.0 in
     let k = (natural_form 0 MAX_MOMENT).takes b m.0.1.0 q.0 in
     let n = (natural_form 1 MAX_NODES).takes c m.0.1.1.0 t.0 in
-    let l = (natural_form 0 1_000_010_000_000).takes d m.0.1.1.1 t.1 in
+    let l = (natural_form 0 MAX_END).takes d m.0.1.1.1 t.1 in
     let same : i.0 ≡ g = u.0 in
     let after : ltb m.0.1.0 m.0.1.1.1 ≡ true = ap ends_later m.2 ∙ u.1 in
     subst (λ (g : Begun). ((more : List Data) → a ∷ b ∷ c ∷ d ∷ more ≡ begun_values g more) × IsBegun g) (m.2 ∙ same)
     (four a b c d _ _ _ _ s.0 k.0 n.0 l.0, (s.1, k.1, n.1, l.1, later m.0.1.0 m.0.1.1.1 after))
 
 begun_again : (g : Begun) → IsBegun g → begun_of (stamp_value g.0) (natural_value g.1.moment) (natural_value g.1.nodes) (natural_value g.1.end) ≡ Ok g
-begun_again g h = rw ((stamp_form).again g.0 h.0, (natural_form 0 MAX_MOMENT).again g.1.moment h.1, (natural_form 1 MAX_NODES).again g.1.nodes h.2, (natural_form 0 1_000_010_000_000).again g.1.end h.3, later_test g.1.moment g.1.end h.4) refl
+begun_again g h = rw ((stamp_form).again g.0 h.0, (natural_form 0 MAX_MOMENT).again g.1.moment h.1, (natural_form 1 MAX_NODES).again g.1.nodes h.2, (natural_form 0 MAX_END).again g.1.end h.3, later_test g.1.moment g.1.end h.4) refl
 
 three : (a b c x y z : Data) → a ≡ x → b ≡ y → c ≡ z → a ∷ b ∷ c ∷ [] ≡ x ∷ y ∷ z ∷ []
 three a b c x y z p q r = rw (p, q, r) refl

@@ -3,7 +3,7 @@ use Rattle.std.specs.Prelude.{ℕ, ◌<◌, Bool, nat_lt, List, [], ◌∷◌, c
 use Rattle.serde_json.specs.Data.{Data, null, string}
 use Rattle.fed_stamp.specs.Stamp.{StampValue}
 use Rattle.fed_stamp.specs.declared.rosters.TheConstants.{MAX_NODES}
-use Rattle.fed_record.specs.declared.moments.TheConstants.{MAX_MOMENT}
+use Rattle.fed_record.specs.declared.moments.TheConstants.{MAX_END, MAX_MOMENT}
 use Rattle.fed_record.specs.declared.progress.Beginning.{Beginning}
 use Rattle.fed_record.specs.declared.progress.Ending.{Ending}
 use Rattle.fed_json.specs.declared.flaws.Flaw.TheVariants.{Shape}
@@ -32,7 +32,7 @@ ends_later b = nat_lt b.1.moment b.1.end
 
 abbrev pub begun_of : Data → Data → Data → Data → Reading Begun
 begun_of stamp moment nodes end = mapped (λ p. (p.0, record { moment = p.1.0; nodes = p.1.1.0; end = p.1.1.1 }))
-    (both (stamp_of stamp) (both (natural_in 0 MAX_MOMENT moment) (both (natural_in 1 MAX_NODES nodes) (natural_in 0 1_000_010_000_000 end)))) >>= where_true ends_later
+    (both (stamp_of stamp) (both (natural_in 0 MAX_MOMENT moment) (both (natural_in 1 MAX_NODES nodes) (natural_in 0 MAX_END end)))) >>= where_true ends_later
 
 abbrev pub finished_of : Data → Data → Data → Reading Finished
 finished_of stamp moment status = mapped (λ p. (p.0, record { moment = p.1.0; status = p.1.1 }))
@@ -48,7 +48,7 @@ abbrev pub done_of : Data → Reading (Begun × Option Finished)
 done_of d = elements_of d >>= done_from
 
 abbrev pub IsBegun : Begun → Type 0
-IsBegun b = IsStamp b.0 × IsFrom 0 MAX_MOMENT b.1.moment × IsFrom 1 MAX_NODES b.1.nodes × IsFrom 0 1_000_010_000_000 b.1.end × (b.1.moment < b.1.end)
+IsBegun b = IsStamp b.0 × IsFrom 0 MAX_MOMENT b.1.moment × IsFrom 1 MAX_NODES b.1.nodes × IsFrom 0 MAX_END b.1.end × (b.1.moment < b.1.end)
 
 abbrev pub IsFinished : Finished → Type 0
 IsFinished f = IsStamp f.0 × IsFrom 0 MAX_MOMENT f.1.moment × IsFrom 0 255 f.1.status

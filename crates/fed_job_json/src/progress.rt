@@ -7,12 +7,9 @@ ghost use Rattle.fed_job_json.specs.Progress.{begun_of, finished_of, done_from, 
 
 use crate::stamps::read_stamp;
 use fed_json::{Flaw, both, elements, is_word, natural};
-use fed_record::{Beginning, Ending, MAX_MOMENT, Moment, Nodes, Progress};
+use fed_record::{Beginning, Ending, MAX_END, MAX_MOMENT, Moment, Nodes, Progress};
 use fed_stamp::{MAX_NODES, Stamp};
 use serde_json::Value;
-
-/// The latest end of a job: the last moment and the greatest limit.
-const MAX_END: u64 = 1_000_010_000_000;
 
 fn moment(value: &Value) -> Result<Moment, Flaw>
     ensures { result ≡ natural_in 0 MAX_MOMENT (view value.now) }

@@ -5,7 +5,7 @@ use Rattle.fed_stamp.specs.declared.rosters.TheConstants.{MAX_NODES}
 use Rattle.fed_lattice.specs.Sets.{Has}
 use Rattle.fed_lattice.specs.History.{History}
 use Rattle.fed_record.specs.declared.limits.TheConstants.{MAX_LIMIT}
-use Rattle.fed_record.specs.declared.moments.TheConstants.{MAX_MOMENT}
+use Rattle.fed_record.specs.declared.moments.TheConstants.{MAX_END, MAX_MOMENT}
 use Rattle.fed_record.specs.declared.progress.Beginning.{Beginning}
 use Rattle.fed_record.specs.declared.progress.Ending.{Ending}
 use Rattle.fed_record.specs.declared.terms.TheConstants.{MAX_TERM}
@@ -38,7 +38,7 @@ pub record AreChanges (changes : Changes) : Type 0 where
   pub account : IfSome changes.account IsAccount
 
 abbrev pub IsBeginning : Beginning → Type 0
-IsBeginning b = IsFrom 0 MAX_MOMENT b.moment × IsFrom 1 MAX_NODES b.nodes × IsFrom 0 1_000_010_000_000 b.end × (b.moment < b.end)
+IsBeginning b = IsFrom 0 MAX_MOMENT b.moment × IsFrom 1 MAX_NODES b.nodes × IsFrom 0 MAX_END b.end × (b.moment < b.end)
 
 abbrev pub IsEnding : Ending → Type 0
 IsEnding e = IsFrom 0 MAX_MOMENT e.moment × IsFrom 0 255 e.status

@@ -4,8 +4,8 @@ use Rattle.std.specs.Prelude.{◌==◌, if◌then◌else◌}
 use Rattle.std.specs.List.{list_any}
 use Rattle.std.proofs.lemmas.Bool.{cases_Bool}
 use Rattle.std.proofs.lemmas.Bool.Decides.{nat_tests}
-use Rattle.fed_stamp.specs.Stamp.{StampValue}
-use Rattle.fed_words.specs.Request.{is_same, once}
+use Rattle.fed_stamp.specs.Stamp.{StampValue, same_stamp}
+use Rattle.fed_words.specs.Request.{once}
 
 both : (a b : Bool) → (a && b) ≡ true → (a ≡ true) × (b ≡ true)
 both true b e = (refl, e)
@@ -17,24 +17,24 @@ eq_from m n e = grind (arith, nat_tests)
 eq_itself : (n : ℕ) → (n == n) ≡ true
 eq_itself n = grind (arith, nat_tests)
 
-pub same_from : (a b : StampValue) → is_same a b ≡ true → a ≡ b
+pub same_from : (a b : StampValue) → same_stamp a b ≡ true → a ≡ b
 same_from a b e =
     let parts = both (a.counter == b.counter) (a.site == b.site) e in
     let counters : a.counter ≡ b.counter = eq_from a.counter b.counter parts.0 in
     let sites : a.site ≡ b.site = eq_from a.site b.site parts.1 in
     λ i. record { counter = counters i; site = sites i }
 
-same_itself : (a : StampValue) → is_same a a ≡ true
+same_itself : (a : StampValue) → same_stamp a a ≡ true
 same_itself a = rw (eq_itself a.counter, eq_itself a.site) refl
 
 -- what passes is not filtered away where it differs from x
-any_filter : (x job : StampValue) (ys : List StampValue) → is_same x job ≡ false → list_any (is_same job) (filter (λ y. not (is_same x y)) ys) ≡ list_any (is_same job) ys
+any_filter : (x job : StampValue) (ys : List StampValue) → same_stamp x job ≡ false → list_any (same_stamp job) (filter (λ y. not (same_stamp x y)) ys) ≡ list_any (same_stamp job) ys
 any_filter x job [] e = refl
-any_filter x job (y ∷ ys) e = elim (cases_Bool (is_same x y)) [
+any_filter x job (y ∷ ys) e = elim (cases_Bool (same_stamp x y)) [
   | inl same ↦
       let at : x ≡ y = same_from x y same in
-      let differs : is_same job y ≡ false = elim (cases_Bool (is_same job y)) [
-        | inl again ↦ absurd (let is : job ≡ y = same_from job y again in let bad : is_same x job ≡ true = rw (is, at) (same_itself y) in cc)
+      let differs : same_stamp job y ≡ false = elim (cases_Bool (same_stamp job y)) [
+        | inl again ↦ absurd (let is : job ≡ y = same_from job y again in let bad : same_stamp x job ≡ true = rw (is, at) (same_itself y) in cc)
         | inr other ↦ other
       ] in
       rw (same, differs) (any_filter x job ys e)
@@ -53,24 +53,24 @@ append-none [] = refl
 append-none (y ∷ ys) = ap (λ zs. y ∷ zs) (append-none ys)
 
 -- of one more
-pub once-push : (jobs : List StampValue) (job : StampValue) → once (jobs ++ job ∷ []) ≡ (if list_any (is_same job) (once jobs) then once jobs else once jobs ++ job ∷ [])
+pub once-push : (jobs : List StampValue) (job : StampValue) → once (jobs ++ job ∷ []) ≡ (if list_any (same_stamp job) (once jobs) then once jobs else once jobs ++ job ∷ [])
 once-push [] job = refl
-once-push (x ∷ jobs) job = elim (cases_Bool (is_same x job)) [
+once-push (x ∷ jobs) job = elim (cases_Bool (same_stamp x job)) [
   | inl same ↦
       let at : x ≡ job = same_from x job same in
-      let back : is_same job x ≡ true = rw at (same_itself job) in
-      elim (cases_Bool (list_any (is_same job) (once jobs))) [
+      let back : same_stamp job x ≡ true = rw at (same_itself job) in
+      elim (cases_Bool (list_any (same_stamp job) (once jobs))) [
         | inl known ↦ rw (once-push jobs job, known, back) refl
-        | inr new ↦ rw (once-push jobs job, new, back, filter-push (λ y. not (is_same x y)) (once jobs) job, same, append-none (filter (λ y. not (is_same x y)) (once jobs))) refl
+        | inr new ↦ rw (once-push jobs job, new, back, filter-push (λ y. not (same_stamp x y)) (once jobs) job, same, append-none (filter (λ y. not (same_stamp x y)) (once jobs))) refl
       ]
   | inr differs ↦
-      let back : is_same job x ≡ false = elim (cases_Bool (is_same job x)) [
-        | inl again ↦ absurd (let is : job ≡ x = same_from job x again in let bad : is_same x job ≡ true = rw is (same_itself x) in cc)
+      let back : same_stamp job x ≡ false = elim (cases_Bool (same_stamp job x)) [
+        | inl again ↦ absurd (let is : job ≡ x = same_from job x again in let bad : same_stamp x job ≡ true = rw is (same_itself x) in cc)
         | inr other ↦ other
       ] in
-      elim (cases_Bool (list_any (is_same job) (once jobs))) [
+      elim (cases_Bool (list_any (same_stamp job) (once jobs))) [
         | inl known ↦ rw (once-push jobs job, known, back, any_filter x job (once jobs) differs, known) refl
-        | inr new ↦ rw (once-push jobs job, new, back, any_filter x job (once jobs) differs, new, filter-push (λ y. not (is_same x y)) (once jobs) job, differs) refl
+        | inr new ↦ rw (once-push jobs job, new, back, any_filter x job (once jobs) differs, new, filter-push (λ y. not (same_stamp x y)) (once jobs) job, differs) refl
       ]
 ]
 
@@ -82,7 +82,7 @@ pub keys-push : (jobs : List StampValue) (job : StampValue) → map key (jobs ++
 keys-push [] job = refl
 keys-push (x ∷ jobs) job = ap (λ ks. key x ∷ ks) (keys-push jobs job)
 
-any_key : (job : StampValue) (jobs : List StampValue) → list_any (λ y. (job.counter == y.0) && (job.site == y.1)) (map key jobs) ≡ list_any (is_same job) jobs
+any_key : (job : StampValue) (jobs : List StampValue) → list_any (λ y. (job.counter == y.0) && (job.site == y.1)) (map key jobs) ≡ list_any (same_stamp job) jobs
 any_key job [] = refl
 any_key job (x ∷ jobs) = rw (any_key job jobs) refl
 
@@ -93,16 +93,16 @@ chosen_keys false job jobs = sym (keys-push jobs job)
 -- a set of the jobs, as pairs, gets one more
 pub keys-once : (job : StampValue) (done : List StampValue) (a b : ℕ) (keys keys' : List (ℕ × ℕ)) → a ≡ job.counter → b ≡ job.site → keys ≡ map key (once done) → keys' ≡ (if list_any (λ y. (a == y.0) && (b == y.1)) keys then keys else keys ++ (a, b) ∷ []) → keys' ≡ map key (once (done ++ job ∷ []))
 keys-once job done a b keys keys' counter site held put =
-    put ∙ rw (counter, site, held, any_key job (once done)) (chosen_keys (list_any (is_same job) (once done)) job (once done) ∙ ap (map key) (sym (once-push done job)))
+    put ∙ rw (counter, site, held, any_key job (once done)) (chosen_keys (list_any (same_stamp job) (once done)) job (once done) ∙ ap (map key) (sym (once-push done job)))
 
 -- whether it is new
-pub is_known : (job : StampValue) (done : List StampValue) (a b : ℕ) (keys : List (ℕ × ℕ)) → a ≡ job.counter → b ≡ job.site → keys ≡ map key (once done) → list_any (λ y. (a == y.0) && (b == y.1)) keys ≡ list_any (is_same job) (once done)
+pub is_known : (job : StampValue) (done : List StampValue) (a b : ℕ) (keys : List (ℕ × ℕ)) → a ≡ job.counter → b ≡ job.site → keys ≡ map key (once done) → list_any (λ y. (a == y.0) && (b == y.1)) keys ≡ list_any (same_stamp job) (once done)
 is_known job done a b keys counter site held = rw (counter, site, held) (any_key job (once done))
 
-pub once-new : (job : StampValue) (done : List StampValue) → list_any (is_same job) (once done) ≡ false → once done ++ job ∷ [] ≡ once (done ++ job ∷ [])
+pub once-new : (job : StampValue) (done : List StampValue) → list_any (same_stamp job) (once done) ≡ false → once done ++ job ∷ [] ≡ once (done ++ job ∷ [])
 once-new job done new = sym (once-push done job ∙ rw new refl)
 
-pub once-known : (job : StampValue) (done : List StampValue) → list_any (is_same job) (once done) ≡ true → once done ≡ once (done ++ job ∷ [])
+pub once-known : (job : StampValue) (done : List StampValue) → list_any (same_stamp job) (once done) ≡ true → once done ≡ once (done ++ job ∷ [])
 once-known job done known = sym (once-push done job ∙ rw known refl)
 
 pub not_true : (b : Bool) → not b ≡ true → b ≡ false

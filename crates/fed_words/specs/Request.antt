@@ -1,9 +1,9 @@
 -- What words ask.
-use Rattle.std.specs.Prelude.{ℕ, pos, Bool, true, false, not, ◌&&◌, ◌==◌, List, [], ◌∷◌, length, map, filter, codes, None, unwrap_or, Ok, Err}
+use Rattle.std.specs.Prelude.{ℕ, pos, Bool, true, false, not, List, [], ◌∷◌, length, map, filter, codes, None, unwrap_or, Ok, Err}
 use Rattle.std.specs.List.{range_with_len}
 use Rattle.std.specs.Option.{ok_or}
 use Rattle.fed_stamp.specs.SiteSet.{set_of}
-use Rattle.fed_stamp.specs.Stamp.{StampValue}
+use Rattle.fed_stamp.specs.Stamp.{StampValue, same_stamp}
 use Rattle.fed_record.specs.declared.commands.Command.{Command}
 use Rattle.fed_record.specs.declared.commands.Command.TheVariants.{Submit, Alter, Hold, Release, Delete}
 use Rattle.fed_record.specs.declared.holds.HoldKinds.{HoldKinds}
@@ -68,13 +68,10 @@ request_of roster Qrls s jobs = acts (map (λ job. Release job (kinds_given s)) 
 request_of roster Qdel s jobs = acts (map Delete jobs)
 request_of roster Qstat s jobs = list s.full jobs
 
-abbrev pub is_same : StampValue → StampValue → Bool
-is_same a b = (a.counter == b.counter) && (a.site == b.site)
-
 -- each job once, at its first place
 abbrev pub once : List StampValue → List StampValue
 once [] = []
-once (job ∷ jobs) = job ∷ filter (λ other. not (is_same job other)) (once jobs)
+once (job ∷ jobs) = job ∷ filter (λ other. not (same_stamp job other)) (once jobs)
 
 abbrev pub named_jobs : List (List ℕ × ℕ) → ℕ → List (List ℕ) → Answer (List StampValue)
 named_jobs roster here operands = answer_map once (each (job_in roster here) operands)
