@@ -1,4 +1,4 @@
-use Rattle.std.proofs.Common.{sym, ◌∙◌}
+use Rattle.std.proofs.Common.{◌∙◌}
 use Rattle.fed_tags.proofs.GroupLaws.{has_element}
 use Rattle.fed_tags.proofs.Places.{is_found}
 use Rattle.fed_tags.proofs.sets.TagSet.has.Goals as goal

@@ -1,4 +1,4 @@
-use Rattle.std.proofs.Common.{◌≡◌, ap, ◌∙◌, rules, arith}
+use Rattle.std.proofs.Common.{arith}
 use Rattle.std.proofs.lemmas.Bool.Decides.{nat_tests}
 use Rattle.fed_tags.proofs.GroupLaws.{empty_pairs}
 use Rattle.fed_tags.proofs.sets.TagSet.is_empty.Goals as goal

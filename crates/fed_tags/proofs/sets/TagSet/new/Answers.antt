@@ -1,6 +1,5 @@
-use Rattle.std.proofs.Common.{sym, subst, List, [], arith}
+use Rattle.std.proofs.Common.{sym, subst, arith}
 use Rattle.std.specs.List.Sorted.{IsStrictlySortedBy}
-use Rattle.fed_stamp.specs.Stamp.{StampValue}
 use Rattle.fed_lattice.specs.Table.{IsTable}
 use Rattle.fed_tags.specs.Groups.{IsGroup}
 use Rattle.fed_tags.proofs.sets.TagSet.new.Goals as goal
