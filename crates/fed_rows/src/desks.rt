@@ -2,7 +2,7 @@
 use crate::boards::{after, granted, handed_back, stamp, submitted};
 use fed_board::Board;
 use fed_desk::{Decision, decide};
-use fed_record::{Beginning, Ending, HoldKinds, Moment, Nodes, Operation, Refusal};
+use fed_record::{Beginning, Ending, HoldKinds, Moment, Nodes, Operation};
 use fed_stamp::{SiteId, Stamp};
 use std::test::Fail;
 
@@ -10,17 +10,35 @@ fn site(number: u8) -> Result<SiteId, Fail> {
     Ok(SiteId::new(number).ok_or("site")?)
 }
 
-/// The decision of argonne, site 0, on its first job where this site asks.
-fn decided(board: &Board, asker: u8) -> Result<Decision, Fail> {
-    Ok(decide(board, site(0)?, stamp(1, 0)?, site(asker)?))
+/// Whether argonne, site 0, grants its first job where this site asks.
+fn is_granted(board: &Board, asker: u8) -> Result<bool, Fail> {
+    let me = site(0)?;
+    let job = stamp(1, 0)?;
+    let asker = site(asker)?;
+    Ok(is_grant(decide(board, me, job, asker)))
+}
+
+fn is_grant(decision: Decision) -> bool {
+    match decision {
+        Decision::Grant => true,
+        Decision::Yours | Decision::Refused(_) => false,
+    }
 }
 
 /// The number of the refusal, or 0 where nothing is refused.
-fn refusal(decision: Decision) -> u8 {
+fn number(decision: Decision) -> u8 {
     match decision {
         Decision::Refused(refusal) => refusal.number(),
         Decision::Grant | Decision::Yours => 0,
     }
+}
+
+/// The number of the refusal of argonne's first job to this site, or 0 where nothing is refused.
+fn refusal(board: &Board, asker: u8) -> Result<u8, Fail> {
+    let me = site(0)?;
+    let job = stamp(1, 0)?;
+    let asker = site(asker)?;
+    Ok(number(decide(board, me, job, asker)))
 }
 
 /// The board with a Begin of the job at site 1, and then a Finish.
@@ -42,14 +60,10 @@ fn finished(board: &Board, job: Stamp) -> Result<Board, Fail> {
 fn jobs_are_granted_to_one_site(rt: HostRuntime) -> Result<(), Fail> {
     let job = stamp(1, 0)?;
     let board = submitted(rt.alloc(), job, false)?;
-    assert_eq!(rt; decided(&board, 0)?, Decision::Grant);
-    assert_eq!(rt; decided(&board, 1)?, Decision::Grant);
+    assert!(rt; is_granted(&board, 0)? && is_granted(&board, 1)?);
     let board = granted(rt.alloc(), job, site(1)?)?;
-    assert_eq!(rt;
-        decided(&board, 0)?,
-        Decision::Refused(Refusal::TakenBy(site(1)?))
-    );
-    assert_eq!(rt; decided(&board, 1)?, Decision::Yours);
+    assert_eq!(rt; refusal(&board, 0)?, 8);
+    assert!(rt; refusal(&board, 1)? == 0 && !is_granted(&board, 1)?);
     Ok(())
 }
 
@@ -58,11 +72,9 @@ fn other_sites_decide_nothing(rt: HostRuntime) -> Result<(), Fail> {
     let job = stamp(1, 0)?;
     let board = granted(rt.alloc(), job, site(1)?)?;
     let decision = decide(&board, site(1)?, job, site(1)?);
-    assert_eq!(rt; refusal(decision), 5);
-    assert_eq!(rt;
-        refusal(decide(&board, site(0)?, stamp(2, 0)?, site(1)?)),
-        1
-    );
+    assert_eq!(rt; number(decision), 5);
+    let decision = decide(&board, site(0)?, stamp(2, 0)?, site(1)?);
+    assert_eq!(rt; number(decision), 1);
     Ok(())
 }
 
@@ -71,14 +83,14 @@ fn held_and_foreign_jobs_are_refused(rt: HostRuntime) -> Result<(), Fail> {
     let job = stamp(1, 0)?;
     let kinds = HoldKinds::USER;
     let board = submitted(rt.alloc(), job, true)?;
-    assert_eq!(rt; refusal(decided(&board, 1)?), 6);
-    assert_eq!(rt; refusal(decided(&board, 2)?), 6);
+    assert_eq!(rt; refusal(&board, 1)?, 6);
+    assert_eq!(rt; refusal(&board, 2)?, 6);
     let board = submitted(rt.alloc(), job, false)?;
-    assert_eq!(rt; refusal(decided(&board, 2)?), 7);
+    assert_eq!(rt; refusal(&board, 2)?, 7);
     let board = granted(rt.alloc(), job, site(1)?)?;
     let held = after(&board, stamp(3, 1)?, &Operation::Hold { job, kinds })?;
-    assert_eq!(rt; decided(&held, 1)?, Decision::Yours);
-    assert_eq!(rt; refusal(decided(&held, 2)?), 8);
+    assert!(rt; refusal(&held, 1)? == 0 && !is_granted(&held, 1)?);
+    assert_eq!(rt; refusal(&held, 2)?, 8);
     Ok(())
 }
 
@@ -86,8 +98,7 @@ fn held_and_foreign_jobs_are_refused(rt: HostRuntime) -> Result<(), Fail> {
 fn jobs_handed_back_are_granted_anew(rt: HostRuntime) -> Result<(), Fail> {
     let job = stamp(1, 0)?;
     let (both, _b) = handed_back(rt.alloc(), job, stamp(3, 1)?)?;
-    assert_eq!(rt; decided(&both, 0)?, Decision::Grant);
-    assert_eq!(rt; decided(&both, 1)?, Decision::Grant);
+    assert!(rt; is_granted(&both, 0)? && is_granted(&both, 1)?);
     Ok(())
 }
 
@@ -95,12 +106,12 @@ fn jobs_handed_back_are_granted_anew(rt: HostRuntime) -> Result<(), Fail> {
 fn finished_jobs_are_gone(rt: HostRuntime) -> Result<(), Fail> {
     let job = stamp(1, 0)?;
     let board = finished(&granted(rt.alloc(), job, site(1)?)?, job)?;
-    assert_eq!(rt; refusal(decided(&board, 1)?), 3);
+    assert_eq!(rt; refusal(&board, 1)?, 3);
     let board = after(
         &submitted(rt.alloc(), job, true)?,
         stamp(2, 0)?,
         &Operation::Delete { job },
     )?;
-    assert_eq!(rt; refusal(decided(&board, 2)?), 3);
+    assert_eq!(rt; refusal(&board, 2)?, 3);
     Ok(())
 }
