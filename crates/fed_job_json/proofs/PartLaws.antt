@@ -78,7 +78,7 @@ all_parts i f h s t v = mapped (λ q. job_from (record { id = q.0; fields = q.1.
 
 with_parts : (i : Reading StampValue) (f : Reading FieldParts) (h : Reading Holds) (s : Reading Sites) (t : Reading StageParts) (v : Reading (List ℕ))
     → all_parts i f h s t v ≡ mapped (λ p. (p.0, record { fields = p.1.0; holds = p.1.1.0.0; sites = p.1.1.0.1; stages = p.1.1.1.0; touched = p.1.1.1.1 }))
-        (both i (both (mapped fields_value f) (both (both (mapped (λ v. v.items) h) (mapped (λ v. v.items) s)) (both (mapped stages_value t) v))))
+    (both i (both (mapped fields_value f) (both (both (mapped (λ v. v.items) h) (mapped (λ v. v.items) s)) (both (mapped stages_value t) v))))
 with_parts i f h s t v = simp (both-mapped, left_mapped, right_mapped, mapped-mapped)
 
 pub parts_read : (format : Format) (d : Data) (i : Reading StampValue) (f : Reading FieldParts) (h : Reading Holds) (s : Reading Sites) (t : Reading StageParts) (v : Reading (List ℕ))

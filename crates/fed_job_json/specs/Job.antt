@@ -101,13 +101,13 @@ numbers_of d = both (member_of (codes "nodes") (field_of nodes_of) d) (member_of
 
 unfoldable pub fields_of : Format → Data → Reading FieldsValue
 fields_of format d = mapped (λ p. record {
-      owner = p.0.0;
-      name = p.0.1;
-      priority = p.1.0;
-      nodes = p.1.1.0.0;
-      limit = p.1.1.0.1;
-      account = p.1.1.1;
-    })
+  owner = p.0.0;
+  name = p.0.1;
+  priority = p.1.0;
+  nodes = p.1.1.0.0;
+  limit = p.1.1.0.1;
+  account = p.1.1.1;
+})
     (both (names_of d) (both (member_of (codes "priority") (field_of priority_of) d) (both (numbers_of d) (account_of format d))))
 
 unfoldable pub pairs_of : Data → Reading (List (HoldKind × StampValue) × List (ℕ × StampValue))
@@ -115,11 +115,11 @@ pairs_of d = both (member_of (codes "holds") holds_of d) (member_of (codes "site
 
 unfoldable pub stages_of : Format → Data → Reading StagesValue
 stages_of format d = mapped (λ p. record {
-      deleted = p.0;
-      grant = p.1.0;
-      begun = p.1.1.0;
-      finished = p.1.1.1;
-    })
+  deleted = p.0;
+  grant = p.1.0;
+  begun = p.1.1.0;
+  finished = p.1.1.1;
+})
     (both (member_of (codes "deleted") truth_of d) (both (member_of (codes "grant") (grant_of format) d) (member_of (codes "progress") progress_of d)))
 
 abbrev pub job_names : Format → List (List ℕ)
@@ -127,13 +127,16 @@ job_names One = codes "deleted" ∷ codes "grant" ∷ codes "holds" ∷ codes "i
 job_names Two = codes "account" ∷ codes "deleted" ∷ codes "grant" ∷ codes "holds" ∷ codes "id" ∷ codes "limit" ∷ codes "name" ∷ codes "nodes" ∷ codes "owner" ∷ codes "priority" ∷ codes "progress" ∷ codes "sites" ∷ codes "touched" ∷ []
 
 unfoldable pub parts_of : Format → Data → Reading Job
-parts_of format d = mapped (λ p. (p.0, record {
-      fields = p.1.0;
-      holds = p.1.1.0.0;
-      sites = p.1.1.0.1;
-      stages = p.1.1.1.0;
-      touched = p.1.1.1.1;
-    }))
+parts_of format d = mapped (λ p. (
+  p.0,
+  record {
+    fields = p.1.0;
+    holds = p.1.1.0.0;
+    sites = p.1.1.0.1;
+    stages = p.1.1.1.0;
+    touched = p.1.1.1.1;
+  },
+))
     (both (member_of (codes "id") stamp_of d) (both (fields_of format d) (both (pairs_of d) (both (stages_of format d) (member_of (codes "touched") version_of d)))))
 
 unfoldable pub job_of : Format → Data → Reading Job

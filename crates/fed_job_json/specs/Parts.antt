@@ -25,10 +25,13 @@ stages_value s = record {
 }
 
 abbrev pub job_from : ReadJob → Job
-job_from j = (j.id, record {
-  fields = fields_value j.fields;
-  holds = j.holds.items;
-  sites = j.sites.items;
-  stages = stages_value j.stages;
-  touched = j.touched;
-})
+job_from j = (
+  j.id,
+  record {
+    fields = fields_value j.fields;
+    holds = j.holds.items;
+    sites = j.sites.items;
+    stages = stages_value j.stages;
+    touched = j.touched;
+  },
+)

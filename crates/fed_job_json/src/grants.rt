@@ -20,8 +20,7 @@ fn term(value: &Value) -> Result<Term, Flaw>
 fn open(term_value: &Value, stamp: &Value, site: &Value) -> Result<GrantStage, Flaw>
     ensures { result ≡ open_of (view term_value.now) (view stamp.now) (view site.now) }
 {
-    let (term, (stamp, site)) =
-        both(term(term_value), both(read_stamp(stamp), read_site(site)))?;
+    let (term, (stamp, site)) = both(term(term_value), both(read_stamp(stamp), read_site(site)))?;
     Ok(GrantStage::Open { term, stamp, site })
 }
 

@@ -49,8 +49,10 @@ fn begun(
 fn finished(stamp: &Value, at: &Value, status_value: &Value) -> Result<(Stamp, Ending), Flaw>
     ensures { result ≡ finished_of (view stamp.now) (view at.now) (view status_value.now) }
 {
-    let (stamp, (moment, status)) =
-        both(read_stamp(stamp), both(moment(at), status(status_value)))?;
+    let (stamp, (moment, status)) = both(
+        read_stamp(stamp),
+        both(moment(at), status(status_value)),
+    )?;
     Ok((stamp, Ending { moment, status }))
 }
 

@@ -12,12 +12,10 @@ ghost use Rattle.fed_job_json.specs.Job.{job_names, parts_of, job_of};
 ghost use Rattle.fed_job_json.specs.Parts.{job_from};
 
 use crate::covers::is_covered;
-use fed_job_json::fields::fields;
-use fed_job_json::Format;
-use fed_job_json::pairs::{hold_member, site_member};
-use fed_job_json::ReadJob;
 use crate::stages::stages;
-use fed_job_json::{read_stamp, read_version};
+use fed_job_json::fields::fields;
+use fed_job_json::pairs::{hold_member, site_member};
+use fed_job_json::{Format, ReadJob, read_stamp, read_version};
 use fed_json::{Flaw, both, has_names, member};
 use fed_lattice::NoMemory;
 use fed_record::{JobParts, JobRecord};

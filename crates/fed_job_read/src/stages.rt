@@ -9,10 +9,9 @@ ghost use Rattle.fed_job_json.specs.Progress.{progress_of};
 ghost use Rattle.fed_job_json.specs.Job.{stages_of};
 ghost use Rattle.fed_job_json.specs.Parts.{stages_value};
 
-use fed_job_json::Format;
 use fed_job_json::grants::grant;
-use fed_job_json::StageParts;
 use fed_job_json::progress::progress;
+use fed_job_json::{Format, StageParts};
 use fed_json::{Flaw, both, member, truth};
 use fed_record::{GrantStage, Progress};
 use serde_json::Value;

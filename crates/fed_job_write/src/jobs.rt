@@ -26,6 +26,11 @@ pub fn write_job(alloc: Global, id: JobId, record: &JobRecord) -> Result<Value, 
     put_numbers(&mut members, alloc, record)?;
     put_pairs(&mut members, alloc, record)?;
     put_stages(&mut members, alloc, record)?;
-    put(&mut members, alloc, "touched", write_version(alloc, &record.touched())?)?;
+    put(
+        &mut members,
+        alloc,
+        "touched",
+        write_version(alloc, &record.touched())?,
+    )?;
     Ok(Value::Object(members))
 }

@@ -5,9 +5,7 @@ ghost use Rattle.fed_record.specs.JobRecord.{reads};
 ghost use Rattle.fed_record.specs.Letter.{is_submitted};
 ghost use Rattle.fed_job_write.specs.Members.{with_names, with_numbers, with_pairs, with_stages};
 
-use crate::values::{
-    account, grant, holds, limit, name, nodes, priority, progress, sites,
-};
+use crate::values::{account, grant, holds, limit, name, nodes, priority, progress, sites};
 use fed_record::JobRecord;
 use serde_json::{Map, Value, put};
 use std::alloc::{AllocError, Global};
@@ -38,7 +36,12 @@ pub(crate) fn put_numbers(
 {
     put(members, alloc, "limit", limit(alloc, record.limit())?)?;
     put(members, alloc, "nodes", nodes(alloc, record.nodes())?)?;
-    put(members, alloc, "priority", priority(alloc, record.priority())?)?;
+    put(
+        members,
+        alloc,
+        "priority",
+        priority(alloc, record.priority())?,
+    )?;
     Ok(())
 }
 
@@ -65,6 +68,11 @@ pub(crate) fn put_stages(
 {
     put(members, alloc, "deleted", Value::from(record.deleted()))?;
     put(members, alloc, "grant", grant(alloc, record.grant())?)?;
-    put(members, alloc, "progress", progress(alloc, record.progress())?)?;
+    put(
+        members,
+        alloc,
+        "progress",
+        progress(alloc, record.progress())?,
+    )?;
     Ok(())
 }

@@ -168,7 +168,6 @@ module _ {A : Type 0} (f : Data → Reading A) (v : A → Data) (P : A → Type 
         rw (list_of-items_of (map v xs), many) (all_again F xs h.1);
   }
 
-
 -- ---- null or a form
 
 is_null : (d : Data) → is_some (as_null d) ≡ true → d ≡ null

@@ -234,9 +234,7 @@ impl Federation {
             Request::Prioritize { priority, job } => {
                 self.prioritize(alloc, site, user, priority, job)
             }
-            Request::ListAll => {
-                Ok(list(alloc, self.roster(), self.board(site))?)
-            }
+            Request::ListAll => { Ok(list(alloc, self.roster(), self.board(site))?) }
             Request::ListOne { job } => Ok(self.list_one(alloc, site, job)?),
             Request::Misused => Ok(String::from_str(alloc, "usage 1\n")?),
         }

@@ -96,11 +96,11 @@ module _ (ops : History Body) (lawful : IsLawful ops) (within : IsWithinLimits o
       let v = r.touched in
       let k = known.stamps in
       let first = and_from _ _ name_covered
-          (and_from _ _ (and_from _ _ (and_from _ _ (and_from _ _ (and_from _ _ (field_covered _ v r.fields.owner k.owner) (field_covered _ v r.fields.name k.name)) (field_covered _ v r.fields.priority k.priority))
-          (field_covered _ v r.fields.nodes k.nodes)) (field_covered _ v r.fields.limit k.limit)) (field_covered _ v r.fields.account k.account)) in
+      (and_from _ _ (and_from _ _ (and_from _ _ (and_from _ _ (and_from _ _ (field_covered _ v r.fields.owner k.owner) (field_covered _ v r.fields.name k.name)) (field_covered _ v r.fields.priority k.priority))
+      (field_covered _ v r.fields.nodes k.nodes)) (field_covered _ v r.fields.limit k.limit)) (field_covered _ v r.fields.account k.account)) in
       let pairs = and_from _ _
-          (pairs_covered v r.holds (λ p h. k.holds p.0 p.1 (has_member (pair_cmp kind_cmp) (pair_total kind_cmp kind_total) (exact_pair kind_cmp exact_kind) p r.holds h)))
-          (pairs_covered v r.sites (λ p h. k.sites p.0 p.1 (has_member (pair_cmp nat_cmp) (pair_total nat_cmp nat_cmp_total) (exact_pair nat_cmp exact_unsigned) p r.sites h))) in
+      (pairs_covered v r.holds (λ p h. k.holds p.0 p.1 (has_member (pair_cmp kind_cmp) (pair_total kind_cmp kind_total) (exact_pair kind_cmp exact_kind) p r.holds h)))
+      (pairs_covered v r.sites (λ p h. k.sites p.0 p.1 (has_member (pair_cmp nat_cmp) (pair_total nat_cmp nat_cmp_total) (exact_pair nat_cmp exact_unsigned) p r.sites h))) in
       let stages = and_from _ _ (and_from _ _ (field_covered _ v r.stages.grant k.grant) (field_covered _ v r.stages.begun k.begun)) (field_covered _ v r.stages.finished k.finished) in
       and_from _ _ (and_from _ _ first pairs) stages
 

@@ -33,12 +33,12 @@ loop-site-preserved c =
     let f = natural_in 0 MAX_COUNTER in
     let here : c.loop-site.site < length c.loop-site.counters = omega arith in
     elim c.match-natural.branch [
-      in-Ok w ↦ record {
+      | in-Ok w ↦ record {
         sites = rw w.counters-is (length-set _ _ _ ∙ c.loop-site.invariant.sites);
         read = kept c.loop-site.counters c.match-natural.counters c.loop-site.site w.in-Ok.counter c.loop-site.in_range c.match-natural.in_range _ _ here w.counters-is w.in_range-is
             (sym (step_good f c.args.values.now c.loop-site.site c.index-values-site.result c.loop-site.in_range (take c.loop-site.site c.loop-site.counters) w.in-Ok.counter c.loop-site-test.true c.index-values-site.is (cc w.in-Ok.is)) ∙ c.loop-site.invariant.read);
       }
-    | in-Err-Range w ↦ record {
+      | in-Err-Range w ↦ record {
         sites = rw w.counters-is c.loop-site.invariant.sites;
         read = rw w.in_range-is (sym (step_range f c.args.values.now c.loop-site.site c.index-values-site.result c.loop-site.in_range (take c.loop-site.site c.loop-site.counters) (take (c.loop-site.site + 1) c.match-natural.counters) c.loop-site-test.true c.index-values-site.is (cc w.in-Err-Range.is)) ∙ c.loop-site.invariant.read);
       }
