@@ -150,7 +150,7 @@ fn limit_member(job: &Value) -> Result<(Stamp, Limit), Flaw>
     limit_field(member(job, "limit")?)
 }
 
-// The fields, each beside its stamp.
+/// The fields, each beside its stamp; the first flaw where a member is missing or has another form.
 pub fn fields(job: &Value, format: Format) -> Result<FieldParts, Flaw>
     ensures { mapped fields_value result ≡ fields_of format (view job.now) }
 {

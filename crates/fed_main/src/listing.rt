@@ -18,12 +18,19 @@ const IDENTIFIER_BYTES: usize = 26;
 /// What a short listing shows of a job.
 #[derive(Clone, Copy, Drop)]
 pub struct ShownJob {
+    /// Its identifier.
     pub id: JobId,
+    /// Its name.
     pub name: Word,
+    /// Who submitted it.
     pub owner: Word,
+    /// The letter of its state.
     pub letter: char,
+    /// Its priority.
     pub priority: Priority,
+    /// The nodes that it asks for.
     pub nodes: Nodes,
+    /// Its limit of wall time, in seconds.
     pub limit: Limit,
     /// The site that the job is granted to.
     pub granted: Option<SiteId>,

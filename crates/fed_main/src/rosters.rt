@@ -24,6 +24,7 @@ impl Model for HeldRoster {
 }
 
 impl HeldRoster {
+    /// The roster in a box of its own; an error where no room is left for it.
     pub fn new(alloc: Global, roster: Roster) -> Result<HeldRoster, AllocError>
         ensures { IfOk result (λ held. held ≡ roster) }
     {
@@ -32,6 +33,7 @@ impl HeldRoster {
         })
     }
 
+    /// The roster.
     pub fn get(&self) -> &Roster
         ensures { result.now ≡ self.now }
     {

@@ -32,10 +32,12 @@ pub enum Line {
 /// A script's state: no federation before the line that names its sites.
 #[derive(Drop)]
 pub struct Session {
+    /// The replicas of the sites.
     pub federation: Option<Federation>,
 }
 
 impl Session {
+    /// No federation as yet.
     pub fn new() -> Session
         ensures { result.federation ≡ None }
     {

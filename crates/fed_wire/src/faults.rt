@@ -10,18 +10,26 @@ use thiserror::Error;
 /// A part of a packet.
 #[derive(Clone, Copy, Debug, PartialEq, Eq)]
 pub enum Part {
+    /// The packet as a whole.
     Whole,
+    /// The site that sent it.
     Sender,
+    /// The version that the receiver must have.
     Need,
+    /// The version that the receiver has afterwards.
     Reached,
+    /// The array of jobs.
     Jobs,
+    /// The array of reservations.
     Reservations,
 }
 
 /// Where in a packet a fault lies: in a part, at the site of a version or at the element of an array, from 0.
 #[derive(Clone, Copy, Debug, PartialEq, Eq)]
 pub struct Place {
+    /// The part that it lies in.
     pub part: Part,
+    /// The site of a version, the element of an array, or 0 where the part has neither.
     pub index: usize,
 }
 

@@ -11,7 +11,9 @@ pub const SITES: [&str; 3] = ["argonne", "lemont", "x-9"];
 /// What words ask.
 #[derive(Drop)]
 pub enum Asked {
+    /// These commands, in their order.
     Acts(Vec<Command>),
+    /// A listing, in full or not, of these jobs.
     List(bool, Vec<JobId>),
 }
 
