@@ -1,4 +1,5 @@
 -- What is read of a job, for callers too.
+pub mod AccountLaws
 pub mod CoveredLaws
 pub mod FieldLaws
 pub mod PairLaws

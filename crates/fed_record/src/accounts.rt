@@ -1,5 +1,5 @@
 //! The account of a job.
-ghost use Rattle.std.specs.Prelude.{◌≡◌};
+ghost use Rattle.std.specs.Prelude.{◌≡◌, Some};
 ghost use Rattle.fed_record.specs.Account.{account_of, text_of};
 
 use fed_stamp::Word;
@@ -36,9 +36,10 @@ impl Account {
         Some(Account { name: Some(name) })
     }
 
-    /// The text of the account.
+    /// The text of the account, which is read as the account again.
     pub fn as_str(&self) -> &str
-        ensures { result.now ≡ text_of self.now }
+        ensures text { result.now ≡ text_of self.now }
+        ensures again { account_of result.now ≡ Some self.now }
     {
         match &self.name {
             Some(name) => name.as_str(),

@@ -2,7 +2,7 @@
 use Rattle.std.proofs.Common.{◌≡◌, ℕ, zero, suc, ◌+◌, ◌<◌, ◌≤◌, Bool, true, false, Option, Some, None, is_some, refl, inl, inr, arith}
 use Rattle.std.proofs.lemmas.Bool.{cases_eq, cases_Bool, false≢true}
 use Rattle.std.specs.List.{find, range_with_len}
-use Rattle.fed_stamp.specs.Roster.{least_index}
+use Rattle.fed_stamp.specs.Indexes.{least_index}
 
 some_from_not_none : (o : Option ℕ) → (o ≡ None → ⊥) → is_some o ≡ true
 some_from_not_none None h = absurd (h refl)

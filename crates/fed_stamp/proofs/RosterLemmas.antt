@@ -8,7 +8,8 @@ use Rattle.std.proofs.lemmas.List.{length-replicate, length-set, get_or-set_same
 use Rattle.std.proofs.lemmas.Option.{get_or_from_slice_get, slice_get-get_or}
 use Rattle.std.proofs.lemmas.List.Elements.{filter_map-append}
 use Rattle.fed_stamp.proofs.LeastIndex.{least_index_none, none_below, none_from_not_some}
-use Rattle.fed_stamp.specs.Roster.{IsRoster, is_site_name, is_node_count, name_at, nodes_at, least_index, is_named, is_misnamed, is_repeated, has_wrong_nodes, first_fault, places, sites_in, sites_of}
+use Rattle.fed_stamp.specs.Indexes.{least_index}
+use Rattle.fed_stamp.specs.Roster.{IsRoster, is_site_name, is_node_count, name_at, nodes_at, is_named, is_misnamed, is_repeated, has_wrong_nodes, first_fault, places, sites_in, sites_of}
 use Rattle.fed_stamp.specs.Word.{is_name}
 use Rattle.fed_stamp.specs.declared.rosters.RosterFault.TheVariants.{Count, Name, Twice, Nodes}
 

@@ -3,8 +3,9 @@ use Rattle.std.specs.Prelude.{◌≢◌, ℕ, ◌-◌, ◌≤◌, Bool, not, ◌
 use Rattle.std.specs.Borrow.{Bor}
 use Rattle.std.specs.Char.{is_ascii_alphanumeric}
 use Rattle.std.specs.Cmp.Lexicographic.{pointwise}
-use Rattle.std.specs.List.{All, AllPairs, find, list_all, filter_map, range_with_len}
+use Rattle.std.specs.List.{All, AllPairs, list_all, filter_map}
 use Rattle.std.specs.Option.{option_map, option_or}
+use Rattle.fed_stamp.specs.Indexes.{least_index}
 use Rattle.fed_stamp.specs.Word.{is_name}
 use Rattle.fed_stamp.specs.declared.sites.TheConstants.{SITES}
 use Rattle.fed_stamp.specs.declared.rosters.TheConstants.{MAX_NODES}
@@ -37,10 +38,6 @@ name_at sites k = (slice_index_or sites k ([], 0)).0
 
 abbrev pub nodes_at : List (List ℕ × ℕ) → ℕ → ℕ
 nodes_at sites k = (slice_index_or sites k ([], 0)).1
-
--- the least index below n that passes
-abbrev pub least_index : (ℕ → Bool) → ℕ → Option ℕ
-least_index test n = find test (range_with_len 0 n)
 
 -- the site at an index has this name
 abbrev pub is_named : List (List ℕ × ℕ) → List ℕ → ℕ → Bool

@@ -1,7 +1,8 @@
 //! The roster of a federation: its sites, and how many nodes each has.
 ghost use Rattle.std.specs.Prelude.{◌≡◌, ◌<◌, ◌≤◌, ◌↔◌, length, slice_get, IsTrue, IsOk, IfSome};
 ghost use Rattle.std.specs.Option.{option_copied, option_map};
-ghost use Rattle.fed_stamp.specs.Roster.{IsRoster, is_site_name as has_form_of_site_name, is_node_count as may_be_node_count, is_misnamed, is_repeated, has_wrong_nodes, is_named, least_index, first_fault as fault_of, number_of, ok_unless, sites_of, places};
+ghost use Rattle.fed_stamp.specs.Indexes.{least_index};
+ghost use Rattle.fed_stamp.specs.Roster.{IsRoster, is_site_name as has_form_of_site_name, is_node_count as may_be_node_count, is_misnamed, is_repeated, has_wrong_nodes, is_named, first_fault as fault_of, number_of, ok_unless, sites_of, places};
 
 use crate::sites::{SITES, SiteId};
 use crate::words::Word;

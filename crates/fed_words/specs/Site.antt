@@ -1,7 +1,8 @@
 -- Names of sites.
 use Rattle.std.specs.Prelude.{ℕ, List, length, Option, Err, if◌then◌else◌}
 use Rattle.std.specs.Option.{ok_or}
-use Rattle.fed_stamp.specs.Roster.{is_named, is_site_name, least_index}
+use Rattle.fed_stamp.specs.Indexes.{least_index}
+use Rattle.fed_stamp.specs.Roster.{is_named, is_site_name}
 use Rattle.fed_words.specs.declared.faults.UsageFault.{UsageFault}
 use Rattle.fed_words.specs.declared.faults.UsageFault.TheVariants.{UnknownSite}
 use Rattle.fed_words.specs.Fault.{Answer}
