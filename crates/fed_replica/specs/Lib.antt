@@ -1,0 +1,8 @@
+-- What the contracts of this crate cite.
+pub mod Permission
+pub mod Origin
+pub mod Refusals
+pub mod Answer
+pub mod Packet
+pub mod Replica
+pub mod Ranges

@@ -1,0 +1,24 @@
+//! What is looked at of a job.
+ghost use Rattle.std.specs.Prelude.{◌≡◌, ◌&&◌, is_none};
+ghost use Rattle.fed_record.specs.JobRecord.{reads};
+ghost use Rattle.fed_record.specs.Letter.{is_held};
+ghost use Rattle.fed_replica.specs.Answer.{term_in};
+
+use fed_record::JobRecord;
+
+/// Whether a hold keeps the job from beginning.
+pub(crate) fn is_held_up(job: &JobRecord) -> bool
+    ensures { result ≡ (is_held (reads job.now) && is_none (reads job.now).begun) }
+{
+    job.is_held() && job.progress().begun.is_none()
+}
+
+/// The greatest term of the job's grants, or 0 where it has none.
+pub(crate) fn last_term(job: &JobRecord) -> u64
+    ensures { result ≡ term_in (reads job.now).grant }
+{
+    match job.grant() {
+        Some(stage) => stage.term().get(),
+        None => 0,
+    }
+}

@@ -1,0 +1,187 @@
+-- What the code of a world does is what happens in the run.
+use Rattle.std.specs.Prelude.{cond, nat_lt, replicate, Option, Some, None, Result, Ok, Err, MatchResult}
+use Rattle.std.proofs.Common.{◌≡◌, ◌≢◌, ℕ, ◌+◌, ◌<◌, ◌≤◌, ◌==◌, List, [], ◌∷◌, ◌++◌, length, get_or, set, refl, sym, ap, subst, ◌∙◌, inl, inr, arith}
+use Rattle.std.proofs.lemmas.Bool.{cases_Bool, cases_eq, cond-true, cond-false, eqb-true, lt-ltb, le-ltb}
+use Rattle.std.proofs.lemmas.List.{get_or-set_same, get_or-set_other, get_or_push, get_or_append_left, get_or-replicate, length-set, length_push, take_more}
+use Rattle.std.proofs.Math.ListN.{take}
+use Rattle.fed_stamp.specs.Stamp.{StampValue}
+use Rattle.fed_lattice.specs.History.{History}
+use Rattle.fed_lattice.specs.VersionOf.{version_of}
+use Rattle.fed_record.specs.declared.askers.Who.{Who}
+use Rattle.fed_record.specs.declared.commands.Command.{Command}
+use Rattle.fed_record.specs.declared.refusals.Refusal.{Refusal}
+use Rattle.fed_record.specs.declared.replies.Reply.{Reply}
+use Rattle.fed_record.specs.Body.{Body}
+use Rattle.fed_board.specs.Board.{reads}
+use Rattle.fed_board.specs.Lawful.{IsLawful}
+use Rattle.fed_board.specs.View.{view}
+use Rattle.fed_board.proofs.ViewLaws.{view_push}
+use Rattle.fed_replica.specs.Answer.{Answer, Answer.Refuses, Answer.Replies, answer, answer_to}
+use Rattle.fed_stamp.specs.Indexes.{put}
+use Rattle.fed_replica.specs.Replica.{ReplicaValue, IsDone, heard_from}
+use Rattle.fed_replica.proofs.Allowed.{answer_allowed}
+use Rattle.fed_replica.proofs.NextStamps.{next_uncovered}
+use Rattle.fed_world.specs.declared.events.Event.{Event}
+use Rattle.fed_world.specs.declared.events.Event.TheVariants.{Do}
+use Rattle.fed_world.specs.declared.outcomes.Outcome.{Outcome}
+use Rattle.fed_world.specs.Kept.{WorldValue, IsReplica, AreReplicas}
+use Rattle.fed_world.specs.Run.{World, Step, start, stays, does, step, run, outcomes, with_operation}
+use Rattle.fed_world.proofs.Cuts.{cut_lawful}
+use Rattle.fed_world.proofs.Runs.{outcomes-push, put_same, run_good}
+
+-- ---- tables of sites and lists of replicas
+pub put_other : {T : Type 0} (f : ℕ → T) (i : ℕ) (t : T) (j : ℕ) → j ≢ i → put f i t j ≡ f j
+put_other f i t j apart = elim (cases_Bool (j == i)) [
+  | inl e ↦ absurd (apart (eqb-true j i e))
+  | inr e ↦ cond-false (j == i) t (f j) e
+]
+
+-- one replica takes the place of another, where the other sites stay as they are
+pub replica_set : (n : ℕ) (w v : World) (rs : List ReplicaValue) (i : ℕ) (r : ReplicaValue) → i < n → AreReplicas n w rs
+    → ((j : ℕ) → j ≢ i → v.site j ≡ w.site j) → IsReplica i (v.site i) r → AreReplicas n v (set rs i r)
+replica_set n w v rs i r small old same new = record {
+  count = length-set rs i r ∙ old.count;
+  each = λ j d h. elim (cases_eq j i) [
+    | inl e ↦ (
+        let within : i < length rs = let c = old.count in omega arith in
+        subst (λ (k : ℕ). IsReplica k (v.site k) (get_or (set rs i r) k d)) (sym e) (subst (IsReplica i (v.site i)) (sym (get_or-set_same rs i r d within)) new))
+    | inr apart ↦ (
+        let kept : IsReplica j (v.site j) (get_or rs j d) = subst (λ s. IsReplica j s (get_or rs j d)) (sym (same j apart)) (old.each j d h) in
+        subst (IsReplica j (v.site j)) (sym (get_or-set_other rs i j r d apart)) kept)
+  ];
+}
+
+pub replicas_kept : (n : ℕ) (w v : World) (rs : List ReplicaValue) → ((j : ℕ) → v.site j ≡ w.site j) → AreReplicas n w rs → AreReplicas n v rs
+replicas_kept n w v rs same old = record {
+  count = old.count;
+  each = λ j d h. subst (λ s. IsReplica j s (get_or rs j d)) (sym (same j)) (old.each j d h);
+}
+
+-- ---- a command
+pub does_others : (w : World) (i : ℕ) (a : Answer) (j : ℕ) → j ≢ i → (does w i a).after.site j ≡ w.site j
+does_others w i (Refuses refusal) j apart = refl
+does_others w i (Replies reply None) j apart = refl
+does_others w i (Replies reply (Some new)) j apart = put_other w.site i (with_operation (w.site i) new) j apart
+
+-- where a replica does what an answer says, it is the replica of the site then
+module _ (w : World) (i : ℕ) (who : Who) (command : Command) (lawful : IsLawful (w.site i).set) (old new : ReplicaValue) (held : IsReplica i (w.site i) old)
+    (site : new.site ≡ old.site) (heard : new.heard ≡ old.heard) where
+  abbrev ops : History Body
+  ops = (w.site i).set
+
+  heard_still : (from : ℕ) → from < 16 → heard_from new from ≡ (w.site i).heard from
+  heard_still from h = ap (λ hs. get_or hs from (replicate 16 0)) heard ∙ held.heard from h
+
+  stood : reads new.board ≡ view ops → IsReplica i (w.site i) new
+  stood e = record { site = site ∙ held.site; board = e; heard = heard_still }
+
+  grown : (new_op : StampValue × Body) → reads new.board ≡ view (ops ++ new_op ∷ []) → IsReplica i (put w.site i (with_operation (w.site i) new_op) i) new
+  grown e p = subst (λ s. IsReplica i s new) (sym (put_same w.site i (with_operation (w.site i) e)))
+      (record { site = site ∙ held.site; board = p; heard = heard_still })
+
+  -- what is said, and the replica then
+  abbrev Went : Answer → Outcome → Type 0
+  Went a o = (o ≡ (does w i a).outcome) × IsReplica i ((does w i a).after.site i) new
+
+  abbrev Gone : Answer → Result Reply Refusal → Type 0
+  Gone a said = MatchResult said (λ reply. Went a (Outcome.Replied reply)) (λ refusal. (refusal ≡ Refusal.NoMemory → ⊥) → Went a (Outcome.Refused refusal))
+
+  went : (a : Answer) → answer ops i who command ≡ a → (said : Result Reply Refusal) → IsDone a (view ops) said (reads new.board) → Gone a said
+  went (Refuses refusal) is said d = subst (Gone (Refuses refusal)) (sym d.0) (λ _. (refl, stood d.1))
+  went (Replies reply None) is said d = subst (Gone (Replies reply None)) (sym d.0) (refl, stood d.1)
+  went (Replies reply (Some e)) is (Ok said) d =
+      let allowed = answer_allowed ops lawful i who command reply e is in
+      (ap (λ r. Outcome.Replied r) d.0, grown e (d.1 ∙ sym (view_push ops e lawful (next_uncovered (version_of ops) i e.0 allowed.0))))
+  went (Replies reply (Some e)) is (Err refusal) d = λ full. absurd (full d.0)
+
+  pub command_went : (said : Result Reply Refusal) → IsDone (answer_to (reads old.board) old.site who command) (reads old.board) said (reads new.board) → Gone (answer ops i who command) said
+  command_went said d =
+      went (answer ops i who command) refl said
+      (subst (λ v. IsDone (answer_to v i who command) v said (reads new.board)) held.board (subst (λ (k : ℕ). IsDone (answer_to (reads old.board) k who command) (reads old.board) said (reads new.board)) held.site d))
+
+-- ---- in the run
+pub site_lawful : (n : ℕ) (events : List Event) → n ≤ 16 → (i : ℕ) → IsLawful ((run n events).site i).set
+site_lawful n events few i = let g = run_good n events few in cut_lawful g.0 ((run n events).site i).set g.1.lawful (g.1.cuts i)
+
+-- an event at a site of the federation, and at none
+pub do_here : (n : ℕ) (w : World) (i : ℕ) (who : Who) (command : Command) → i < n → step n w (Do i who command) ≡ does w i (answer (w.site i).set i who command)
+do_here n w i who command small = cond-true (nat_lt i n) _ (stays w Outcome.NoSite) (lt-ltb i n small)
+
+pub do_nowhere : (n : ℕ) (w : World) (i : ℕ) (who : Who) (command : Command) → n ≤ i → step n w (Do i who command) ≡ stays w Outcome.NoSite
+do_nowhere n w i who command large = cond-false (nat_lt i n) (does w i (answer (w.site i).set i who command)) (stays w Outcome.NoSite) (le-ltb i n large)
+
+-- what an outcome and the replicas are of a step
+abbrev pub IsStep : ℕ → Step → Outcome → List ReplicaValue → Type 0
+IsStep n s o rs = (o ≡ s.outcome) × AreReplicas n s.after rs
+
+module _ (n : ℕ) (events : List Event) (few : n ≤ 16) (rs : List ReplicaValue) (held : AreReplicas n (run n events) rs) where
+  abbrev w : World
+  w = run n events
+
+  pub nowhere_done : (i : ℕ) (who : Who) (command : Command) → n ≤ i → IsStep n (step n w (Do i who command)) Outcome.NoSite rs
+  nowhere_done i who command large = subst (λ s. IsStep n s Outcome.NoSite rs) (sym (do_nowhere n w i who command large)) (refl, held)
+
+  -- the replica that changed stands at k, the number of the site that was asked
+  module _ (i k : ℕ) (at : k ≡ i) (who : Who) (command : Command) (small : k < n) (old new : ReplicaValue) (before : IsReplica k (w.site k) old)
+      (site : new.site ≡ old.site) (heard : new.heard ≡ old.heard) (said : Result Reply Refusal)
+      (done : IsDone (answer_to (reads old.board) old.site who command) (reads old.board) said (reads new.board)) where
+    abbrev lawful : IsLawful (w.site k).set
+    lawful = site_lawful n events few k
+
+    abbrev Told : Result Reply Refusal → Type 0
+    Told r = Gone w k who command lawful old new before site heard (answer (w.site k).set k who command) r
+
+    told : Told said
+    told = command_went w k who command lawful old new before site heard said done
+
+    in_place : (o : Outcome) → Went w k who command lawful old new before site heard (answer (w.site k).set k who command) o → IsStep n (step n w (Do i who command)) o (set rs k new)
+    in_place o p =
+        let a : Answer = answer (w.site k).set k who command in
+        let here : IsStep n (step n w (Do k who command)) o (set rs k new) =
+        subst (λ s. IsStep n s o (set rs k new)) (sym (do_here n w k who command small)) (p.0, replica_set n w (does w k a).after rs k new small held (does_others w k a) p.1) in
+        subst (λ (j : ℕ). IsStep n (step n w (Do j who command)) o (set rs k new)) at here
+
+    pub reply_done : (reply : Reply) → said ≡ Ok reply → IsStep n (step n w (Do i who command)) (Outcome.Replied reply) (set rs k new)
+    reply_done reply e = in_place _ (subst Told e told)
+
+    pub refusal_done : (refusal : Refusal) → said ≡ Err refusal → (refusal ≡ Refusal.NoMemory → ⊥) → IsStep n (step n w (Do i who command)) (Outcome.Refused refusal) (set rs k new)
+    refusal_done refusal e other = in_place _ (subst Told e told other)
+
+-- ---- the first replicas
+site_is : (k s : ℕ) (o : Option ℕ) → k < 16 → o ≡ Some s → o ≡ cond (nat_lt k 16) (Some k) None → s ≡ k
+site_is k s o small e f =
+    let p : o ≡ Some k = f ∙ cond-true (nat_lt k 16) (Some k) None (lt-ltb k 16 small) in cc
+
+-- one more, of the next site, that has no operation and heard nothing
+pub replica_more : (k s : ℕ) (o : Option ℕ) (rs all : List ReplicaValue) (r : ReplicaValue) → AreReplicas k start rs → k < 16 → o ≡ Some s → o ≡ cond (nat_lt k 16) (Some k) None
+    → r.site ≡ s → reads r.board ≡ view [] → r.heard ≡ replicate 16 (replicate 16 0) → all ≡ rs ++ r ∷ [] → AreReplicas (k + 1) start all
+replica_more k s o rs all r old small e f site board heard pushed =
+    subst (AreReplicas (k + 1) start) (sym pushed) (record {
+      count = let c = old.count in let l = length_push rs r in omega arith;
+      each = λ j d h. elim (cases_eq j k) [
+        | inl at ↦ (
+            let here : IsReplica k (start.site k) r = record {
+              site = site ∙ site_is k s o small e f;
+              board = board;
+              heard = λ from h. ap (λ hs. get_or hs from (replicate 16 0)) heard ∙ get_or-replicate 16 from (replicate 16 0) (replicate 16 0) h;
+            } in
+            subst (λ (i : ℕ). IsReplica i (start.site i) (get_or (rs ++ r ∷ []) i d)) (sym at) (subst (IsReplica k (start.site k)) (sym (get_or_push rs r d k old.count)) here))
+        | inr apart ↦ (
+            let within : j < length rs = let c = old.count in omega arith in
+            subst (IsReplica j (start.site j)) (sym (get_or_append_left rs (r ∷ []) d j within)) (old.each j d (omega arith)))
+      ];
+    })
+
+-- ---- event by event
+module _ (n : ℕ) (all : List Event) (i : ℕ) (event : Event) (within : i < length all) (at : event ≡ get_or all i event) where
+  first_ones : take (i + 1) all ≡ take i all ++ event ∷ []
+  first_ones = take_more all i event within ∙ ap (λ e. take i all ++ e ∷ []) (sym at)
+
+  pub world_more : (old new : WorldValue) → old ≡ record { sites = n; events = take i all } → new ≡ record { sites = old.sites; events = old.events ++ event ∷ [] } → new ≡ record { sites = n; events = take (i + 1) all }
+  world_more old new e f = f ∙ (λ j. record { sites = (e j).sites; events = (e j).events ++ event ∷ [] }) ∙ (λ j. record { sites = n; events = sym first_ones j })
+
+  pub outcomes_more : (old : WorldValue) (said next : List Outcome) (outcome : Outcome) → old ≡ record { sites = n; events = take i all } → said ≡ outcomes n (take i all)
+      → outcome ≡ (step old.sites (run old.sites old.events) event).outcome → next ≡ said ++ outcome ∷ [] → next ≡ outcomes n (take (i + 1) all)
+  outcomes_more old said next outcome e f g h =
+      let told : outcome ≡ (step n (run n (take i all)) event).outcome = g ∙ ap (λ (w : WorldValue). (step w.sites (run w.sites w.events) event).outcome) e in
+      h ∙ (λ j. f j ++ told j ∷ []) ∙ sym (outcomes-push n (take i all) event) ∙ ap (outcomes n) (sym first_ones)
