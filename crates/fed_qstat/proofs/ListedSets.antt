@@ -1,0 +1,24 @@
+-- Of lawful sets a listing chooses among the jobs that were submitted.
+use Rattle.std.specs.Prelude.{◌↔◌}
+use Rattle.fed_stamp.specs.Stamp.{StampValue}
+use Rattle.fed_lattice.proofs.FilterLaws.{filter-Has}
+use Rattle.fed_lattice.specs.History.{History}
+use Rattle.fed_lattice.specs.Sets.{Has}
+use Rattle.fed_lattice.specs.VersionOf.{version_of}
+use Rattle.fed_lattice.proofs.VersionOfLaws.{version_of-covers}
+use Rattle.fed_record.specs.Body.{Body, Body.Submit}
+use Rattle.fed_record.specs.Letter.{is_submitted}
+use Rattle.fed_board.specs.Lawful.{IsLawful}
+use Rattle.fed_board.specs.View.{HasSubmit, view}
+use Rattle.fed_board.proofs.SubmitLaws.{submit_of, submitted_by}
+use Rattle.fed_board.specs.Names.{covered_stamps, jobs_in}
+use Rattle.fed_qstat.proofs.BoardJobs.{submitted}
+use Rattle.fed_board.proofs.CoveredStamps.{covered_has}
+
+pub set_listed : (ops : History Body) (job : StampValue) → IsLawful ops → Has (jobs_in (view ops)) job ↔ HasSubmit ops job
+set_listed ops job lawful = (
+  λ h. submit_of ops job (submitted (view ops) job h),
+  λ h. filter-Has (λ j. is_submitted ((view ops).job j)) (covered_stamps (version_of ops)) job
+      (covered_has (version_of ops) job (lawful.sites (job, Submit h.0 h.1 h.2) h.3) (version_of-covers ops lawful.sites (job, Submit h.0 h.1 h.2) h.3))
+      (submitted_by ops job h),
+)

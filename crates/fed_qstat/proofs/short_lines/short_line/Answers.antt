@@ -1,0 +1,28 @@
+use Rattle.std.proofs.Common.{rules, FitsSigned, ◌∙◌}
+use Rattle.std.specs.Int.{w16}
+use Rattle.std.proofs.lemmas.Int.{to_z-of_z}
+use Rattle.std.proofs.lemmas.Result.{IfOk-weaker}
+use Rattle.fed_record.specs.JobRecord.{reads}
+use Rattle.fed_qstat.proofs.Columns.{join-both}
+use Rattle.fed_qstat.proofs.ShownFields.{short_line-is}
+use Rattle.fed_qstat.proofs.short_lines.short_line.Goals as goal
+
+pub returns : goal.returns
+returns c =
+    let fits : FitsSigned w16 c.get-priority.result = search rules in
+    IfOk-weaker c.format.result _ _
+    (λ s e. rw e (rw (c.in_ok-names.ensures, c.in_ok-numbers.ensures) (rw (
+      c.as_str.ensures.value,
+      c.as_str-4.ensures.value,
+      c.as_str-2.ensures.same,
+      c.as_str-3.ensures.same,
+      c.letter_sign-sign.ensures,
+      c.in_ok-identifier.ensures,
+      c.in_ok-granted.ensures,
+      to_z-of_z w16 c.get-priority.result fits,
+      c.get-priority.ensures.same,
+      c.get-nodes.ensures.same,
+      c.get-limit.ensures.same,
+    )
+    (join-both _ _ _ _ _ _ _ _
+    ∙ short_line-is c.args.roster.now c.args.id (reads c.args.held.now) _ _ c.args.letter _ _ _ c.name-name.ensures c.owner-owner.ensures c.requires.letter c.priority.ensures c.nodes.ensures c.limit.ensures)))) c.format.ensures.ok

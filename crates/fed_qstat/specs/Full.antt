@@ -1,0 +1,48 @@
+-- The full listing's twelve lines of a job.
+use Rattle.std.specs.Prelude.{ℕ, List, [], ◌∷◌, ◌++◌, codes}
+use Rattle.std.specs.Fmt.{decimal, signed_decimal}
+use Rattle.fed_stamp.specs.Stamp.{StampValue}
+use Rattle.fed_record.specs.Account.{text_of}
+use Rattle.fed_record.specs.JobView.{JobView}
+use Rattle.fed_record.specs.Letter.{holder, letter}
+use Rattle.fed_qstat.specs.Identifier.{identifier_text}
+use Rattle.fed_qstat.specs.JobText.{begun_text, field_text, holder_text, holds_text, letter_text, or_dash, sites_text}
+
+-- the line that names the job
+unfoldable pub head_line : List ℕ → List ℕ
+head_line identifier = codes "Job Id: " ++ identifier ++ 10 ∷ []
+
+-- the line of one attribute
+unfoldable pub attribute : List ℕ → List ℕ → List ℕ
+attribute label value = codes "    " ++ label ++ codes " = " ++ value ++ 10 ∷ []
+
+-- what the job is called, and who answers for it
+abbrev pub naming : List (List ℕ × ℕ) → StampValue → JobView → List ℕ
+naming roster id j =
+    head_line (identifier_text roster id)
+    ++ attribute (codes "Job_Name") (field_text (λ name. name) j.name)
+    ++ attribute (codes "Job_Owner") (field_text (λ owner. owner) j.owner)
+    ++ attribute (codes "Account_Name") (or_dash (field_text text_of j.account))
+
+-- where it stands in the queue
+abbrev pub standing : JobView → List ℕ
+standing j =
+    attribute (codes "job_state") (letter_text (letter j))
+    ++ attribute (codes "Priority") (field_text signed_decimal j.priority)
+    ++ attribute (codes "Hold_Types") (holds_text j)
+
+-- what it asks for
+abbrev pub resources : List (List ℕ × ℕ) → JobView → List ℕ
+resources roster j =
+    attribute (codes "Resource_List.nodes") (field_text decimal j.nodes)
+    ++ attribute (codes "Resource_List.walltime") (field_text decimal j.limit)
+    ++ attribute (codes "Resource_List.sites") (sites_text roster j)
+
+-- where and when it runs
+abbrev pub running : List (List ℕ × ℕ) → JobView → List ℕ
+running roster j =
+    attribute (codes "granted") (holder_text roster (holder j))
+    ++ attribute (codes "begun") (begun_text j.begun)
+
+abbrev pub full_lines : List (List ℕ × ℕ) → StampValue → JobView → List ℕ
+full_lines roster id j = naming roster id j ++ standing j ++ resources roster j ++ running roster j

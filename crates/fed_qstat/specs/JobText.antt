@@ -1,0 +1,66 @@
+-- What listings show of a job, piece by piece.
+use Rattle.std.specs.Prelude.{ℕ, Bool, false, List, [], ◌∷◌, ◌++◌, codes, filter, map, Option, Some, None, if◌then◌else◌}
+use Rattle.std.specs.List.{join_with_byte, range_with_len}
+use Rattle.std.specs.Fmt.{decimal}
+use Rattle.fed_stamp.specs.Stamp.{StampValue}
+use Rattle.fed_record.specs.declared.holds.HoldKind.TheVariants.{User, Operator, System}
+use Rattle.fed_record.specs.declared.letters.Letter.{Letter}
+use Rattle.fed_record.specs.declared.letters.Letter.TheVariants.{Exiting, Running, Held, Granted, Queued}
+use Rattle.fed_record.specs.declared.progress.Beginning.{Beginning}
+use Rattle.fed_record.specs.JobView.{JobView}
+use Rattle.fed_record.specs.Letter.{has_site, has_hold}
+use Rattle.fed_qstat.specs.Identifier.{site_text}
+
+-- what stands where there is nothing to show
+abbrev pub nothing : List ℕ
+nothing = codes "-"
+
+-- the text, or `-` where it is empty
+abbrev pub or_dash : List ℕ → List ℕ
+or_dash [] = nothing
+or_dash (byte ∷ text) = byte ∷ text
+
+-- the value of a field as its text; a field of a job that is submitted has a value
+abbrev pub field_text : {T : Type 0} → (T → List ℕ) → Option (StampValue × T) → List ℕ
+field_text text None = []
+field_text text (Some latest) = text latest.1
+
+-- the letter that stands for the state of a job
+abbrev pub letter_sign : Letter → List ℕ
+letter_sign Exiting = codes "E"
+letter_sign Running = codes "R"
+letter_sign Held = codes "H"
+letter_sign Granted = codes "T"
+letter_sign Queued = codes "Q"
+
+-- a job that is gone has none
+abbrev pub letter_text : Option Letter → List ℕ
+letter_text None = []
+letter_text (Some sign) = letter_sign sign
+
+-- the site that the job is granted to, or `-`
+abbrev pub holder_text : List (List ℕ × ℕ) → Option ℕ → List ℕ
+holder_text roster None = nothing
+holder_text roster (Some site) = site_text roster site
+
+-- the moment of the Begin, or `-`
+abbrev pub begun_text : Option (StampValue × Beginning) → List ℕ
+begun_text None = nothing
+begun_text (Some begun) = decimal begun.1.moment
+
+-- the letters of the kinds of holds that are present, in the order u, o, s, or `n` where there is none
+abbrev pub hold_letters : Bool → Bool → Bool → List ℕ
+hold_letters false false false = codes "n"
+hold_letters user operator system =
+    (if user then codes "u" else []) ++ (if operator then codes "o" else []) ++ (if system then codes "s" else [])
+
+abbrev pub holds_text : JobView → List ℕ
+holds_text j = hold_letters (has_hold j User) (has_hold j Operator) (has_hold j System)
+
+-- the sites that the job may run at, in the order of their numbers
+abbrev pub sites_of : JobView → List ℕ
+sites_of j = filter (has_site j) (range_with_len 0 16)
+
+-- their names, joined by `+`, or `-` where there is none
+abbrev pub sites_text : List (List ℕ × ℕ) → JobView → List ℕ
+sites_text roster j = or_dash (join_with_byte 43 (map (site_text roster) (sites_of j)))

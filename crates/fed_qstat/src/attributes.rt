@@ -1,0 +1,114 @@
+//! What listings show of a job, piece by piece.
+ghost use Rattle.std.specs.Prelude.{◌≡◌, ◌∷◌, ◌++◌, IfOk, OnOk, Some, string_bytes, if◌then◌else◌};
+ghost use Rattle.fed_record.specs.JobRecord.{reads};
+ghost use Rattle.fed_record.specs.Letter.{holder};
+ghost use Rattle.fed_qstat.specs.JobText.{begun_text as text_of_begun, hold_letters as letters_of_holds, holder_text as text_of_holder, holds_text as text_of_holds, letter_sign as sign_of_letter, or_dash as text_or_dash, sites_text as text_of_sites};
+
+use crate::identifiers::site_text;
+use fed_record::{HoldKind, JobRecord, Letter};
+use fed_stamp::{Roster, SITES, SiteId};
+use std::alloc::{AllocError, Global};
+
+/// The text, or `-` where it is empty.
+pub(crate) fn or_dash(text: &str) -> &str
+    ensures { result.now ≡ text_or_dash text.now }
+{
+    if text.is_empty() { "-" } else { text }
+}
+
+/// The letter that stands for the state of a job.
+pub(crate) fn letter_sign(letter: Letter) -> &'static str
+    ensures { result.now ≡ sign_of_letter letter }
+{
+    match letter {
+        Letter::Exiting => "E",
+        Letter::Running => "R",
+        Letter::Held => "H",
+        Letter::Granted => "T",
+        Letter::Queued => "Q",
+    }
+}
+
+/// The site that a job is granted to, or `-` where there is none.
+pub(crate) fn holder_text(
+    alloc: Global,
+    roster: &Roster,
+    held: &JobRecord,
+) -> Result<String, AllocError>
+    ensures { IfOk result (λ text. string_bytes text ≡ text_of_holder roster.now (holder (reads held.now))) }
+{
+    match held.holder() {
+        Some(site) => site_text(alloc, roster, site),
+        None => String::from_str(alloc, "-"),
+    }
+}
+
+/// The moment of the Begin, or `-` where the job has not begun.
+pub(crate) fn begun_text(alloc: Global, held: &JobRecord) -> Result<String, AllocError>
+    ensures { IfOk result (λ text. string_bytes text ≡ text_of_begun (reads held.now).begun) }
+{
+    match held.progress().begun {
+        Some((_, beginning)) => format!(in alloc; "{}", beginning.moment.get()),
+        None => String::from_str(alloc, "-"),
+    }
+}
+
+/// The letters of the kinds of holds that are present, in the order u, o, s, or `n` where there is none.
+fn hold_letters(user: bool, operator: bool, system: bool) -> &'static str
+    ensures { result.now ≡ letters_of_holds user operator system }
+{
+    match (user, operator, system) {
+        (false, false, false) => "n",
+        (true, false, false) => "u",
+        (false, true, false) => "o",
+        (true, true, false) => "uo",
+        (false, false, true) => "s",
+        (true, false, true) => "us",
+        (false, true, true) => "os",
+        (true, true, true) => "uos",
+    }
+}
+
+/// The letters of a job's holds.
+pub(crate) fn holds_text(held: &JobRecord) -> &'static str
+    ensures { result.now ≡ text_of_holds (reads held.now) }
+{
+    hold_letters(
+        held.has_hold(HoldKind::User),
+        held.has_hold(HoldKind::Operator),
+        held.has_hold(HoldKind::System),
+    )
+}
+
+/// Adds a name, behind a `+` where it isn't the first.
+fn push_name(text: &mut String, is_first: bool, name: &str) -> Result<(), AllocError>
+    ensures { OnOk result (string_bytes text.new ≡
+        string_bytes text.old ++ (if is_first then name.now else 43 ∷ name.now)) }
+{
+    if !is_first {
+        text.push('+')?;
+    }
+    text.push_str(name)
+}
+
+/// The names of the sites that a job may run at, in the order of their numbers, joined by `+`, or `-` where there is
+/// none.
+pub(crate) fn sites_text(
+    alloc: Global,
+    roster: &Roster,
+    held: &JobRecord,
+) -> Result<String, AllocError>
+    ensures { IfOk result (λ text. string_bytes text ≡ text_of_sites roster.now (reads held.now)) }
+{
+    let mut text = String::new(alloc);
+    let mut is_first = true;
+    for number in 0..SITES as u8 {
+        let site = SiteId::new(number).unwrap();
+        if held.has_site(site) {
+            let name = site_text(alloc, roster, site)?;
+            push_name(&mut text, is_first, name.as_str())?;
+            is_first = false;
+        }
+    }
+    String::from_str(alloc, or_dash(text.as_str()))
+}

@@ -1,0 +1,18 @@
+//! Laws of which jobs a listing shows. Each function does nothing: its contract is the law.
+ghost use Rattle.std.specs.Prelude.{◌↔◌};
+ghost use Rattle.std.specs.List.Sorted.{IsStrictlySortedBy};
+ghost use Rattle.fed_stamp.specs.Stamp.{StampValue};
+ghost use Rattle.fed_lattice.specs.History.{History};
+ghost use Rattle.fed_lattice.specs.Latest.{stamp_cmp};
+ghost use Rattle.fed_lattice.specs.Sets.{Has};
+ghost use Rattle.fed_record.specs.Body.{Body};
+ghost use Rattle.fed_board.specs.Lawful.{IsLawful};
+ghost use Rattle.fed_board.specs.View.{View, view, HasSubmit};
+ghost use Rattle.fed_board.specs.Names.{jobs_in};
+
+/// The jobs among which a listing chooses are, in a lawful set, exactly those that were submitted, in the order of their
+/// stamps, each once.
+pub fn submitted_jobs_are_listed()
+    ensures ascending { (v : View) → IsStrictlySortedBy stamp_cmp (jobs_in v) }
+    ensures all { (ops : History Body) (job : StampValue) → IsLawful ops → Has (jobs_in (view ops)) job ↔ HasSubmit ops job }
+{}

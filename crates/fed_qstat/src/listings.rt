@@ -1,0 +1,161 @@
+//! Listings of the jobs of a board.
+ghost use Rattle.std.specs.Prelude.{◌≡◌, ◌≢◌, ◌↔◌, [], IfOk, string_bytes};
+ghost use Rattle.std.specs.List.Sorted.{IsStrictlySortedBy};
+ghost use Rattle.fed_stamp.specs.Stamp.{StampValue};
+ghost use Rattle.fed_lattice.specs.Latest.{stamp_cmp};
+ghost use Rattle.fed_lattice.specs.Sets.{Has};
+ghost use Rattle.fed_record.specs.JobRecord.{reads as reads_job};
+ghost use Rattle.fed_board.specs.Board.{reads};
+ghost use Rattle.fed_qstat.specs.Full.{full_lines as lines_of_full};
+ghost use Rattle.fed_qstat.specs.Layout.{lines_in};
+ghost use Rattle.fed_qstat.specs.Listing.{listing, shown_text};
+ghost use Rattle.fed_qstat.specs.Short.{short_line as line_of_short};
+
+use crate::full_lines::full_lines;
+use crate::short_lines::short_line;
+use fed_board::Board;
+use fed_lattice::NoMemory;
+use fed_record::JobRecord;
+use fed_stamp::{JobId, Roster};
+use std::alloc::{AllocError, Global};
+
+/// How a listing shows a job.
+#[derive(Clone, Copy, PartialEq, Eq, Debug)]
+enum Layout {
+    /// By one line.
+    Short,
+    /// By twelve lines.
+    Full,
+}
+
+/// The lines of a job, or nothing where it is gone.
+fn job_text(
+    alloc: Global,
+    roster: &Roster,
+    layout: Layout,
+    id: JobId,
+    held: &JobRecord,
+) -> Result<String, AllocError>
+    ensures { IfOk result (λ text. string_bytes text ≡ shown_text (lines_in layout roster.now) id (reads_job held.now)) }
+{
+    if !held.is_submitted() {
+        return Ok(String::new(alloc));
+    }
+    let Some(letter) = held.letter() else {
+        return Ok(String::new(alloc));
+    };
+    match layout {
+        Layout::Short => short_line(alloc, roster, id, held, letter),
+        Layout::Full => full_lines(alloc, roster, id, held, letter),
+    }
+}
+
+/// The lines of the job of this name, or nothing where the board has no such job or it is gone.
+fn named_text(
+    alloc: Global,
+    roster: &Roster,
+    layout: Layout,
+    board: &Board,
+    id: JobId,
+) -> Result<String, AllocError>
+    ensures { IfOk result (λ text. string_bytes text ≡
+        shown_text (lines_in layout roster.now) id ((reads board.now).job id)) }
+{
+    match board.job(id) {
+        Some(held) => job_text(alloc, roster, layout, id, held),
+        None => Ok(String::new(alloc)),
+    }
+}
+
+/// The names in the order of their stamps, each once.
+fn distinct(alloc: Global, names: &[JobId]) -> Result<Vec<JobId>, AllocError>
+    ensures ascending { IfOk result (λ v. IsStrictlySortedBy stamp_cmp v.items) }
+    ensures members { IfOk result (λ v. (name : StampValue) → Has v.items name ↔ Has names.now name) }
+{
+    let mut distinct = Vec::from_slice(alloc, names)?;
+    distinct.sort()?;
+    distinct.dedup();
+    Ok(distinct)
+}
+
+/// The lines of all jobs.
+fn list_all(
+    alloc: Global,
+    roster: &Roster,
+    layout: Layout,
+    board: &Board,
+) -> Result<String, AllocError>
+    ensures { IfOk result (λ text. string_bytes text ≡ listing (lines_in layout roster.now) (reads board.now) []) }
+{
+    let _version = board.version();
+    let mut text = String::new(alloc);
+    for (id, held) in board.jobs() {
+        let lines = job_text(alloc, roster, layout, *id, held)?;
+        text.push_str(lines.as_str())?;
+    }
+    Ok(text)
+}
+
+/// The lines of the jobs that are named, of which there is one.
+fn list_named(
+    alloc: Global,
+    roster: &Roster,
+    layout: Layout,
+    board: &Board,
+    asked: &[JobId],
+) -> Result<String, AllocError>
+    requires { asked.now ≢ [] }
+    ensures { IfOk result (λ text. string_bytes text ≡ listing (lines_in layout roster.now) (reads board.now) asked.now) }
+{
+    let _version = board.version();
+    let _jobs = board.jobs();
+    let mut text = String::new(alloc);
+    let names = distinct(alloc, asked)?;
+    for name in &names {
+        let lines = named_text(alloc, roster, layout, board, *name)?;
+        text.push_str(lines.as_str())?;
+    }
+    Ok(text)
+}
+
+fn lines_of(
+    alloc: Global,
+    roster: &Roster,
+    layout: Layout,
+    board: &Board,
+    names: &[JobId],
+) -> Result<String, NoMemory>
+    ensures { IfOk result (λ text. string_bytes text ≡ listing (lines_in layout roster.now) (reads board.now) names.now) }
+{
+    if names.is_empty() {
+        Ok(list_all(alloc, roster, layout, board)?)
+    } else {
+        Ok(list_named(alloc, roster, layout, board, names)?)
+    }
+}
+
+/// The short listing: a line for each job on the board that isn't gone and is named, or for each that isn't gone where
+/// none is named, in the order of their stamps. A job that is named twice is shown once, and a name that no job has is
+/// passed over. Where jobs are named, the others on the board take no time.
+pub fn list(
+    alloc: Global,
+    board: &Board,
+    roster: &Roster,
+    names: &[JobId],
+) -> Result<String, NoMemory>
+    ensures { IfOk result (λ text. string_bytes text ≡ listing (line_of_short roster.now) (reads board.now) names.now) }
+{
+    lines_of(alloc, roster, Layout::Short, board, names)
+}
+
+/// The full listing: twelve lines for each job that the short listing has a line for.
+pub fn full(
+    alloc: Global,
+    board: &Board,
+    roster: &Roster,
+    names: &[JobId],
+) -> Result<String, NoMemory>
+    ensures { IfOk result (λ text. string_bytes text ≡ listing (lines_of_full roster.now) (reads board.now) names.now) }
+{
+    lines_of(alloc, roster, Layout::Full, board, names)
+}
