@@ -1,0 +1,255 @@
+//! Random lists of events, run by a world and by a plain one.
+use crate::boards::is_read;
+use crate::commands::random_site;
+use crate::events::random_event;
+use crate::numbers::Numbers;
+use crate::plain::PlainWorld;
+use crate::tallies::Tally;
+use fed_stamp::{Roster, SiteId};
+use fed_world::{Event, Outcome, World};
+use std::alloc::Global;
+use std::test::Fail;
+
+const SITES: [(&str, u64); 5] = [
+    ("argonne", 8),
+    ("lemont", 4),
+    ("fermi", 1),
+    ("x-9", 2),
+    ("y", 1),
+];
+
+/// A world and a plain one that the same events happened to.
+#[derive(Drop)]
+struct Scene {
+    alloc: Global,
+    count: u8,
+    numbers: Numbers,
+    world: World,
+    plain: PlainWorld,
+    /// The last event.
+    event: Event,
+    /// What both worlds answered to it.
+    outcome: Outcome,
+}
+
+/// The site at which an event happens.
+fn site_of(event: &Event) -> SiteId {
+    match event {
+        Event::Do { site, .. } | Event::Ship { site, .. } | Event::Take { site, .. } => *site,
+    }
+}
+
+fn is_taken(outcome: &Outcome) -> bool {
+    matches!(outcome, Outcome::Taken(_))
+}
+
+/// Whether the site's board reads as the plain site does, or neither world has the site.
+fn is_site_read(
+    alloc: Global,
+    world: &World,
+    plain: &PlainWorld,
+    site: SiteId,
+) -> Result<bool, Fail> {
+    match (world.board(site), plain.site(site)) {
+        (Some(board), Some(plain)) => is_read(alloc, board, &plain.operations),
+        (None, None) => Ok(true),
+        _ => Ok(false),
+    }
+}
+
+/// The event happens to both worlds, which must answer the same, the outcome, and then read the same.
+fn run_event(
+    alloc: Global,
+    world: &mut World,
+    plain: &mut PlainWorld,
+    event: &Event,
+    outcome: &mut Outcome,
+) -> Result<(), Fail> {
+    let answered = world.step(event)?;
+    let expected = plain.step(event)?;
+    if answered != expected {
+        let text = format_args!("{event:?}: {answered:?} and not {expected:?}");
+        return Err(Fail::new(text));
+    }
+    if !is_site_read(alloc, world, plain, site_of(event))? {
+        return Err(Fail::new(format_args!("{event:?}: the board")));
+    }
+    *outcome = answered;
+    Ok(())
+}
+
+/// Draws the next event.
+fn draw(
+    alloc: Global,
+    numbers: &mut Numbers,
+    plain: &PlainWorld,
+    count: u8,
+    event: &mut Event,
+) -> Result<(), Fail> {
+    *event = random_event(alloc, numbers, plain, count)?;
+    Ok(())
+}
+
+impl Scene {
+    /// Nothing has happened yet, at 3 to 5 sites.
+    fn new(alloc: Global, seed: u64) -> Result<Scene, Fail> {
+        let mut numbers = Numbers::new(seed);
+        let count = numbers.pick(&[3u8, 4, 5]).ok_or("a number of sites")?;
+        let sites = SITES.get(..count as usize).ok_or("sites")?;
+        let roster = Roster::new(sites).ok().ok_or("roster")?;
+        let site = SiteId::new(0).ok_or("site")?;
+        Ok(Scene {
+            alloc,
+            count,
+            numbers,
+            world: World::new(alloc, &roster)?,
+            plain: PlainWorld::new(alloc, count)?,
+            event: Event::Take { site, packet: 0 },
+            outcome: Outcome::NoPacket,
+        })
+    }
+
+    /// The event happens to both worlds.
+    fn step(&mut self) -> Result<(), Fail> {
+        run_event(
+            self.alloc,
+            &mut self.world,
+            &mut self.plain,
+            &self.event,
+            &mut self.outcome,
+        )
+    }
+
+    /// A random event happens.
+    fn step_on(&mut self) -> Result<(), Fail> {
+        draw(
+            self.alloc,
+            &mut self.numbers,
+            &self.plain,
+            self.count,
+            &mut self.event,
+        )?;
+        self.step()
+    }
+
+    /// Whether two sites have the same operations, which must be so exactly where their boards are equal.
+    fn are_same(&self, first: SiteId, second: SiteId) -> Result<bool, Fail> {
+        let one = self.plain.site(first).ok_or("the first site")?;
+        let other = self.plain.site(second).ok_or("the second site")?;
+        let is_same = one.operations.is_same(&other.operations);
+        let board = self.world.board(first).ok_or("the first board")?;
+        let other_board = self.world.board(second).ok_or("the second board")?;
+        if (*board == *other_board) != is_same {
+            return Err(Fail::from(
+                "equal boards of different operations, or different ones of equal",
+            ));
+        }
+        Ok(is_same)
+    }
+
+    /// Compares two sites at random.
+    fn compare(&mut self, tally: &mut Tally) -> Result<(), Fail> {
+        let first = random_site(&mut self.numbers, self.count).ok_or("first")?;
+        let second = random_site(&mut self.numbers, self.count).ok_or("second")?;
+        if first != second {
+            tally.count_pair(self.are_same(first, second)?);
+        }
+        Ok(())
+    }
+
+    /// Counts the letters at all sites.
+    fn count_letters(&self, tally: &mut Tally) -> Result<(), Fail> {
+        for site in &self.plain.sites {
+            tally.count_letters(self.alloc, &site.operations)?;
+        }
+        Ok(())
+    }
+
+    /// One site makes a packet for another, which takes it and has all that it needs.
+    fn pass(&mut self, site: SiteId, to: SiteId) -> Result<(), Fail> {
+        self.event = Event::Ship { site, to };
+        self.step()?;
+        let packet = self.plain.packets.len() as u64;
+        self.event = Event::Take { site: to, packet };
+        self.step()?;
+        is_taken(&self.outcome)
+            .then_some(())
+            .ok_or("the packet was not taken")?;
+        Ok(())
+    }
+
+    /// Each other site passes what it has to the first.
+    fn gather(&mut self) -> Result<(), Fail> {
+        let first = SiteId::new(0).ok_or("first")?;
+        for number in 1..self.count {
+            let site = SiteId::new(number).ok_or("sender")?;
+            self.pass(site, first)?;
+        }
+        Ok(())
+    }
+
+    /// The first site passes what it has to each other.
+    fn spread(&mut self) -> Result<(), Fail> {
+        let first = SiteId::new(0).ok_or("first")?;
+        for number in 1..self.count {
+            let site = SiteId::new(number).ok_or("addressee")?;
+            self.pass(first, site)?;
+        }
+        Ok(())
+    }
+
+    /// Whether all sites have the operations of the first, and so equal boards.
+    fn are_all_same(&self) -> Result<bool, Fail> {
+        let first = SiteId::new(0).ok_or("first")?;
+        for number in 1..self.count {
+            let site = SiteId::new(number).ok_or("site")?;
+            if !self.are_same(first, site)? {
+                return Ok(false);
+            }
+        }
+        Ok(true)
+    }
+
+    /// Whether exactly the packets that were made have a text, and exactly the events that happened are kept.
+    fn is_kept(&self, happened: usize) -> bool {
+        let made = self.plain.packets.len() as u64;
+        self.world.text(0).is_none()
+            && self.world.text(made).is_some() == (made > 0)
+            && self.world.text(made.saturating_add(1)).is_none()
+            && self.world.events().len() == happened
+    }
+}
+
+/// Runs a list of this many random events. Now and then two sites are compared, and letters are counted.
+fn run_list(scene: &mut Scene, length: usize, tally: &mut Tally) -> Result<(), Fail> {
+    for number in 0..length {
+        scene.step_on()?;
+        tally.count_outcome(&scene.outcome);
+        if number % 4 == 3 {
+            scene.compare(tally)?;
+        }
+        if number % 8 == 7 {
+            scene.count_letters(tally)?;
+        }
+    }
+    Ok(())
+}
+
+#[test]
+fn random_lists(rt: HostRuntime) -> Result<(), Fail> {
+    let mut tally = Tally::NONE;
+    for seed in 0..300 {
+        let mut scene = Scene::new(rt.alloc(), seed)?;
+        let length = scene.numbers.pick(&[30, 60, 80, 100]).ok_or("length")?;
+        run_list(&mut scene, length, &mut tally)?;
+        assert!(rt; scene.is_kept(length), "list {seed}");
+        scene.gather()?;
+        scene.spread()?;
+        assert!(rt; scene.are_all_same()?, "list {seed}");
+    }
+    assert_eq!(rt; tally.rare_outcome(20), None, "{tally:?}");
+    for count in tally.letters.iter().chain(&tally.pairs) {
+        assert!(rt; *count >= 20, "{tally:?}");
+    }
+    Ok(())
+}
