@@ -57,37 +57,23 @@ fn is_site_read(
     }
 }
 
-/// The event happens to both worlds, which must answer the same, the outcome, and then read the same.
+/// The event happens to both worlds, which must answer the same and then read the same.
 fn run_event(
     alloc: Global,
     world: &mut World,
     plain: &mut PlainWorld,
     event: &Event,
-    outcome: &mut Outcome,
-) -> Result<(), Fail> {
-    let answered = world.step(event)?;
+) -> Result<Outcome, Fail> {
+    let outcome = world.step(event)?;
     let expected = plain.step(event)?;
-    if answered != expected {
-        let text = format_args!("{event:?}: {answered:?} and not {expected:?}");
+    if outcome != expected {
+        let text = format_args!("{event:?}: {outcome:?} and not {expected:?}");
         return Err(Fail::new(text));
     }
     if !is_site_read(alloc, world, plain, site_of(event))? {
         return Err(Fail::new(format_args!("{event:?}: the board")));
     }
-    *outcome = answered;
-    Ok(())
-}
-
-/// Draws the next event.
-fn draw(
-    alloc: Global,
-    numbers: &mut Numbers,
-    plain: &PlainWorld,
-    count: u8,
-    event: &mut Event,
-) -> Result<(), Fail> {
-    *event = random_event(alloc, numbers, plain, count)?;
-    Ok(())
+    Ok(outcome)
 }
 
 impl Scene {
@@ -110,26 +96,22 @@ impl Scene {
     }
 
     /// The event happens to both worlds.
-    fn step(&mut self) -> Result<(), Fail> {
-        run_event(
-            self.alloc,
-            &mut self.world,
-            &mut self.plain,
-            &self.event,
-            &mut self.outcome,
-        )
+    fn step(self) -> Result<Scene, Fail> {
+        let mut scene = self;
+        scene.outcome = run_event(
+            scene.alloc,
+            &mut scene.world,
+            &mut scene.plain,
+            &scene.event,
+        )?;
+        Ok(scene)
     }
 
     /// A random event happens.
-    fn step_on(&mut self) -> Result<(), Fail> {
-        draw(
-            self.alloc,
-            &mut self.numbers,
-            &self.plain,
-            self.count,
-            &mut self.event,
-        )?;
-        self.step()
+    fn step_on(self) -> Result<Scene, Fail> {
+        let mut scene = self;
+        scene.event = random_event(scene.alloc, &mut scene.numbers, &scene.plain, scene.count)?;
+        scene.step()
     }
 
     /// Whether two sites have the same operations, which must be so exactly where their boards are equal.
@@ -166,36 +148,39 @@ impl Scene {
     }
 
     /// One site makes a packet for another, which takes it and has all that it needs.
-    fn pass(&mut self, site: SiteId, to: SiteId) -> Result<(), Fail> {
-        self.event = Event::Ship { site, to };
-        self.step()?;
-        let packet = self.plain.packets.len() as u64;
-        self.event = Event::Take { site: to, packet };
-        self.step()?;
-        is_taken(&self.outcome)
+    fn pass(self, site: SiteId, to: SiteId) -> Result<Scene, Fail> {
+        let mut scene = self;
+        scene.event = Event::Ship { site, to };
+        scene = scene.step()?;
+        let packet = scene.plain.packets.len() as u64;
+        scene.event = Event::Take { site: to, packet };
+        scene = scene.step()?;
+        is_taken(&scene.outcome)
             .then_some(())
             .ok_or("the packet was not taken")?;
-        Ok(())
+        Ok(scene)
     }
 
     /// Each other site passes what it has to the first.
-    fn gather(&mut self) -> Result<(), Fail> {
+    fn gather(self) -> Result<Scene, Fail> {
         let first = SiteId::new(0).ok_or("first")?;
-        for number in 1..self.count {
+        let mut scene = self;
+        for number in 1..scene.count {
             let site = SiteId::new(number).ok_or("sender")?;
-            self.pass(site, first)?;
+            scene = scene.pass(site, first)?;
         }
-        Ok(())
+        Ok(scene)
     }
 
     /// The first site passes what it has to each other.
-    fn spread(&mut self) -> Result<(), Fail> {
+    fn spread(self) -> Result<Scene, Fail> {
         let first = SiteId::new(0).ok_or("first")?;
-        for number in 1..self.count {
+        let mut scene = self;
+        for number in 1..scene.count {
             let site = SiteId::new(number).ok_or("addressee")?;
-            self.pass(first, site)?;
+            scene = scene.pass(first, site)?;
         }
-        Ok(())
+        Ok(scene)
     }
 
     /// Whether all sites have the operations of the first, and so equal boards.
@@ -221,9 +206,10 @@ impl Scene {
 }
 
 /// Runs a list of this many random events. Now and then two sites are compared, and letters are counted.
-fn run_list(scene: &mut Scene, length: usize, tally: &mut Tally) -> Result<(), Fail> {
+fn run_list(start: Scene, length: usize, tally: &mut Tally) -> Result<Scene, Fail> {
+    let mut scene = start;
     for number in 0..length {
-        scene.step_on()?;
+        scene = scene.step_on()?;
         tally.count_outcome(&scene.outcome);
         if number % 4 == 3 {
             scene.compare(tally)?;
@@ -232,7 +218,7 @@ fn run_list(scene: &mut Scene, length: usize, tally: &mut Tally) -> Result<(), F
             scene.count_letters(tally)?;
         }
     }
-    Ok(())
+    Ok(scene)
 }
 
 #[test]
@@ -241,10 +227,9 @@ fn random_lists(rt: HostRuntime) -> Result<(), Fail> {
     for seed in 0..300 {
         let mut scene = Scene::new(rt.alloc(), seed)?;
         let length = scene.numbers.pick(&[30, 60, 80, 100]).ok_or("length")?;
-        run_list(&mut scene, length, &mut tally)?;
+        scene = run_list(scene, length, &mut tally)?;
         assert!(rt; scene.is_kept(length), "list {seed}");
-        scene.gather()?;
-        scene.spread()?;
+        scene = scene.gather()?.spread()?;
         assert!(rt; scene.are_all_same()?, "list {seed}");
     }
     assert_eq!(rt; tally.rare_outcome(20), None, "{tally:?}");
