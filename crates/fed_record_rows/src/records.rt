@@ -44,14 +44,14 @@ fn owner() -> Result<Word, Fail> {
 }
 
 /// The values of a submission to the sites 1 and 4.
-fn values() -> Result<JobValues, Fail> {
-    Ok(JobValues {
-        name: Word::new("STDIN").ok_or("name")?,
-        priority: Priority::new(0).ok_or("priority")?,
-        nodes: Nodes::new(1).ok_or("nodes")?,
-        limit: Limit::new(3600).ok_or("limit")?,
+fn values() -> Option<JobValues> {
+    Some(JobValues {
+        name: Word::new("STDIN")?,
+        priority: Priority::new(0)?,
+        nodes: Nodes::new(1)?,
+        limit: Limit::new(3600)?,
         account: Account::EMPTY,
-        sites: SiteSet::new(&[site(4), site(1)]).ok_or("sites")?,
+        sites: SiteSet::new(&[site(4), site(1)])?,
     })
 }
 
@@ -66,7 +66,7 @@ fn after(record: JobRecord, at: Stamp, operation: Operation) -> Result<JobRecord
 fn submitted(alloc: Global, held: bool) -> Result<JobRecord, Fail> {
     let submit = Operation::Submit {
         owner: owner()?,
-        values: values()?,
+        values: values().ok_or("values")?,
         held,
     };
     after(Record::bottom(alloc), job(), submit)
@@ -87,6 +87,94 @@ fn beginning() -> Result<Beginning, Fail> {
     let nodes = Nodes::new(1).ok_or("nodes")?;
     let limit = Limit::new(3600).ok_or("limit")?;
     Ok(Beginning::new(moment, nodes, limit))
+}
+
+/// The record of the held job once it has begun at site 4.
+fn begun(alloc: Global) -> Result<JobRecord, Fail> {
+    let begin = Operation::Begin {
+        job: job(),
+        beginning: beginning()?,
+    };
+    after(submitted(alloc, true)?, stamp(7, 4), begin)
+}
+
+/// The record of the job once it has begun and is deleted.
+fn exiting(alloc: Global) -> Result<JobRecord, Fail> {
+    after(begun(alloc)?, stamp(8, 3), Operation::Delete { job: job() })
+}
+
+/// The record of the job once its first term is granted to site 4.
+fn granted(alloc: Global) -> Result<JobRecord, Fail> {
+    let term = Term::new(1).ok_or("first")?;
+    let grant = Operation::Grant {
+        job: job(),
+        site: site(4),
+        term,
+    };
+    after(submitted(alloc, false)?, stamp(6, 2), grant)
+}
+
+/// The record of the job once site 4 has handed the grant back.
+fn handed_back(alloc: Global) -> Result<JobRecord, Fail> {
+    let term = Term::new(1).ok_or("first")?;
+    let hand_back = Operation::HandBack { job: job(), term };
+    after(granted(alloc)?, stamp(7, 4), hand_back)
+}
+
+/// The record with its User hold released.
+fn released(alloc: Global, held: JobRecord) -> Result<JobRecord, Fail> {
+    let removed = Vec::from_slice(alloc, &[(HoldKind::User, job())])?;
+    let release = Operation::Release {
+        job: job(),
+        removed,
+    };
+    after(held, stamp(6, 2), release)
+}
+
+/// The record with two holds set at site 3.
+fn held_again(held: JobRecord) -> Result<JobRecord, Fail> {
+    let hold = Operation::Hold {
+        job: job(),
+        kinds: HoldKinds::USER | HoldKinds::SYSTEM,
+    };
+    after(held, stamp(6, 3), hold)
+}
+
+/// The record of a released job joined with that of the job held again.
+fn joined_holds(alloc: Global) -> Result<JobRecord, Fail> {
+    let held = submitted(alloc, true)?;
+    let there = held_again(held.copy()?)?;
+    let here = released(alloc, held)?;
+    let mine = Version::default().with(stamp(6, 2));
+    let theirs = Version::default().with(job()).with(stamp(6, 3));
+    Ok(here.join(&mine, &there, &theirs)?)
+}
+
+/// The record with a priority and an account set.
+fn set_late(alloc: Global, record: JobRecord) -> Result<JobRecord, Fail> {
+    let mut changes = UNCHANGED;
+    changes.priority = Priority::new(-7);
+    changes.account = Account::new("physics");
+    after(record, stamp(9, 2), set(alloc, changes, &[])?)
+}
+
+/// The record with a priority, an account and a limit set, under a lesser stamp.
+fn set_early(alloc: Global, record: JobRecord) -> Result<JobRecord, Fail> {
+    let mut changes = UNCHANGED;
+    changes.priority = Priority::new(100);
+    changes.account = Account::new("zoology");
+    changes.limit = Limit::new(60);
+    after(record, stamp(8, 3), set(alloc, changes, &[])?)
+}
+
+/// The record with the lesser stamp joined with that of the greater.
+fn joined_values(alloc: Global) -> Result<JobRecord, Fail> {
+    let seen = submitted(alloc, false)?;
+    let there = set_early(alloc, seen.copy()?)?;
+    let here = set_late(alloc, seen)?;
+    let mine = Version::default().with(stamp(9, 2));
+    let theirs = Version::default().with(job()).with(stamp(8, 3));
+    Ok(there.join(&theirs, &here, &mine)?)
 }
 
 /// Whether the readers answer the parts.
@@ -116,11 +204,15 @@ fn presence(seen: &JobRecord) -> ([bool; 3], bool, [bool; 5]) {
     (holds, seen.is_held(), sites)
 }
 
-#[test]
-fn a_submitted_job_is_read(rt: HostRuntime) -> Result<(), Fail> {
-    let values = values()?;
+/// Whether the readers answer what the Submit of a held job says.
+fn is_read_as_submitted(
+    seen: &JobRecord,
+    owner: Word,
+    values: JobValues,
+    touched: Version,
+) -> bool {
     let expected = JobParts {
-        owner: (job(), owner()?),
+        owner: (job(), owner),
         name: (job(), values.name),
         priority: (job(), values.priority),
         nodes: (job(), values.nodes),
@@ -131,12 +223,26 @@ fn a_submitted_job_is_read(rt: HostRuntime) -> Result<(), Fail> {
         deleted: false,
         grant: None,
         progress: UNBEGUN,
-        touched: Version::new([0, 0, 5, 0, 0, 0, 0, 0, 0, 0, 0, 0, 0, 0, 0, 0]).ok_or("touched")?,
+        touched,
     };
+    reads_as(seen, &expected)
+}
+
+#[test]
+fn a_submitted_job_is_read(rt: HostRuntime) -> Result<(), Fail> {
     let empty: JobRecord = Record::bottom(rt.alloc());
     assert!(rt; !empty.is_submitted());
+    let values = values().ok_or("values")?;
+    let touched = Version::new([0, 0, 5, 0, 0, 0, 0, 0, 0, 0, 0, 0, 0, 0, 0, 0]).ok_or("touched")?;
+    let owner = owner()?;
     let seen = submitted(rt.alloc(), true)?;
-    assert!(rt; reads_as(&seen, &expected));
+    assert!(rt; is_read_as_submitted(&seen, owner, values, touched));
+    Ok(())
+}
+
+#[test]
+fn a_submitted_job_has_its_hold_and_sites(rt: HostRuntime) -> Result<(), Fail> {
+    let seen = submitted(rt.alloc(), true)?;
     let here = presence(&seen);
     assert!(rt;
         here == (
@@ -150,102 +256,105 @@ fn a_submitted_job_is_read(rt: HostRuntime) -> Result<(), Fail> {
 }
 
 #[test]
-fn a_hold_that_a_release_has_not_seen_stays(rt: HostRuntime) -> Result<(), Fail> {
+fn a_released_job_is_queued(rt: HostRuntime) -> Result<(), Fail> {
     let held = submitted(rt.alloc(), true)?;
-    let copied = held.copy()?;
-    let removed = Vec::from_slice(rt.alloc(), &[(HoldKind::User, job())])?;
-    let release = Operation::Release {
-        job: job(),
-        removed,
-    };
-    let here = after(held, stamp(6, 2), release)?;
+    let here = released(rt.alloc(), held)?;
     assert!(rt; here.letter() == Some(Letter::Queued));
-    let hold = Operation::Hold {
-        job: job(),
-        kinds: HoldKinds::USER | HoldKinds::SYSTEM,
-    };
-    let there = after(copied, stamp(6, 3), hold)?;
-    let mine = Version::default().with(stamp(6, 2));
-    let theirs = Version::default().with(job()).with(stamp(6, 3));
-    let joined = here.join(&mine, &there, &theirs)?;
-    let left = [
-        (HoldKind::User, stamp(6, 3)),
-        (HoldKind::System, stamp(6, 3)),
-    ];
-    assert!(rt; joined.hold_tags().eq(left));
-    assert!(rt; joined.letter() == Some(Letter::Held));
-    assert!(rt; joined.touched() == mine.with(stamp(6, 3)));
     Ok(())
 }
 
 #[test]
-fn a_grant_is_handed_back_and_made_anew(rt: HostRuntime) -> Result<(), Fail> {
+fn a_hold_that_a_release_has_not_seen_stays(rt: HostRuntime) -> Result<(), Fail> {
+    let joined = joined_holds(rt.alloc())?;
+    let left = [
+        (HoldKind::User, stamp(6, 3)),
+        (HoldKind::System, stamp(6, 3)),
+    ];
+    let touched = Version::default().with(stamp(6, 2)).with(stamp(6, 3));
+    assert!(rt; joined.hold_tags().eq(left));
+    assert!(rt; joined.letter() == Some(Letter::Held));
+    assert!(rt; joined.touched() == touched);
+    Ok(())
+}
+
+#[test]
+fn a_grant_is_open(rt: HostRuntime) -> Result<(), Fail> {
     let term = Term::new(1).ok_or("first")?;
-    let next = Term::new(2).ok_or("second")?;
-    let grant = Operation::Grant {
-        job: job(),
-        site: site(4),
-        term,
-    };
-    let granted = after(submitted(rt.alloc(), false)?, stamp(6, 2), grant)?;
     let open = GrantStage::Open {
         term,
         stamp: stamp(6, 2),
         site: site(4),
     };
-    assert!(rt; granted.grant() == Some(open));
-    assert!(rt; granted.letter() == Some(Letter::Granted) && granted.holder() == Some(site(4)));
-    assert!(rt; granted.is_granted_to(site(4)) && !granted.is_granted_to(site(2)));
-    let hand_back = Operation::HandBack { job: job(), term };
-    let handed_back = after(granted, stamp(7, 4), hand_back)?;
+    let seen = granted(rt.alloc())?;
+    assert!(rt; seen.grant() == Some(open));
+    assert!(rt; seen.letter() == Some(Letter::Granted) && seen.holder() == Some(site(4)));
+    assert!(rt; seen.is_granted_to(site(4)) && !seen.is_granted_to(site(2)));
+    Ok(())
+}
+
+#[test]
+fn a_grant_is_handed_back(rt: HostRuntime) -> Result<(), Fail> {
+    let term = Term::new(1).ok_or("first")?;
     let returned = GrantStage::Returned {
         term,
         stamp: stamp(7, 4),
     };
-    assert!(rt; handed_back.grant() == Some(returned));
-    assert!(rt; handed_back.letter() == Some(Letter::Queued) && handed_back.holder().is_none());
-    assert!(rt; !handed_back.is_granted_to(site(4)));
+    let seen = handed_back(rt.alloc())?;
+    assert!(rt; seen.grant() == Some(returned));
+    assert!(rt; seen.letter() == Some(Letter::Queued) && seen.holder().is_none());
+    assert!(rt; !seen.is_granted_to(site(4)));
+    Ok(())
+}
+
+#[test]
+fn a_grant_handed_back_is_made_anew(rt: HostRuntime) -> Result<(), Fail> {
+    let term = Term::new(2).ok_or("second")?;
     let anew = Operation::Grant {
         job: job(),
         site: site(1),
-        term: next,
+        term,
     };
-    let again = after(handed_back, stamp(8, 2), anew)?;
     let opened = GrantStage::Open {
-        term: next,
+        term,
         stamp: stamp(8, 2),
         site: site(1),
     };
-    assert!(rt; again.grant() == Some(opened) && again.letter() == Some(Letter::Granted));
+    let seen = after(handed_back(rt.alloc())?, stamp(8, 2), anew)?;
+    assert!(rt; seen.grant() == Some(opened) && seen.letter() == Some(Letter::Granted));
+    Ok(())
+}
+
+#[test]
+fn a_deleted_job_is_gone(rt: HostRuntime) -> Result<(), Fail> {
+    let seen = submitted(rt.alloc(), true)?;
+    let gone = after(seen, stamp(6, 3), Operation::Delete { job: job() })?;
+    assert!(rt; gone.deleted() && gone.is_gone() && gone.letter().is_none());
     Ok(())
 }
 
 #[test]
 fn a_deleted_job_exits_where_it_has_begun(rt: HostRuntime) -> Result<(), Fail> {
-    let seen = submitted(rt.alloc(), true)?;
-    let copied = seen.copy()?;
-    let gone = after(copied, stamp(6, 3), Operation::Delete { job: job() })?;
-    assert!(rt; gone.deleted() && gone.is_gone() && gone.letter().is_none());
-    let begin = Operation::Begin {
-        job: job(),
-        beginning: beginning()?,
-    };
-    let begun = after(seen, stamp(7, 4), begin)?;
-    assert!(rt; begun.letter() == Some(Letter::Running) && beginning()?.end == 3700);
-    let exiting = after(begun, stamp(8, 3), Operation::Delete { job: job() })?;
-    assert!(rt; exiting.letter() == Some(Letter::Exiting) && !exiting.is_gone());
+    let running = begun(rt.alloc())?;
+    assert!(rt; running.letter() == Some(Letter::Running) && beginning()?.end == 3700);
+    let seen = exiting(rt.alloc())?;
+    assert!(rt; seen.letter() == Some(Letter::Exiting) && !seen.is_gone());
+    Ok(())
+}
+
+#[test]
+fn a_finished_job_is_gone(rt: HostRuntime) -> Result<(), Fail> {
     let ending = Ending {
         moment: Moment::new(200).ok_or("moment")?,
         status: 7,
     };
-    let finish = Operation::Finish { job: job(), ending };
-    let finished = after(exiting, stamp(9, 4), finish)?;
     let progress = Progress {
         begun: Some((stamp(7, 4), beginning()?)),
         finished: Some((stamp(9, 4), ending)),
     };
-    assert!(rt; finished.is_gone() && finished.letter().is_none());
-    assert!(rt; finished.progress() == progress);
+    let finish = Operation::Finish { job: job(), ending };
+    let seen = after(exiting(rt.alloc())?, stamp(9, 4), finish)?;
+    assert!(rt; seen.is_gone() && seen.letter().is_none());
+    assert!(rt; seen.progress() == progress);
     Ok(())
 }
 
@@ -264,22 +373,12 @@ fn has_latest_values(seen: &JobRecord) -> bool {
 
 #[test]
 fn the_values_of_the_greatest_stamp_count(rt: HostRuntime) -> Result<(), Fail> {
-    let mut changes = UNCHANGED;
-    changes.priority = Priority::new(-7);
-    changes.account = Account::new("physics");
-    let mut olds = UNCHANGED;
-    olds.priority = Priority::new(100);
-    olds.account = Account::new("zoology");
-    olds.limit = Limit::new(60);
-    let seen = submitted(rt.alloc(), false)?;
-    let copied = seen.copy()?;
-    let here = after(seen, stamp(9, 2), set(rt.alloc(), changes, &[])?)?;
-    let there = after(copied, stamp(8, 3), set(rt.alloc(), olds, &[])?)?;
-    let mine = Version::default().with(stamp(9, 2));
-    let theirs = Version::default().with(job()).with(stamp(8, 3));
-    let joined = there.join(&theirs, &here, &mine)?;
+    let joined = joined_values(rt.alloc())?;
     assert!(rt; has_latest_values(&joined));
-    let both = after(here, stamp(8, 3), set(rt.alloc(), olds, &[])?)?;
+    let both = set_early(
+        rt.alloc(),
+        set_late(rt.alloc(), submitted(rt.alloc(), false)?)?,
+    )?;
     assert!(rt; has_latest_values(&both));
     Ok(())
 }
@@ -322,11 +421,7 @@ fn made_again(alloc: Global, seen: &JobRecord) -> Result<JobRecord, Fail>
 
 #[test]
 fn a_record_is_made_of_what_it_reads_as(rt: HostRuntime) -> Result<(), Fail> {
-    let begin = Operation::Begin {
-        job: job(),
-        beginning: beginning()?,
-    };
-    let seen = after(submitted(rt.alloc(), true)?, stamp(7, 4), begin)?;
+    let seen = begun(rt.alloc())?;
     assert!(rt; seen.is_submitted());
     let again = made_again(rt.alloc(), &seen)?;
     assert!(rt; again == seen);
