@@ -47,9 +47,9 @@ fn taken_word(taken: Taken) -> &'static str {
 pub(crate) fn outcome_line(
     alloc: Global,
     roster: &Roster,
-    outcome: Outcome,
+    outcome: &Outcome,
 ) -> Result<String, Fail> {
-    match outcome {
+    match *outcome {
         Outcome::Replied(reply) => reply_text(alloc, roster, reply),
         Outcome::Refused(refusal) => numbered(alloc, "refused", refusal.number() as u64),
         Outcome::Packet(packet) => numbered(alloc, "packet", packet),

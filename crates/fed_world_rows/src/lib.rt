@@ -18,3 +18,5 @@ mod rows;
 mod runs;
 #[cfg(test)]
 mod texts;
+#[cfg(test)]
+mod values;

@@ -1,8 +1,8 @@
 //! The limits of a replica: counters, jobs and reservations.
-use crate::runs::{asker, site, submission};
-use fed_record::{Command, Refusal, Reply, Role, Who, Window};
+use crate::values::{asker, reservation, site, stamp, submission};
+use fed_record::{Command, Refusal, Reply, Role, Who};
 use fed_replica::Replica;
-use fed_stamp::{JobId, MAX_COUNTER, SiteId, Stamp};
+use fed_stamp::MAX_COUNTER;
 use fed_wire::{Packet, read};
 use std::alloc::Global;
 use std::test::Fail;
@@ -14,10 +14,6 @@ const LAST_COUNTER: &str = "{\"format\":1,\"jobs\":[],\"need\":[0,0,0,0,0,0,0,0,
 /// An empty packet of site 2 that reaches the last counter but one of its own.
 const LAST_BUT_ONE: &str = "{\"format\":2,\"jobs\":[],\"need\":[0,0,0,0,0,0,0,0,0,0,0,0,0,0,0,0],\
     \"reached\":[0,0,999999999,0,0,0,0,0,0,0,0,0,0,0,0,0],\"reservations\":[],\"sender\":2}";
-
-pub(crate) fn stamp(counter: u64, number: u8) -> Result<Stamp, Fail> {
-    Ok(Stamp::new(counter, site(number)?).ok_or("stamp")?)
-}
 
 pub(crate) fn replica(alloc: Global, number: u8) -> Result<Replica, Fail> {
     Ok(Replica::new(alloc, site(number)?))
@@ -34,16 +30,34 @@ fn grew_by(alloc: Global, replica: &mut Replica, text: &str) -> Result<bool, Fai
     grew(replica, &packet)
 }
 
-fn submit(replica: &mut Replica) -> Result<Result<Reply, Refusal>, Fail> {
-    let who = asker("ann", Role::User)?;
-    Ok(replica.act(&who, &submission()?))
+type Answer = Option<Result<Reply, Refusal>>;
+
+/// What is answered to the last of the commands, which are asked one after another.
+fn last_answer(replica: &mut Replica, who: &Who, commands: &[Command]) -> Answer {
+    let mut last = None;
+    for command in commands {
+        last = Some(replica.act(who, command));
+    }
+    last
+}
+
+/// What is answered to the command where an administrator asks it.
+fn answer(alloc: Global, replica: &mut Replica, command: Command) -> Result<Answer, Fail> {
+    let who = asker("root", Role::Administrator)?;
+    // the prover has no plan for a command that is lent from the stack
+    let commands = vec![in alloc; command]?;
+    Ok(last_answer(replica, &who, &commands))
+}
+
+fn submit(alloc: Global, replica: &mut Replica) -> Result<Answer, Fail> {
+    answer(alloc, replica, submission()?)
 }
 
 #[test]
 fn no_counter_is_above_the_last(rt: HostRuntime) -> Result<(), Fail> {
     let mut argonne = replica(rt.alloc(), 0)?;
     assert!(rt; grew_by(rt.alloc(), &mut argonne, LAST_COUNTER)?);
-    assert!(rt; submit(&mut argonne)? == Err(Refusal::ClockFull));
+    assert!(rt; submit(rt.alloc(), &mut argonne)? == Some(Err(Refusal::ClockFull)));
     assert!(rt; Refusal::ClockFull.number() == 15);
     Ok(())
 }
@@ -53,66 +67,61 @@ fn last_counter_is_used(rt: HostRuntime) -> Result<(), Fail> {
     let last = stamp(MAX_COUNTER, 1)?;
     let mut lemont = replica(rt.alloc(), 1)?;
     assert!(rt; grew_by(rt.alloc(), &mut lemont, LAST_BUT_ONE)?);
-    assert!(rt; submit(&mut lemont)? == Ok(Reply::Submitted(last)));
+    assert!(rt; submit(rt.alloc(), &mut lemont)? == Some(Ok(Reply::Submitted(last))));
     let packet = lemont.ship(site(0)?)?;
     let mut argonne = replica(rt.alloc(), 0)?;
     assert!(rt; grew(&mut argonne, &packet)?);
     assert!(rt; argonne.board().job(last).is_some());
-    assert!(rt; submit(&mut argonne)? == Err(Refusal::ClockFull));
+    assert!(rt; submit(rt.alloc(), &mut argonne)? == Some(Err(Refusal::ClockFull)));
     Ok(())
 }
 
-/// Asks argonne the command so many times, each to be answered by the identifier of the next counter: the first time that
-/// it is not, and what it is answered then.
-fn first_other_answer(
+/// How often the commands are asked until the answer is not the identifier of the next counter of argonne.
+fn times_until_another(
     replica: &mut Replica,
     who: &Who,
-    command: &Command,
-    times: u64,
-) -> Result<Option<(u64, Result<Reply, Refusal>)>, Fail> {
-    for counter in 1..=times {
-        let answer = replica.act(who, command);
+    commands: &[Command],
+) -> Result<Option<u64>, Fail> {
+    for counter in 1..=20_000 {
         let next = stamp(counter, 0)?;
-        if answer != Ok(Reply::Submitted(next)) && answer != Ok(Reply::Reserved(next)) {
-            return Ok(Some((counter, answer)));
+        let answer = last_answer(replica, who, commands);
+        if answer != Some(Ok(Reply::Submitted(next))) && answer != Some(Ok(Reply::Reserved(next))) {
+            return Ok(Some(counter));
         }
     }
     Ok(None)
 }
 
+fn times(alloc: Global, replica: &mut Replica, command: Command) -> Result<Option<u64>, Fail> {
+    let who = asker("root", Role::Administrator)?;
+    let commands = vec![in alloc; command]?;
+    times_until_another(replica, &who, &commands)
+}
+
 #[test]
 fn site_has_10_000_jobs(rt: HostRuntime) -> Result<(), Fail> {
-    let mut argonne = replica(rt.alloc(), 0)?;
-    let who = asker("ann", Role::User)?;
-    let command = submission()?;
-    let full = Err(Refusal::SiteFull);
-    assert!(rt; first_other_answer(&mut argonne, &who, &command, 20_000)? == Some((10_001, full)));
+    let alloc = rt.alloc();
+    let mut argonne = replica(alloc, 0)?;
+    assert!(rt; times(alloc, &mut argonne, submission()?)? == Some(10_001));
+    assert!(rt; submit(alloc, &mut argonne)? == Some(Err(Refusal::SiteFull)));
     let job = stamp(1, 0)?;
-    assert!(rt; argonne.act(&who, &Command::Delete { job }) == Ok(Reply::Done));
-    assert!(rt; argonne.act(&who, &command) == full);
+    assert!(rt; answer(alloc, &mut argonne, Command::Delete { job })? == Some(Ok(Reply::Done)));
+    assert!(rt; submit(alloc, &mut argonne)? == Some(Err(Refusal::SiteFull)));
     assert!(rt; Refusal::SiteFull.number() == 14);
     Ok(())
 }
 
-pub(crate) fn reservation() -> Result<Command, Fail> {
-    let window = Window {
-        site: site(0)?,
-        start: 50,
-        end: 60,
-        nodes: 8,
-    };
-    Ok(Command::Reserve { window })
-}
-
 #[test]
 fn site_has_1_000_reservations(rt: HostRuntime) -> Result<(), Fail> {
-    let mut argonne = replica(rt.alloc(), 0)?;
-    let who = asker("oz", Role::Operator)?;
-    let command = reservation()?;
-    let full = Err(Refusal::SiteFull);
-    assert!(rt; first_other_answer(&mut argonne, &who, &command, 2_000)? == Some((1_001, full)));
+    let alloc = rt.alloc();
+    let mut argonne = replica(alloc, 0)?;
+    assert!(rt; times(alloc, &mut argonne, reservation()?)? == Some(1_001));
+    let full = answer(alloc, &mut argonne, reservation()?)?;
+    assert!(rt; full == Some(Err(Refusal::SiteFull)));
     let reservation = stamp(1, 0)?;
-    assert!(rt; argonne.act(&who, &Command::Cancel { reservation }) == Ok(Reply::Done));
-    assert!(rt; argonne.act(&who, &command) == full);
+    let done = answer(alloc, &mut argonne, Command::Cancel { reservation })?;
+    assert!(rt; done == Some(Ok(Reply::Done)));
+    let full = answer(alloc, &mut argonne, self::reservation()?)?;
+    assert!(rt; full == Some(Err(Refusal::SiteFull)));
     Ok(())
 }

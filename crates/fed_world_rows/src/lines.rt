@@ -61,12 +61,7 @@ fn does(site: SiteId, who: Who, command: Command) -> Line {
 }
 
 /// What a site's own scheduler asks.
-fn scheduled(
-    roster: &Roster,
-    here: SiteId,
-    verb: &str,
-    words: &[&str],
-) -> Result<Command, Fail> {
+fn scheduled(roster: &Roster, here: SiteId, verb: &str, words: &[&str]) -> Result<Command, Fail> {
     let job = identifier(roster, here, words)?;
     match verb {
         "grant" => Ok(Command::Grant {

@@ -1,8 +1,9 @@
 //! Replicas and worlds where memory may be refused. A call answers as with ample memory, or by want of memory; then it
 //! leaves all as before, and answers as with ample memory when it is asked again. So the tests pass whichever growth is
 //! refused, which `rt try --test --fail-alloc N` does for the Nth.
-use crate::limits::{replica, reservation, stamp};
-use crate::runs::{asker, board, events, outcomes, site, submission, two_sites};
+use crate::limits::replica;
+use crate::runs::{board, events, outcomes, two_sites};
+use crate::values::{asker, reservation, site, stamp, submission};
 use fed_board::Board;
 use fed_lattice::NoMemory;
 use fed_record::{Changes, Command, HoldKinds, Reply, Role, Who};
@@ -36,15 +37,17 @@ fn commands() -> Result<[Command; 9], Fail> {
     let job = stamp(1, 0)?;
     let kinds = HoldKinds::USER | HoldKinds::SYSTEM;
     let changes = moved(1)?;
-    let reservation = stamp(5, 0)?;
+    let cancelled = stamp(5, 0)?;
     let asker = site(1)?;
     Ok([
         submission()?,
         Command::Hold { job, kinds },
         Command::Release { job, kinds },
         Command::Alter { job, changes },
-        self::reservation()?,
-        Command::Cancel { reservation },
+        reservation()?,
+        Command::Cancel {
+            reservation: cancelled,
+        },
         Command::Grant { job, asker },
         Command::Delete { job },
         submission()?,

@@ -40,15 +40,19 @@ impl Player {
 
     fn step(&mut self, event: &Event) -> Result<(), Fail> {
         let outcome = self.world.step(event)?;
+        let line = outcome_line(self.alloc, &self.roster, &outcome)?;
         self.outcomes.extend_from_slice(&[outcome])?;
-        let line = outcome_line(self.alloc, &self.roster, outcome)?;
         self.answer(&line)
     }
 
-    fn act(&mut self, site: SiteId, who: Who, commands: &[Command]) -> Result<(), Fail> {
+    fn act(&mut self, site: SiteId, who: &Who, commands: &[Command]) -> Result<(), Fail> {
         for command in commands {
-            let command = *command;
-            self.step(&Event::Do { site, who, command })?;
+            let event = Event::Do {
+                site,
+                who: *who,
+                command: *command,
+            };
+            self.step(&event)?;
         }
         Ok(())
     }
@@ -70,7 +74,7 @@ impl Player {
     fn ask(&mut self, line: &str) -> Result<(), Fail> {
         match read_line(self.alloc, &self.roster, line)? {
             Line::Happens(event) => self.step(&event),
-            Line::Acts(site, who, commands) => self.act(site, who, &commands),
+            Line::Acts(site, who, commands) => self.act(site, &who, &commands),
             Line::Lists(site, full, jobs) => self.list(site, full, &jobs),
             Line::Compares(site, other) => self.compare(site, other),
             Line::Misused(fault) => {

@@ -1,53 +1,35 @@
 //! Lists of events that are run at once.
 use crate::play::{Player, play};
 use crate::rows;
+use crate::values::{asker, site, stamp, submission};
 use fed_board::Board;
-use fed_record::{Account, Command, JobValues, Limit, Nodes, Priority, Reply, Role, Who};
+use fed_record::{Reply, Role};
 use fed_replica::Taken;
-use fed_stamp::{Roster, SiteId, SiteSet, Stamp, Word};
+use fed_stamp::Roster;
 use fed_world::{Event, Outcome, World, run};
 use std::alloc::Global;
 use std::test::Fail;
 
-pub(crate) fn site(number: u8) -> Result<SiteId, Fail> {
-    Ok(SiteId::new(number).ok_or("site")?)
-}
-
-pub(crate) fn asker(name: &str, role: Role) -> Result<Who, Fail> {
-    let user = Word::new(name).ok_or("user")?;
-    Ok(Who { user, role })
-}
-
-/// Submits a job that may run at the first two sites.
-pub(crate) fn submission() -> Result<Command, Fail> {
-    let values = JobValues {
-        name: Word::new("STDIN").ok_or("name")?,
-        priority: Priority::new(0).ok_or("priority")?,
-        nodes: Nodes::new(1).ok_or("nodes")?,
-        limit: Limit::new(3600).ok_or("limit")?,
-        account: Account::EMPTY,
-        sites: SiteSet::new(&[site(0)?, site(1)?]).ok_or("sites")?,
-    };
-    let held = false;
-    Ok(Command::Submit { values, held })
-}
-
 fn submit(number: u8) -> Result<Event, Fail> {
-    let site = site(number)?;
-    let who = asker("ann", Role::User)?;
-    let command = submission()?;
-    Ok(Event::Do { site, who, command })
+    Ok(Event::Do {
+        site: site(number)?,
+        who: asker("ann", Role::User)?,
+        command: submission()?,
+    })
 }
 
 fn ship(number: u8, to: u8) -> Result<Event, Fail> {
-    let site = self::site(number)?;
-    let to = self::site(to)?;
-    Ok(Event::Ship { site, to })
+    Ok(Event::Ship {
+        site: site(number)?,
+        to: site(to)?,
+    })
 }
 
 fn take(number: u8, packet: u64) -> Result<Event, Fail> {
-    let site = site(number)?;
-    Ok(Event::Take { site, packet })
+    Ok(Event::Take {
+        site: site(number)?,
+        packet,
+    })
 }
 
 pub(crate) fn two_sites() -> Result<Roster, Fail> {
@@ -69,13 +51,12 @@ pub(crate) fn events() -> Result<[Event; 8], Fail> {
 }
 
 pub(crate) fn outcomes() -> Result<[Outcome; 8], Fail> {
-    let first = Stamp::new(1, site(0)?).ok_or("stamp")?;
     Ok([
         Outcome::NoPacket,
         Outcome::NoSite,
         Outcome::NoSite,
         Outcome::NoSite,
-        Outcome::Replied(Reply::Submitted(first)),
+        Outcome::Replied(Reply::Submitted(stamp(1, 0)?)),
         Outcome::Packet(1),
         Outcome::Taken(Taken { grew: true }),
         Outcome::Taken(Taken { grew: false }),
