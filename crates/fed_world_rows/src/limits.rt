@@ -41,16 +41,34 @@ fn last_answer(replica: &mut Replica, who: &Who, commands: &[Command]) -> Answer
     last
 }
 
-/// What is answered to the command where an administrator asks it.
-fn answer(alloc: Global, replica: &mut Replica, command: Command) -> Result<Answer, Fail> {
+/// What is answered to the last of the commands where an administrator asks them.
+fn answer(replica: &mut Replica, commands: &[Command]) -> Result<Answer, Fail> {
     let who = asker("root", Role::Administrator)?;
-    // the prover has no plan for a command that is lent from the stack
-    let commands = vec![in alloc; command]?;
-    Ok(last_answer(replica, &who, &commands))
+    Ok(last_answer(replica, &who, commands))
+}
+
+// The prover has no plan for a command that a test holds outside of a list.
+fn submissions(alloc: Global) -> Result<Vec<Command>, Fail> {
+    Ok(vec![in alloc; submission()?]?)
+}
+
+fn deletions(alloc: Global) -> Result<Vec<Command>, Fail> {
+    let job = stamp(1, 0)?;
+    Ok(vec![in alloc; Command::Delete { job }]?)
+}
+
+fn reservations(alloc: Global) -> Result<Vec<Command>, Fail> {
+    Ok(vec![in alloc; reservation()?]?)
+}
+
+fn cancellations(alloc: Global) -> Result<Vec<Command>, Fail> {
+    let reservation = stamp(1, 0)?;
+    Ok(vec![in alloc; Command::Cancel { reservation }]?)
 }
 
 fn submit(alloc: Global, replica: &mut Replica) -> Result<Answer, Fail> {
-    answer(alloc, replica, submission()?)
+    let commands = submissions(alloc)?;
+    answer(replica, &commands)
 }
 
 #[test]
@@ -92,36 +110,32 @@ fn times_until_another(
     Ok(None)
 }
 
-fn times(alloc: Global, replica: &mut Replica, command: Command) -> Result<Option<u64>, Fail> {
+fn times(replica: &mut Replica, commands: &[Command]) -> Result<Option<u64>, Fail> {
     let who = asker("root", Role::Administrator)?;
-    let commands = vec![in alloc; command]?;
-    times_until_another(replica, &who, &commands)
+    times_until_another(replica, &who, commands)
 }
 
 #[test]
 fn site_has_10_000_jobs(rt: HostRuntime) -> Result<(), Fail> {
-    let alloc = rt.alloc();
-    let mut argonne = replica(alloc, 0)?;
-    assert!(rt; times(alloc, &mut argonne, submission()?)? == Some(10_001));
-    assert!(rt; submit(alloc, &mut argonne)? == Some(Err(Refusal::SiteFull)));
-    let job = stamp(1, 0)?;
-    assert!(rt; answer(alloc, &mut argonne, Command::Delete { job })? == Some(Ok(Reply::Done)));
-    assert!(rt; submit(alloc, &mut argonne)? == Some(Err(Refusal::SiteFull)));
+    let mut argonne = replica(rt.alloc(), 0)?;
+    let submissions = submissions(rt.alloc())?;
+    let deletions = deletions(rt.alloc())?;
+    assert!(rt; times(&mut argonne, &submissions)? == Some(10_001));
+    assert!(rt; answer(&mut argonne, &submissions)? == Some(Err(Refusal::SiteFull)));
+    assert!(rt; answer(&mut argonne, &deletions)? == Some(Ok(Reply::Done)));
+    assert!(rt; answer(&mut argonne, &submissions)? == Some(Err(Refusal::SiteFull)));
     assert!(rt; Refusal::SiteFull.number() == 14);
     Ok(())
 }
 
 #[test]
 fn site_has_1_000_reservations(rt: HostRuntime) -> Result<(), Fail> {
-    let alloc = rt.alloc();
-    let mut argonne = replica(alloc, 0)?;
-    assert!(rt; times(alloc, &mut argonne, reservation()?)? == Some(1_001));
-    let full = answer(alloc, &mut argonne, reservation()?)?;
-    assert!(rt; full == Some(Err(Refusal::SiteFull)));
-    let reservation = stamp(1, 0)?;
-    let done = answer(alloc, &mut argonne, Command::Cancel { reservation })?;
-    assert!(rt; done == Some(Ok(Reply::Done)));
-    let full = answer(alloc, &mut argonne, self::reservation()?)?;
-    assert!(rt; full == Some(Err(Refusal::SiteFull)));
+    let mut argonne = replica(rt.alloc(), 0)?;
+    let reservations = reservations(rt.alloc())?;
+    let cancellations = cancellations(rt.alloc())?;
+    assert!(rt; times(&mut argonne, &reservations)? == Some(1_001));
+    assert!(rt; answer(&mut argonne, &reservations)? == Some(Err(Refusal::SiteFull)));
+    assert!(rt; answer(&mut argonne, &cancellations)? == Some(Ok(Reply::Done)));
+    assert!(rt; answer(&mut argonne, &reservations)? == Some(Err(Refusal::SiteFull)));
     Ok(())
 }
