@@ -115,27 +115,44 @@ fn times(replica: &mut Replica, commands: &[Command]) -> Result<Option<u64>, Fai
     times_until_another(replica, &who, commands)
 }
 
+/// Whether the site is full once so many of the commands were done, and stays full when the first is undone.
+fn is_full_after(
+    replica: &mut Replica,
+    count: u64,
+    more: &[Command],
+    undoing: &[Command],
+) -> Result<bool, Fail> {
+    let full = Some(Err(Refusal::SiteFull));
+    let done = times(replica, more)? == Some(count.saturating_add(1));
+    let refused = answer(replica, more)? == full;
+    let undone = answer(replica, undoing)? == Some(Ok(Reply::Done));
+    let again = answer(replica, more)? == full;
+    Ok(done && refused && undone && again)
+}
+
+fn has_10_000_jobs(alloc: Global) -> Result<bool, Fail> {
+    let mut argonne = replica(alloc, 0)?;
+    let submissions = submissions(alloc)?;
+    let deletions = deletions(alloc)?;
+    is_full_after(&mut argonne, 10_000, &submissions, &deletions)
+}
+
+fn has_1_000_reservations(alloc: Global) -> Result<bool, Fail> {
+    let mut argonne = replica(alloc, 0)?;
+    let reservations = reservations(alloc)?;
+    let cancellations = cancellations(alloc)?;
+    is_full_after(&mut argonne, 1_000, &reservations, &cancellations)
+}
+
 #[test]
 fn site_has_10_000_jobs(rt: HostRuntime) -> Result<(), Fail> {
-    let mut argonne = replica(rt.alloc(), 0)?;
-    let submissions = submissions(rt.alloc())?;
-    let deletions = deletions(rt.alloc())?;
-    assert!(rt; times(&mut argonne, &submissions)? == Some(10_001));
-    assert!(rt; answer(&mut argonne, &submissions)? == Some(Err(Refusal::SiteFull)));
-    assert!(rt; answer(&mut argonne, &deletions)? == Some(Ok(Reply::Done)));
-    assert!(rt; answer(&mut argonne, &submissions)? == Some(Err(Refusal::SiteFull)));
+    assert!(rt; has_10_000_jobs(rt.alloc())?);
     assert!(rt; Refusal::SiteFull.number() == 14);
     Ok(())
 }
 
 #[test]
 fn site_has_1_000_reservations(rt: HostRuntime) -> Result<(), Fail> {
-    let mut argonne = replica(rt.alloc(), 0)?;
-    let reservations = reservations(rt.alloc())?;
-    let cancellations = cancellations(rt.alloc())?;
-    assert!(rt; times(&mut argonne, &reservations)? == Some(1_001));
-    assert!(rt; answer(&mut argonne, &reservations)? == Some(Err(Refusal::SiteFull)));
-    assert!(rt; answer(&mut argonne, &cancellations)? == Some(Ok(Reply::Done)));
-    assert!(rt; answer(&mut argonne, &reservations)? == Some(Err(Refusal::SiteFull)));
+    assert!(rt; has_1_000_reservations(rt.alloc())?);
     Ok(())
 }
