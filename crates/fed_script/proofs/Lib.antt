@@ -1,0 +1,4 @@
+pub mod LineCuts
+pub mod ReadableLines
+pub mod SiteWords
+pub mod WordCuts

@@ -1,0 +1,9 @@
+-- What a line of a script says.
+pub mod Asker
+pub mod Forms
+pub mod Line
+pub mod Lines
+pub mod LineView
+pub mod Rosters
+pub mod Values
+pub mod Verb

@@ -1,0 +1,50 @@
+//! Who asks.
+ghost use Rattle.std.specs.Prelude.{◌≡◌};
+ghost use Rattle.fed_script.specs.Asker.{role_in, scheduler as scheduler_of_site, user_in, who_in};
+
+use crate::verbs::Verb;
+use fed_record::{Role, Who};
+use fed_stamp::Word;
+
+/// The role that a word names.
+fn read_role(word: &str) -> Option<Role>
+    ensures { result ≡ role_in word.now }
+{
+    match word {
+        "operator" => Some(Role::Operator),
+        "admin" => Some(Role::Administrator),
+        _ => None,
+    }
+}
+
+/// The user of this name, in a role.
+fn read_user(role: Role, name: &str) -> Option<Who>
+    ensures { result ≡ user_in role name.now }
+{
+    if Verb::named(name).is_some() {
+        return None;
+    }
+    let user = Word::new(name)?;
+    Some(Who { user, role })
+}
+
+/// Who asks by the word `USER` or `USER/ROLE`, where ROLE is `operator` or `admin`. Without it the role is that of a user.
+/// `None` where the word has another form, or USER isn't a name or is a verb.
+pub(crate) fn read_who(word: &str) -> Option<Who>
+    ensures { result ≡ who_in word.now }
+{
+    match word.split_once('/') {
+        Some((name, role)) => read_user(read_role(role)?, name),
+        None => read_user(Role::User, word),
+    }
+}
+
+/// The site's own scheduler.
+pub(crate) fn scheduler() -> Who
+    ensures { result ≡ scheduler_of_site }
+{
+    Who {
+        user: Word::new("scheduler").unwrap(),
+        role: Role::User,
+    }
+}

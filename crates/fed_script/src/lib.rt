@@ -1,0 +1,23 @@
+//! What the lines of a script say.
+#![tactic(auto)]
+
+/// Who asks.
+mod askers;
+/// Commands that the words of a script say outside of the utilities.
+mod commands;
+/// Words that stand in a fixed number.
+mod forms;
+/// Cutting a script into lines, and a line into words.
+mod lines;
+/// The words of a script that name the sites.
+mod rosters;
+/// What a line of a script says.
+mod script_lines;
+/// What single words say.
+mod values;
+/// Verbs.
+mod verbs;
+
+pub use lines::split_line;
+pub use rosters::HeldRoster;
+pub use script_lines::{Line, read_first_line, read_later_line};

@@ -1,0 +1,63 @@
+//! Cutting a script into lines, and a line into words.
+ghost use Rattle.std.specs.Prelude.{◌≡◌, ◌<◌, [], ◌∷◌, IfOk, IfNone, IfSome, Some, None, length, map, option_map, position, ◌==◌, if◌then◌else◌};
+ghost use Rattle.std.specs.Str.Lines.{lines, strip_carriage_return};
+ghost use Rattle.fed_script.specs.Lines.{is_readable, words_of};
+
+use std::alloc::{AllocError, Global};
+use std::str;
+
+/// Cuts off the first line, which ends at a line feed or at the end of the script. A carriage return
+/// before the line feed is dropped.
+pub fn split_line(script: &[u8]) -> Option<(&[u8], &[u8])>
+    ensures none { IfNone result (lines script.now ≡ []) }
+    ensures some { IfSome result (λ cut. lines script.now ≡ cut.0.now ∷ lines cut.1.now) }
+    ensures shorter { IfSome result (λ cut. length cut.1.now < length script.now) }
+{
+    if script.is_empty() {
+        return None;
+    }
+    match line_end(script) {
+        Some(end) => Some((without_carriage_return(&script[..end]), &script[end + 1..])),
+        None => Some((script, &[])),
+    }
+}
+
+// The place of the first line feed.
+fn line_end(script: &[u8]) -> Option<usize>
+    ensures { result ≡ position (λ byte. byte == 10) script.now }
+{
+    script.iter().position(|byte| *byte == b'\n')
+}
+
+fn without_carriage_return(line: &[u8]) -> &[u8]
+    ensures { result.now ≡ strip_carriage_return line.now }
+{
+    match line {
+        [front @ .., b'\r'] => front,
+        _ => line,
+    }
+}
+
+/// The text of a line that has printable ASCII characters, spaces and tabs alone.
+pub fn line_text(line: &[u8]) -> Option<&str>
+    ensures { option_map (λ text. text.now) result ≡ (if is_readable line.now then Some line.now else None) }
+{
+    if is_readable(line) {
+        str::from_utf8(line).ok()
+    } else {
+        None
+    }
+}
+
+fn is_readable(line: &[u8]) -> bool
+    ensures { result ≡ is_readable line.now }
+{
+    line.iter().all(|byte| matches!(*byte, b' '..=b'~' | b'\t'))
+}
+
+/// The words of a line, which are parted by spaces and tabs.
+pub fn words(alloc: Global, line: &str) -> Result<Vec<&str>, AllocError>
+    ensures { IfOk result (λ words. map (λ word. word.now) words.items ≡ words_of line.now) }
+{
+    line.split_ascii_whitespace().collect(alloc)
+}

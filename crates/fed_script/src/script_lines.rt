@@ -1,0 +1,272 @@
+//! What a line of a script says.
+ghost use Rattle.std.specs.Prelude.{◌≡◌, IfOk, option_map};
+ghost use Rattle.fed_words.specs.Item.{words_of as texts_of};
+ghost use Rattle.fed_script.specs.Forms.{one, two};
+ghost use Rattle.fed_script.specs.Line.{act as act_of, asked_at, compares, first_line, first_line_in, is_comment as are_of_comment, later_line, later_line_in, ships, site_line, takes, user_line, verb_line, words_in};
+ghost use Rattle.fed_script.specs.LineView.{said_by};
+ghost use Rattle.fed_script.specs.Values.{packet as packet_of, site as site_of_roster};
+ghost use Rattle.fed_words.specs.Request.{request_in};
+
+use crate::askers::{read_who, scheduler};
+use crate::commands::{read_cancel, read_reserve, read_scheduled};
+use crate::forms::{one_word, two_words};
+use crate::lines::{line_text, words};
+use crate::rosters::{HeldRoster, read_roster};
+use crate::values::read_packet;
+use crate::verbs::Verb;
+use fed_lattice::NoMemory;
+use fed_record::{Command, Who};
+use fed_stamp::{JobId, Roster, SiteId};
+use fed_words::{Request, UsageFault, read_words};
+use std::alloc::Global;
+
+/// What a line of a script says.
+#[derive(Drop)]
+pub enum Line {
+    /// Nothing: it is empty or a comment.
+    Skip,
+    /// `roster NAME:NODES ..`
+    Begin { roster: HeldRoster },
+    /// Somebody, or the site's own scheduler, asks a site to do this, one command after another.
+    Act {
+        site: SiteId,
+        who: Who,
+        commands: Vec<Command>,
+    },
+    /// `SITE USER qstat ..`: a site lists these jobs, or all where none is named.
+    List {
+        site: SiteId,
+        /// Whether in full.
+        full: bool,
+        jobs: Vec<JobId>,
+    },
+    /// The words of a utility ask nothing.
+    Misuse { fault: UsageFault },
+    /// `SITE ship SITE`
+    Ship { site: SiteId, to: SiteId },
+    /// `SITE take PACKET`, a packet that was made.
+    Take { site: SiteId, packet: u64 },
+    /// `equal SITE SITE`
+    Compare { site: SiteId, other: SiteId },
+}
+
+/// The line that asks a site for one command.
+fn act(
+    alloc: Global,
+    site: SiteId,
+    who: Who,
+    command: Option<Command>,
+) -> Result<Option<Line>, NoMemory>
+    ensures { IfOk result (λ line. option_map said_by line ≡ act_of site who command) }
+{
+    let Some(command) = command else {
+        return Ok(None);
+    };
+    Ok(Some(Line::Act {
+        site,
+        who,
+        commands: Vec::from_slice(alloc, &[command])?,
+    }))
+}
+
+/// What the words of a utility ask of a site.
+fn read_asked(
+    alloc: Global,
+    roster: &Roster,
+    site: SiteId,
+    who: Who,
+    words: &[&str],
+) -> Result<Line, NoMemory>
+    ensures { IfOk result (λ line. said_by line ≡ asked_at site who (request_in roster.now site (texts_of words.now))) }
+{
+    match read_words(alloc, words, roster, site) {
+        Ok(Request::Acts(commands)) => Ok(Line::Act {
+            site,
+            who,
+            commands,
+        }),
+        Ok(Request::List { full, jobs }) => Ok(Line::List { site, full, jobs }),
+        Err(UsageFault::NoMemory) => Err(NoMemory),
+        Err(fault) => Ok(Line::Misuse { fault }),
+    }
+}
+
+/// `ship SITE`
+fn read_ship(roster: &Roster, site: SiteId, words: &[&str]) -> Option<Line>
+    ensures { option_map said_by result ≡ one (site_of_roster roster.now) (ships site) (texts_of words.now) }
+{
+    let to = roster.find(one_word(words)?)?;
+    Some(Line::Ship { site, to })
+}
+
+/// `take PACKET`
+fn read_take(made: u64, site: SiteId, words: &[&str]) -> Option<Line>
+    ensures { option_map said_by result ≡ one (packet_of made) (takes site) (texts_of words.now) }
+{
+    let packet = read_packet(made, one_word(words)?)?;
+    Some(Line::Take { site, packet })
+}
+
+/// What the words behind a verb say.
+fn read_verb(
+    alloc: Global,
+    roster: &Roster,
+    made: u64,
+    site: SiteId,
+    verb: Verb,
+    words: &[&str],
+) -> Result<Option<Line>, NoMemory>
+    ensures { IfOk result (λ line. option_map said_by line ≡ verb_line roster.now site made verb (texts_of words.now)) }
+{
+    match verb {
+        Verb::Ship => Ok(read_ship(roster, site, words)),
+        Verb::Take => Ok(read_take(made, site, words)),
+        Verb::Plan => Ok(None),
+        Verb::Grant | Verb::Begin | Verb::Finish | Verb::HandBack => {
+            act(alloc, site, scheduler(), read_scheduled(roster, site, verb, words))
+        }
+    }
+}
+
+/// What the words behind a user say.
+fn read_user_line(
+    alloc: Global,
+    roster: &Roster,
+    site: SiteId,
+    who: Who,
+    words: &[&str],
+) -> Result<Option<Line>, NoMemory>
+    ensures { IfOk result (λ line. option_map said_by line ≡ user_line roster.now site who (texts_of words.now)) }
+{
+    let Some((word, others)) = words.split_first() else {
+        return Ok(Some(read_asked(alloc, roster, site, who, words)?));
+    };
+    if *word == "reserve" {
+        act(alloc, site, who, read_reserve(roster, site, others))
+    } else if *word == "cancel" {
+        act(alloc, site, who, read_cancel(roster, site, others))
+    } else {
+        Ok(Some(read_asked(alloc, roster, site, who, words)?))
+    }
+}
+
+/// What the words behind the name of a site say.
+fn read_site_line(
+    alloc: Global,
+    roster: &Roster,
+    made: u64,
+    site: SiteId,
+    words: &[&str],
+) -> Result<Option<Line>, NoMemory>
+    ensures { IfOk result (λ line. option_map said_by line ≡ site_line roster.now site made (texts_of words.now)) }
+{
+    let Some((word, others)) = words.split_first() else {
+        return Ok(None);
+    };
+    if let Some(verb) = Verb::named(word) {
+        return read_verb(alloc, roster, made, site, verb, others);
+    }
+    match read_who(word) {
+        Some(who) => read_user_line(alloc, roster, site, who, others),
+        None => Ok(None),
+    }
+}
+
+/// `equal SITE SITE`
+fn read_compare(roster: &Roster, words: &[&str]) -> Option<Line>
+    ensures { option_map said_by result ≡ two (site_of_roster roster.now) (site_of_roster roster.now) compares (texts_of words.now) }
+{
+    let (site, other) = two_words(words)?;
+    let site = roster.find(site)?;
+    let other = roster.find(other)?;
+    Some(Line::Compare { site, other })
+}
+
+/// What the words of a line say behind the line of the roster.
+fn read_later_words(
+    alloc: Global,
+    roster: &Roster,
+    made: u64,
+    words: &[&str],
+) -> Result<Option<Line>, NoMemory>
+    ensures { IfOk result (λ line. option_map said_by line ≡ later_line roster.now made (texts_of words.now)) }
+{
+    let Some((first, others)) = words.split_first() else {
+        return Ok(Some(Line::Skip));
+    };
+    if *first == "equal" {
+        return Ok(read_compare(roster, others));
+    }
+    match roster.find(first) {
+        Some(site) => read_site_line(alloc, roster, made, site, others),
+        None => Ok(None),
+    }
+}
+
+/// What the words of a line say where no line of a roster stands before.
+fn read_first_words(alloc: Global, words: &[&str]) -> Result<Option<Line>, NoMemory>
+    ensures { IfOk result (λ line. option_map said_by line ≡ first_line (texts_of words.now)) }
+{
+    let Some((first, others)) = words.split_first() else {
+        return Ok(Some(Line::Skip));
+    };
+    if *first != "roster" {
+        return Ok(None);
+    }
+    match read_roster(alloc, others)? {
+        Some(roster) => Ok(Some(Line::Begin {
+            roster: HeldRoster::new(alloc, roster)?,
+        })),
+        None => Ok(None),
+    }
+}
+
+/// The words of a line, without those of a comment, or `None` where it has a byte that no line may have.
+fn line_words(alloc: Global, line: &[u8]) -> Result<Option<Vec<&str>>, NoMemory>
+    ensures { IfOk result (λ words. option_map (λ w. texts_of w.items) words ≡ words_in line.now) }
+{
+    let Some(text) = line_text(line) else {
+        return Ok(None);
+    };
+    let words = words(alloc, text)?;
+    if is_comment(&words) {
+        return Ok(Some(Vec::new(alloc)));
+    }
+    Ok(Some(words))
+}
+
+/// Whether the words are those of a comment.
+fn is_comment(words: &[&str]) -> bool
+    ensures { result ≡ are_of_comment (texts_of words.now) }
+{
+    match words.first() {
+        Some(first) => first.starts_with('#'),
+        None => false,
+    }
+}
+
+/// What a line says where no line of a roster stands before: it is skipped, or names the sites. `None` where it can't be
+/// read.
+pub fn read_first_line(alloc: Global, line: &[u8]) -> Result<Option<Line>, NoMemory>
+    ensures { IfOk result (λ said. option_map said_by said ≡ first_line_in line.now) }
+{
+    match line_words(alloc, line)? {
+        Some(words) => read_first_words(alloc, &words),
+        None => Ok(None),
+    }
+}
+
+/// What a line says behind the line of the roster, once `made` packets were made. `None` where it can't be read.
+pub fn read_later_line(
+    alloc: Global,
+    roster: &Roster,
+    made: u64,
+    line: &[u8],
+) -> Result<Option<Line>, NoMemory>
+    ensures { IfOk result (λ said. option_map said_by said ≡ later_line_in roster.now made line.now) }
+{
+    match line_words(alloc, line)? {
+        Some(words) => read_later_words(alloc, roster, made, &words),
+        None => Ok(None),
+    }
+}
