@@ -1,10 +1,8 @@
--- What the contracts of this crate cite.
+-- What is said to a script.
+pub mod Ends
 pub mod Fault
 pub mod Federation
-pub mod Instructions
-pub mod Lines
-pub mod Listing
+pub mod Outcome
 pub mod Reading
-pub mod Replay
-pub mod Rosters
-pub mod Session
+pub mod Said
+pub mod Script

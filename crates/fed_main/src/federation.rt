@@ -1,259 +1,206 @@
-//! The sites of a script with their boards, and the packets that were made.
-//!
-//! For now a packet is a copy of the whole board, and of the refusals 1 (the job isn't on the board) and 15 (there is
-//! no greater counter) are made.
-ghost use Rattle.std.specs.Prelude.{◌≡◌, ◌<◌, ◌≤◌, [], IfOk, OnOk, length, slice_index_or, string_bytes, true, false};
-ghost use Rattle.fed_stamp.specs.Version.{covers};
-ghost use Rattle.fed_record.specs.Operation.{body_of};
-ghost use Rattle.fed_board.specs.Board.{HasNamed, reads as reads_board};
-ghost use Rattle.fed_board.specs.View.{view};
-ghost use Rattle.fed_board.specs.ViewSteps.{add_to_view, join_views};
-ghost use Rattle.fed_main.specs.Federation.{board_of, reads, view_of, with_view};
-ghost use Rattle.fed_main.specs.Listing.{job_text as text_of_job};
-ghost use Rattle.fed_main.specs.Session.{Asks, Does, begun, can_run as is_runnable};
+//! The federation of a script.
+ghost use Rattle.std.specs.Prelude.{◌≡◌, ◌<◌, [], ◌++◌, codes, IfOk, MatchResult, length, option_map, Some, string_bytes};
+ghost use Rattle.std.specs.Fmt.{decimal};
+ghost use Rattle.fed_board.specs.Board.{reads as reads_board};
+ghost use Rattle.fed_qstat.specs.Listing.{listing};
+ghost use Rattle.fed_words.specs.Fault.{fault_number};
+ghost use Rattle.fed_world.specs.declared.events.Event.TheVariants.{Do};
+ghost use Rattle.fed_script.specs.LineSites.{HasSites};
+ghost use Rattle.fed_script.specs.LineView.{said_by};
+ghost use Rattle.fed_main.specs.Federation.{reads};
+ghost use Rattle.fed_main.specs.Outcome.{answer_line, outcome_text};
+ghost use Rattle.fed_main.specs.Script.{after_commands, after_event, answered, compared, later, lines_of, says, view_at};
 
-use crate::instructions::{Instruction, Request};
-use crate::listing::{identifier_text, job_text, list};
-use crate::requests::{alteration, submission};
-use crate::rosters::HeldRoster;
-use fed_board::{Board, boards_that_read_the_same_are_equal};
+use crate::answers::outcome_line;
+use fed_board::Board;
 use fed_lattice::NoMemory;
-use fed_record::{Operation, Priority};
-use fed_stamp::{JobId, Roster, SiteId, Stamp, Word};
+use fed_qstat::{full as list_in_full, list};
+use fed_record::{Command, Who};
+use fed_script::laws::lines_name_sites_of_the_roster;
+use fed_script::{HeldRoster, Line, read_later_line};
+use fed_stamp::{JobId, Roster, SiteId};
+use fed_words::UsageFault;
+use fed_world::{Event, Outcome, World};
 use std::alloc::{AllocError, Global};
 use std::marker::Model;
 
-/// The sites of a script, a board for each, and the packets that were made.
+/// The sites that a script names, and the world of its run so far. It is seen as the roster and the events of the run.
 #[derive(Drop)]
-pub struct Federation {
+pub(crate) struct Federation {
     roster: HeldRoster,
-    boards: Vec<Board>,
-    packets: Vec<Board>,
+    world: World,
 }
 
 impl Model for Federation {
+    ghost use Rattle.std.specs.Prelude.{◌≡◌, length};
+    ghost use Rattle.fed_stamp.specs.Roster.{IsRoster};
     ghost use Rattle.fed_main.specs.Federation.{FederationValue};
 
     ghost Value = { FederationValue };
 
-    ghost view = { λ f. record { roster = f.roster; boards = f.boards.items; packets = f.packets.items } };
+    ghost view = { λ f. record { roster = f.roster; events = f.world.events } };
+
+    ghost invariant = { λ f. (f.world.sites ≡ length f.roster) × IsRoster f.roster };
 }
 
 impl Federation {
-    /// A federation with a board of no operation at each site.
-    pub fn new(alloc: Global, roster: HeldRoster) -> Result<Federation, AllocError>
-        ensures { IfOk result (λ f. reads f ≡ begun roster) }
+    /// A federation in which nothing has happened yet.
+    pub(crate) fn new(alloc: Global, roster: HeldRoster) -> Result<Federation, NoMemory>
+        ensures { IfOk result (λ f. f ≡ record { roster = roster; events = [] }) }
     {
-        let mut boards = Vec::new(alloc);
-        for _site in 0..roster.get().len() {
-            boards.push(Board::new(alloc))?;
-        }
-        Ok(Federation {
-            roster,
-            boards,
-            packets: Vec::new(alloc),
-        })
+        let _sites = roster.get().len();
+        let world = World::new(alloc, roster.get())?;
+        Ok(Federation { roster, world })
     }
 
     /// The sites.
-    pub fn roster(&self) -> &Roster
+    fn roster(&self) -> &Roster
         ensures { result.now ≡ self.now.roster }
     {
         self.roster.get()
     }
 
-    /// Whether the sites of an instruction are of the federation and its packet has been made.
-    pub fn can_run(&self, instruction: &Instruction) -> bool
-        ensures { result ≡ is_runnable (reads self.now) instruction.now }
-    {
-        let sites = self.boards.len();
-        match instruction {
-            Instruction::Ask { site, .. } => (site.get() as usize) < sites,
-            Instruction::Ship { site, .. } => (site.get() as usize) < sites,
-            Instruction::Take { site, packet } => {
-                (site.get() as usize) < sites
-                    && 1 <= *packet
-                    && *packet <= self.packets.len() as u64
-            }
-            Instruction::Compare { site, other } => {
-                (site.get() as usize) < sites && (other.get() as usize) < sites
-            }
-        }
-    }
-
     /// The board of a site.
     fn board(&self, site: SiteId) -> &Board
-        requires { site < length self.now.boards }
-        ensures value { result.now ≡ board_of self.now site }
-        ensures reads { reads_board result.now ≡ view_of (reads self.now) site }
+        requires { site < length self.now.roster }
+        ensures { reads_board result.now ≡ view_at (reads self.now) site }
     {
-        &self.boards[site.get() as usize]
+        self.world.board(site).unwrap()
     }
 
-    /// Adds an operation to the board of a site.
-    fn add(&mut self, site: SiteId, at: Stamp, operation: &Operation) -> Result<(), NoMemory>
-        requires site { site < length self.old.boards }
-        requires fresh { covers (view_of (reads self.old) site).version at ≡ false }
-        requires named { HasNamed (board_of self.old site) (body_of operation.now) }
-        ensures { OnOk result (reads self.new ≡ with_view (reads self.old) site
-            (add_to_view (view_of (reads self.old) site) (at, body_of operation.now))) }
+    /// The line that answers an event, where memory was not refused to it.
+    fn answer(&self, alloc: Global, outcome: Result<Outcome, NoMemory>) -> Result<String, NoMemory>
+        ensures { IfOk result (λ text. MatchResult outcome
+            (λ o. string_bytes text ≡ answer_line (outcome_text self.now.roster o)) (λ _. ⊥)) }
     {
-        let board = &mut self.boards[site.get() as usize];
-        board.apply(at, operation)
-    }
-
-    /// Submits a job.
-    fn submit(&mut self, alloc: Global, site: SiteId, user: Word) -> Result<String, NoMemory>
-        requires { site < length self.old.boards }
-        ensures { IfOk result (λ text. Asks (reads self.old) site user Request.Submit (reads self.new)
-            (string_bytes text)) }
-    {
-        match self.board(site).version().next(site) {
-            Ok(at) => {
-                let mut text = identifier_text(alloc, self.roster(), at)?;
-                text.push_str("\n")?;
-                let operation = submission(alloc, self.roster(), user)?;
-                self.add(site, at, &operation)?;
-                Ok(text)
-            }
-            Err(_) => Ok(String::from_str(alloc, "refused 15\n")?),
+        match outcome {
+            Ok(outcome) => Ok(outcome_line(alloc, self.roster(), outcome)?),
+            Err(refused) => Err(refused),
         }
     }
 
-    /// Sets the priority of a job.
-    fn prioritize(
+    /// One event more.
+    fn happen(&mut self, alloc: Global, event: &Event) -> Result<String, NoMemory>
+        ensures { IfOk result (λ text.
+            after_event (reads self.old) event.now ≡ says (reads self.new) (string_bytes text)) }
+    {
+        let outcome = self.world.step(event);
+        self.answer(alloc, outcome)
+    }
+
+    /// Somebody asks a site for a command.
+    fn ask(
         &mut self,
         alloc: Global,
         site: SiteId,
-        user: Word,
-        priority: Priority,
-        job: JobId,
+        who: &Who,
+        command: &Command,
     ) -> Result<String, NoMemory>
-        requires { site < length self.old.boards }
-        ensures { IfOk result (λ text. Asks (reads self.old) site user (Request.Prioritize priority job)
-            (reads self.new) (string_bytes text)) }
+        ensures { IfOk result (λ text.
+            after_event (reads self.old) (Do site who.now command.now) ≡ says (reads self.new) (string_bytes text)) }
     {
-        if self.board(site).job(job).is_none() {
-            return Ok(String::from_str(alloc, "refused 1\n")?);
-        }
-        match self.board(site).version().next(site) {
-            Ok(at) => {
-                let text = String::from_str(alloc, "done\n")?;
-                let operation = alteration(alloc, job, priority);
-                self.add(site, at, &operation)?;
-                Ok(text)
-            }
-            Err(_) => Ok(String::from_str(alloc, "refused 15\n")?),
-        }
+        let event = Event::Do {
+            site,
+            who: *who,
+            command: *command,
+        };
+        self.happen(alloc, &event)
     }
 
-    /// Lists one job, or nothing where it is not on the board.
-    fn list_one(&self, alloc: Global, site: SiteId, job: JobId) -> Result<String, AllocError>
-        requires { site < length self.now.boards }
-        ensures { IfOk result (λ text. string_bytes text ≡ text_of_job self.now.roster job
-            ((view_of (reads self.now) site).job job)) }
+    /// Somebody asks a site for commands, one after another.
+    fn act(
+        &mut self,
+        alloc: Global,
+        site: SiteId,
+        who: &Who,
+        commands: &[Command],
+    ) -> Result<String, NoMemory>
+        ensures { IfOk result (λ text.
+            after_commands (reads self.old) site who.now commands.now ≡ says (reads self.new) (string_bytes text)) }
     {
-        match self.board(site).job(job) {
-            Some(held) => job_text(alloc, self.roster(), job, held),
-            None => Ok(String::new(alloc)),
+        let mut text = String::new(alloc);
+        for command in commands {
+            let answer = self.ask(alloc, site, who, command)?;
+            text.push_str(answer.as_str())?;
         }
-    }
-
-    /// Makes a packet of the board of a site.
-    fn ship(&mut self, alloc: Global, site: SiteId, to: SiteId) -> Result<String, NoMemory>
-        requires { site < length self.old.boards }
-        ensures { IfOk result (λ text. Does (reads self.old) (Instruction.Ship site to) (reads self.new)
-            (string_bytes text)) }
-    {
-        let number = self.packets.len() + 1;
-        let text = format!(in alloc; "packet {number}\n")?;
-        let packet = self.board(site).copy()?;
-        self.packets.push(packet)?;
         Ok(text)
     }
 
-    /// Merges a packet into the board of a site.
-    fn merge(&mut self, site: SiteId, place: usize) -> Result<(), NoMemory>
-        requires site { site < length self.old.boards }
-        requires made { place < length self.old.packets }
-        ensures { OnOk result (reads self.new ≡ with_view (reads self.old) site
-            (join_views (view_of (reads self.old) site) (slice_index_or (reads self.old).packets place (view [])))) }
+    /// A site lists jobs.
+    fn list(
+        &self,
+        alloc: Global,
+        site: SiteId,
+        is_full: bool,
+        jobs: &[JobId],
+    ) -> Result<String, NoMemory>
+        requires { site < length self.now.roster }
+        ensures { IfOk result (λ text. string_bytes text ≡
+            listing (lines_of is_full self.now.roster) (view_at (reads self.now) site) jobs.now) }
     {
-        let packet = &self.packets[place];
-        let board = &mut self.boards[site.get() as usize];
-        board.merge(packet)
-    }
-
-    /// A site takes a packet.
-    fn take(&mut self, alloc: Global, site: SiteId, packet: u64) -> Result<String, NoMemory>
-        requires site { site < length self.old.boards }
-        requires from_1 { 1 ≤ packet }
-        requires made { packet ≤ length self.old.packets }
-        ensures { IfOk result (λ text. Does (reads self.old) (Instruction.Take site packet) (reads self.new)
-            (string_bytes text)) }
-    {
-        let before = self.board(site).version();
-        self.merge(site, packet as usize - 1)?;
-        if self.board(site).version().le(&before) {
-            Ok(String::from_str(alloc, "known\n")?)
+        if is_full {
+            list_in_full(alloc, self.board(site), self.roster(), jobs)
         } else {
-            Ok(String::from_str(alloc, "taken\n")?)
+            list(alloc, self.board(site), self.roster(), jobs)
         }
     }
 
-    /// Compares the boards of two sites.
+    /// Whether the boards of two sites are equal, which their versions tell.
     fn compare(&self, alloc: Global, site: SiteId, other: SiteId) -> Result<String, AllocError>
-        requires site { site < length self.now.boards }
-        requires other { other < length self.now.boards }
-        ensures { IfOk result (λ text. Does (reads self.now) (Instruction.Compare site other) (reads self.now)
-            (string_bytes text)) }
+        requires site { site < length self.now.roster }
+        requires other { other < length self.now.roster }
+        ensures { IfOk result (λ text. string_bytes text ≡ answer_line (compared (reads self.now) site other)) }
     {
-        let here = self.board(site);
-        let there = self.board(other);
-        boards_that_read_the_same_are_equal(here, there);
-        if here.eq(there) {
+        let here = self.board(site).version();
+        let there = self.board(other).version();
+        if here.le(&there) && there.le(&here) {
             String::from_str(alloc, "equal\n")
         } else {
             String::from_str(alloc, "different\n")
         }
     }
 
-    /// Answers a request of a user.
-    fn ask(
-        &mut self,
-        alloc: Global,
-        site: SiteId,
-        user: Word,
-        request: Request,
-    ) -> Result<String, NoMemory>
-        requires { site < length self.old.boards }
-        ensures { IfOk result (λ text. Asks (reads self.old) site user request (reads self.new) (string_bytes text)) }
+    /// Does what a line says, and gives the text that answers it.
+    fn do_line(&mut self, alloc: Global, line: Line) -> Result<String, NoMemory>
+        requires { HasSites (length self.old.roster) (said_by line) }
+        ensures { IfOk result (λ text.
+            later (reads self.old) (said_by line) ≡ says (reads self.new) (string_bytes text)) }
     {
-        match request {
-            Request::Submit => self.submit(alloc, site, user),
-            Request::Prioritize { priority, job } => {
-                self.prioritize(alloc, site, user, priority, job)
-            }
-            Request::ListAll => { Ok(list(alloc, self.roster(), self.board(site))?) }
-            Request::ListOne { job } => Ok(self.list_one(alloc, site, job)?),
-            Request::Misused => Ok(String::from_str(alloc, "usage 1\n")?),
+        match line {
+            Line::Skip => Ok(String::new(alloc)),
+            Line::Begin { .. } => Ok(String::new(alloc)),
+            Line::Act {
+                site,
+                who,
+                commands,
+            } => self.act(alloc, site, &who, &commands),
+            Line::List { site, full, jobs } => self.list(alloc, site, full, &jobs),
+            Line::Misuse { fault } => Ok(usage_line(alloc, fault)?),
+            Line::Ship { site, to } => self.happen(alloc, &Event::Ship { site, to }),
+            Line::Take { site, packet } => self.happen(alloc, &Event::Take { site, packet }),
+            Line::Compare { site, other } => Ok(self.compare(alloc, site, other)?),
         }
     }
 
-    /// Runs an instruction, and gives the text that answers it.
-    pub fn run(&mut self, alloc: Global, instruction: Instruction) -> Result<String, NoMemory>
-        requires { is_runnable (reads self.old) instruction ≡ true }
-        ensures { IfOk result (λ text. Does (reads self.old) instruction (reads self.new) (string_bytes text)) }
+    /// Runs a line, and gives the text that answers it, or `None` where the line can't be read.
+    #[tactic(auto, using(crate::proofs::Federations::done_line))]
+    pub(crate) fn run_line(&mut self, alloc: Global, bytes: &[u8]) -> Result<Option<String>, NoMemory>
+        ensures { IfOk result (λ text. option_map (λ t. says (Some (reads self.new)) (string_bytes t)) text ≡
+            answered (Some (reads self.old)) bytes.now) }
     {
-        match instruction {
-            Instruction::Ask {
-                site,
-                user,
-                request,
-            } => self.ask(alloc, site, user, request),
-            Instruction::Ship { site, to } => self.ship(alloc, site, to),
-            Instruction::Take { site, packet } => self.take(alloc, site, packet),
-            Instruction::Compare { site, other } => Ok(self.compare(alloc, site, other)?),
+        lines_name_sites_of_the_roster();
+        match read_later_line(alloc, self.roster(), self.world.made(), bytes)? {
+            Some(line) => Ok(Some(self.do_line(alloc, line)?)),
+            None => Ok(None),
         }
     }
+}
+
+/// The line that answers words of a utility that ask nothing.
+fn usage_line(alloc: Global, fault: UsageFault) -> Result<String, AllocError>
+    ensures { IfOk result (λ text. string_bytes text ≡
+        answer_line (codes "usage " ++ decimal (fault_number fault))) }
+{
+    let number = fault.number();
+    format!(in alloc; "usage {number}\n")
 }

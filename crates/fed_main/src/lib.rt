@@ -1,18 +1,20 @@
 //! Replaying the scripts of a federation of batch queues.
 #![tactic(auto)]
 
+/// The texts that answer events.
+mod answers;
+/// Why a run ends early.
 mod fault;
+/// The federation of a script.
 mod federation;
-mod instructions;
-mod laws;
-mod lines;
-mod listing;
-mod requests;
-mod rosters;
+/// Laws of what scripts do.
+pub mod laws;
+/// Replaying a script: its lines run in order, each answered before the next one runs.
 mod run;
+/// Reading a script to its end.
 mod script;
+/// What the lines of a script do, one after another.
 mod session;
 
 pub use fault::RunFault;
-pub use laws::lines_have_one_answer;
 pub use run::replay;

@@ -6,7 +6,7 @@ use fed_stamp::{JobId, Roster, SiteId};
 use std::alloc::{AllocError, Global};
 
 /// The name of a site, or `#` and its number where the roster has no such site.
-pub(crate) fn site_text(alloc: Global, roster: &Roster, site: SiteId) -> Result<String, AllocError>
+pub fn site_text(alloc: Global, roster: &Roster, site: SiteId) -> Result<String, AllocError>
     ensures { IfOk result (λ text. string_bytes text ≡ text_of_site roster.now site) }
 {
     match roster.name(site) {

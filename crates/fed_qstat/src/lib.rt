@@ -14,7 +14,7 @@ pub mod listings;
 /// The short listing.
 mod short_lines;
 
-pub use identifiers::identifier_text;
+pub use identifiers::{identifier_text, site_text};
 pub use listings::{full, list};
 
 #[cfg(test)]

@@ -1,4 +1,5 @@
 pub mod LineCuts
 pub mod ReadableLines
 pub mod SiteWords
+pub mod SitesOfLines
 pub mod WordCuts

@@ -2,8 +2,9 @@
 pub mod Asker
 pub mod Forms
 pub mod Line
-pub mod Lines
+pub mod LineSites
 pub mod LineView
+pub mod Lines
 pub mod Rosters
 pub mod Values
 pub mod Verb

@@ -7,6 +7,8 @@ mod askers;
 mod commands;
 /// Words that stand in a fixed number.
 mod forms;
+/// Laws of the lines of a script.
+pub mod laws;
 /// Cutting a script into lines, and a line into words.
 mod lines;
 /// The words of a script that name the sites.

@@ -96,6 +96,13 @@ impl World {
         }
     }
 
+    /// How many packets were made.
+    pub fn made(&self) -> u64
+        ensures { result ≡ length (run_of self.now.sites self.now.events).packets }
+    {
+        self.texts.len() as u64
+    }
+
     /// The text of the packet with the number, or `None` where none was made with it: packets are numbered from 1, in
     /// the order in which they were made. It is the format 2 text of the packet that is sent of what the run's packet
     /// gives, is within limits, and so is read as that packet again.

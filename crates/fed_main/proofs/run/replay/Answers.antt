@@ -1,5 +1,5 @@
-use Rattle.fed_main.proofs.Runs.{EndsAs-kept, EndsAs-unread, IfSome-all, IfSome-read}
-use Rattle.fed_main.specs.Replay.{EndsAs}
+use Rattle.fed_main.proofs.Written.{EndsAs-kept, EndsAs-unread, IfSome-all, IfSome-read}
+use Rattle.fed_main.specs.Ends.{EndsAs}
 use Rattle.fed_main.proofs.run.replay.Goals as goal
 
 pub returns-in-Err-clause-replays : goal.returns-in-Err-clause-replays

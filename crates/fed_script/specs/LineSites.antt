@@ -1,0 +1,14 @@
+-- The sites that a line names.
+use Rattle.std.specs.Prelude.{ℕ, ◌<◌}
+use Rattle.fed_script.specs.Line.{Line, skips, begins, acts, lists, misuses, ships, takes, compares}
+
+-- the sites that the line names are of a federation of n sites
+abbrev pub HasSites : ℕ → Line → Type 0
+HasSites n skips = Unit {0}
+HasSites n (begins roster) = Unit {0}
+HasSites n (acts site who commands) = site < n
+HasSites n (lists site full jobs) = site < n
+HasSites n (misuses fault) = Unit {0}
+HasSites n (ships site to) = (site < n) × (to < n)
+HasSites n (takes site packet) = site < n
+HasSites n (compares site other) = (site < n) × (other < n)
