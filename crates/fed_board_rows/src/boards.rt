@@ -72,13 +72,23 @@ pub(crate) fn after(board: &Board, at: Stamp, operation: &Operation) -> Result<B
     Ok(later)
 }
 
+/// A copy of the first board, merged with the second.
+fn merged_into(a: &Board, b: &Board) -> Result<Board, Fail> {
+    let mut board = a.copy()?;
+    board.merge(b)?;
+    Ok(board)
+}
+
+fn are_equal(left: &Board, right: &Board) -> Result<(), Fail> {
+    (left == right).then_some(()).ok_or("the two sides differ")?;
+    Ok(())
+}
+
 /// What the two boards merge to, which is the same from either side.
 fn merged(a: &Board, b: &Board) -> Result<Board, Fail> {
-    let mut left = a.copy()?;
-    left.merge(b)?;
-    let mut right = b.copy()?;
-    right.merge(a)?;
-    (left == right).then_some(()).ok_or("the two sides differ")?;
+    let left = merged_into(a, b)?;
+    let right = merged_into(b, a)?;
+    are_equal(&left, &right)?;
     Ok(left)
 }
 
@@ -98,25 +108,46 @@ fn merged_grant(a: &Board, b: &Board, job: Stamp) -> Result<Option<GrantStage>, 
     Ok(grant(&merged(a, b)?, job))
 }
 
-/// What two sites with a job each merge to, which neither had before.
-fn exchanged(alloc: Global, first: Stamp, second: Stamp) -> Result<Board, Fail> {
+fn is_neither(both: &Board, a: &Board, b: &Board) -> Result<(), Fail> {
+    (both != a && both != b)
+        .then_some(())
+        .ok_or("nothing is exchanged")?;
+    Ok(())
+}
+
+/// What two boards merge to, which neither was before.
+fn exchanged(a: &Board, b: &Board) -> Result<Board, Fail> {
+    let both = merged(a, b)?;
+    is_neither(&both, a, b)?;
+    Ok(both)
+}
+
+/// What two sites with a job each merge to.
+fn both_submitted(alloc: Global, first: Stamp, second: Stamp) -> Result<Board, Fail> {
     let a = submitted(alloc, first, false)?;
     let b = submitted(alloc, second, false)?;
-    let both = merged(&a, &b)?;
-    let is_new = both != a && both != b;
-    is_new.then_some(()).ok_or("nothing is exchanged")?;
-    Ok(both)
+    exchanged(&a, &b)
+}
+
+/// Whether the jobs of the board are these two, in this order.
+fn has_jobs(board: &Board, names: [Stamp; 2]) -> bool {
+    board.jobs().map(|(name, _record)| *name).eq(names)
 }
 
 #[test]
 fn two_sites_submit_and_exchange(rt: HostRuntime) -> Result<(), Fail> {
     let first = stamp(1, 0);
     let second = stamp(1, 1);
-    let both = exchanged(rt.alloc(), first, second)?;
-    assert!(rt; both.jobs().map(|(name, _record)| *name).eq([first, second]));
+    let both = both_submitted(rt.alloc(), first, second)?;
+    assert!(rt; has_jobs(&both, [first, second]));
     assert!(rt; both.job_count(first.site()) == 1);
-    let a = submitted(rt.alloc(), first, false)?;
-    assert!(rt; a.job_count(second.site()) == 0);
+    Ok(())
+}
+
+#[test]
+fn jobs_count_at_the_site_that_names_them(rt: HostRuntime) -> Result<(), Fail> {
+    let board = submitted(rt.alloc(), stamp(1, 0), false)?;
+    assert!(rt; board.job_count(site(0)) == 1 && board.job_count(site(1)) == 0);
     Ok(())
 }
 
@@ -134,22 +165,35 @@ fn released_and_held(alloc: Global, job: Stamp) -> Result<(Board, Board), Fail> 
     Ok((a, b))
 }
 
+/// The letter of the job on the first board, and once what the second has is merged to it.
+fn letters_then(first: &Board, second: &Board, job: Stamp) -> Result<[Option<Letter>; 2], Fail> {
+    Ok([letter(first, job), merged_letter(first, second, job)?])
+}
+
+/// The letters of a job where it was released, and where a hold comes that the release has not seen.
+fn letters_of_a_new_hold(alloc: Global, job: Stamp) -> Result<[Option<Letter>; 2], Fail> {
+    let (a, b) = released_and_held(alloc, job)?;
+    letters_then(&a, &b, job)
+}
+
 #[test]
 fn hold_that_a_release_has_not_seen_stays(rt: HostRuntime) -> Result<(), Fail> {
-    let job = stamp(1, 0);
-    let (a, b) = released_and_held(rt.alloc(), job)?;
-    assert!(rt; letter(&a, job) == Some(Letter::Queued));
-    assert!(rt; merged_letter(&b, &a, job)? == Some(Letter::Held));
+    let letters = letters_of_a_new_hold(rt.alloc(), stamp(1, 0))?;
+    assert!(rt; letters == [Some(Letter::Queued), Some(Letter::Held)]);
     Ok(())
+}
+
+/// The letters of a held job on a board that is late, and once it learns of the release.
+fn letters_of_a_late_board(alloc: Global, job: Stamp) -> Result<[Option<Letter>; 2], Fail> {
+    let late = submitted(alloc, job, true)?;
+    let queued = released(alloc, &late, job, stamp(2, 1))?;
+    letters_then(&late, &queued, job)
 }
 
 #[test]
 fn late_board_brings_no_hold_back(rt: HostRuntime) -> Result<(), Fail> {
-    let job = stamp(1, 0);
-    let late = submitted(rt.alloc(), job, true)?;
-    let b = released(rt.alloc(), &late, job, stamp(2, 1))?;
-    assert!(rt; letter(&late, job) == Some(Letter::Held));
-    assert!(rt; merged_letter(&late, &b, job)? == Some(Letter::Queued));
+    let letters = letters_of_a_late_board(rt.alloc(), stamp(1, 0))?;
+    assert!(rt; letters == [Some(Letter::Held), Some(Letter::Queued)]);
     Ok(())
 }
 
@@ -189,6 +233,17 @@ fn granted_anew(alloc: Global, job: Stamp, at: Stamp, term: Term) -> Result<(Boa
     Ok((a, b))
 }
 
+/// The grant of this term once the two boards are merged.
+fn grant_made_anew(
+    alloc: Global,
+    job: Stamp,
+    at: Stamp,
+    term: Term,
+) -> Result<Option<GrantStage>, Fail> {
+    let (a, b) = granted_anew(alloc, job, at, term)?;
+    merged_grant(&a, &b, job)
+}
+
 #[test]
 fn new_term_stands_above_a_grant_handed_back(rt: HostRuntime) -> Result<(), Fail> {
     let job = stamp(1, 0);
@@ -199,8 +254,7 @@ fn new_term_stands_above_a_grant_handed_back(rt: HostRuntime) -> Result<(), Fail
         stamp: at,
         site: site(1),
     };
-    let (a, b) = granted_anew(rt.alloc(), job, at, term)?;
-    assert!(rt; merged_grant(&a, &b, job)? == Some(open));
+    assert!(rt; grant_made_anew(rt.alloc(), job, at, term)? == Some(open));
     Ok(())
 }
 
