@@ -2,4 +2,14 @@
 #![tactic(auto)]
 
 #[cfg(test)]
-mod scripts;
+mod forms;
+#[cfg(test)]
+mod memory;
+#[cfg(test)]
+mod misused;
+#[cfg(test)]
+mod rows;
+#[cfg(test)]
+mod streams;
+#[cfg(test)]
+mod unreadable;
