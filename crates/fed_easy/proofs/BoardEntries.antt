@@ -1,0 +1,112 @@
+-- What is read of the entries of a board, and of their names.
+use Rattle.std.specs.declared.cmp.Ordering.TheVariants.{Less}
+use Rattle.std.specs.BTreeMap.{is_at}
+use Rattle.std.specs.List.{AllByRecursion, filter_map}
+use Rattle.std.specs.List.Sorted.{IsStrictlySortedBy}
+use Rattle.std.specs.Map.{keys_of, lookup}
+use Rattle.std.specs.Ordering.{is_eq}
+use Rattle.std.specs.Prelude.{min}
+use Rattle.std.proofs.Common.{◌≡◌, ℕ, List, [], ◌∷◌, ◌++◌, Bool, true, false, Option, Some, None, unwrap_or, refl, sym, ap, subst, ◌∙◌, ◌+◌, inl, inr, append-nil}
+use Rattle.std.proofs.lemmas.Cmp.{tied_itself}
+use Rattle.std.proofs.lemmas.Map.Views.{tells_apart}
+use Rattle.fed_stamp.specs.Stamp.{StampValue}
+use Rattle.fed_lattice.specs.ExactLaws.{exact_stamp}
+use Rattle.fed_lattice.specs.Latest.{stamp_cmp}
+use Rattle.fed_lattice.specs.LatestLaws.{stamp_total}
+use Rattle.fed_lattice.specs.Sets.{Has}
+use Rattle.fed_record.specs.JobRecord.{JobRecordValue, reads as reads_job}
+use Rattle.fed_record.specs.Reservation.{ReservationView}
+use Rattle.fed_board.specs.Board.{BoardValue, no_operation, reads}
+use Rattle.fed_board.specs.Names.{jobs_in, reservations_in}
+use Rattle.fed_easy.specs.declared.bookings.Booking.{Booking}
+use Rattle.fed_easy.specs.declared.machines.Running.{Running}
+use Rattle.fed_easy.specs.Machine.{running_in, running_of}
+use Rattle.fed_easy.specs.Queue.{queued, waiting_in}
+use Rattle.fed_easy.specs.SitePlan.{booked_at, reserved_in}
+use Rattle.fed_easy.specs.Use.{use_at}
+
+-- ---- entries in the order of their names
+all_has : {A : Type 0} (P : A → Type 0) (xs : List A) (x : A) → AllByRecursion P xs → Has xs x → P x
+all_has P [] x all h = elim h [ ]
+all_has P (y ∷ xs) x all (inl e) = subst P e all.0
+all_has P (y ∷ xs) x all (inr h) = all_has P xs x all.1 h
+
+pub key_has : {X : Type 0} (es : List (StampValue × X)) (e : StampValue × X) → Has es e → Has (keys_of es) e.0
+key_has [] e h = elim h [ ]
+key_has (x ∷ es) e (inl same) = inl (ap (λ x. x.0) same)
+key_has (x ∷ es) e (inr h) = inr (key_has es e h)
+
+at_itself : (s : StampValue) → is_eq (stamp_cmp s s) ≡ true
+at_itself s = ap is_eq (tied_itself stamp_total s)
+
+less_apart : (s t : StampValue) → stamp_cmp s t ≡ Less → (b : Bool) → is_eq (stamp_cmp t s) ≡ b → b ≡ false
+less_apart s t less true e =
+    let same : t ≡ s = tells_apart exact_stamp t s e in
+    let tied : stamp_cmp s s ≡ Less = rw same at less in
+    let own = tied_itself stamp_total s in
+    absurd cc
+less_apart s t less false e = refl
+
+-- a look-up of an entry's name finds its value
+pub entry_found : {X : Type 0} (es : List (StampValue × X)) (e : StampValue × X) → IsStrictlySortedBy stamp_cmp (keys_of es) → Has es e → lookup (is_at (stamp_cmp e.0)) es ≡ Some e.1
+unfolding IsStrictlySortedBy
+entry_found [] e sorted h = elim h [ ]
+entry_found (x ∷ es) e sorted (inl same) =
+    subst (λ y. lookup (is_at (stamp_cmp y.0)) (x ∷ es) ≡ Some y.1) same (rw (at_itself x.0) refl)
+entry_found (x ∷ es) e sorted (inr h) =
+    let less : stamp_cmp x.0 e.0 ≡ Less = all_has (λ y. stamp_cmp x.0 y ≡ Less) (keys_of es) e.0 sorted.0 (key_has es e h) in
+    rw (less_apart x.0 e.0 less (is_eq (stamp_cmp e.0 x.0)) refl) (entry_found es e sorted.1 h)
+
+-- what the names say is what the entries say
+names_read : {X Y : Type 0} (f : StampValue → Option Y) (g : StampValue × X → Option Y) (es : List (StampValue × X)) → ((e : StampValue × X) → Has es e → f e.0 ≡ g e) → filter_map f (keys_of es) ≡ filter_map g es
+names_read f g [] h = refl
+names_read f g (e ∷ es) h =
+    let first = h e (inl refl) in
+    let rest = names_read f g es (λ x k. h x (inr k)) in
+    rw (first, rest) refl
+
+-- ---- running jobs
+abbrev pub entry_running : ℕ → StampValue × JobRecordValue → Option Running
+entry_running site e = running_of site (reads_job e.1)
+
+module _ (b : BoardValue) (sorted : IsStrictlySortedBy stamp_cmp (keys_of b.jobs)) (names : keys_of b.jobs ≡ jobs_in (reads b)) where
+  entry_read : (e : StampValue × JobRecordValue) → Has b.jobs e → (reads b).job e.0 ≡ reads_job e.1
+  entry_read e h = ap (λ (o : Option JobRecordValue). reads_job (unwrap_or o no_operation)) (entry_found b.jobs e sorted h)
+
+  pub running_read : (site : ℕ) → running_in site (reads b) ≡ filter_map (entry_running site) b.jobs
+  running_read site =
+      ap (filter_map (λ job. running_of site ((reads b).job job))) (sym names)
+      ∙ names_read (λ job. running_of site ((reads b).job job)) (entry_running site) b.jobs (λ e h. ap (running_of site) (entry_read e h))
+
+  pub running_done : (site : ℕ) (xs : List Running) (rest : List (StampValue × JobRecordValue)) → xs ++ filter_map (entry_running site) rest ≡ filter_map (entry_running site) b.jobs → rest ≡ []
+      → xs ≡ running_in site (reads b)
+  running_done site xs rest same none =
+      let whole : xs ++ [] ≡ filter_map (entry_running site) b.jobs = rw none at same in
+      sym (append-nil xs) ∙ whole ∙ sym (running_read site)
+
+  pub waiting_read : (site capacity : ℕ) → waiting_in site capacity (reads b) ≡ filter_map (λ e. queued site capacity e.0 (reads_job e.1)) b.jobs
+  waiting_read site capacity =
+      ap (filter_map (λ job. queued site capacity job ((reads b).job job))) (sym names)
+      ∙ names_read (λ job. queued site capacity job ((reads b).job job)) (λ e. queued site capacity e.0 (reads_job e.1)) b.jobs (λ e h. ap (queued site capacity e.0) (entry_read e h))
+
+-- ---- reservations
+abbrev pub read_reserved : ℕ → List (StampValue × ReservationView) → List Booking
+read_reserved site es = filter_map (λ e. booked_at site e.1) es
+
+pub reserved_read : (site : ℕ) (b : BoardValue) → IsStrictlySortedBy stamp_cmp (keys_of b.reservations) → keys_of b.reservations ≡ reservations_in (reads b) → reserved_in site (reads b) ≡ read_reserved site b.reservations
+reserved_read site b sorted names =
+    ap (filter_map (λ name. booked_at site ((reads b).reservation name))) (sym names)
+    ∙ names_read (λ name. booked_at site ((reads b).reservation name)) (λ e. booked_at site e.1) b.reservations
+    (λ e h. ap (λ (o : Option ReservationView). booked_at site (unwrap_or o None)) (entry_found b.reservations e sorted h))
+
+pub reserved_told : (site : ℕ) (b : BoardValue) → IsStrictlySortedBy stamp_cmp (keys_of b.reservations) → keys_of b.reservations ≡ reservations_in (reads b) → (n used c u : ℕ)
+    → min n c ≡ min (used + use_at (read_reserved site b.reservations) u) c → min n c ≡ min (used + use_at (reserved_in site (reads b)) u) c
+reserved_told site b sorted names n used c u e = subst (λ (bs : List Booking). min n c ≡ min (used + use_at bs u) c) (sym (reserved_read site b sorted names)) e
+
+pub reserved_taken : (site : ℕ) (es : List (StampValue × ReservationView)) (e : StampValue × ReservationView) (rest : List (StampValue × ReservationView)) (b : Booking) → es ≡ e ∷ rest → booked_at site e.1 ≡ Some b
+    → read_reserved site es ≡ b ∷ read_reserved site rest
+reserved_taken site es e rest b same booked = rw (same, booked) refl
+
+pub reserved_passed : (site : ℕ) (es : List (StampValue × ReservationView)) (e : StampValue × ReservationView) (rest : List (StampValue × ReservationView)) → es ≡ e ∷ rest → booked_at site e.1 ≡ None
+    → read_reserved site es ≡ read_reserved site rest
+reserved_passed site es e rest same booked = rw (same, booked) refl

@@ -1,0 +1,22 @@
+-- Lemmas of this crate.
+pub mod Recursion
+pub mod Levels
+pub mod Room
+pub mod Shadow
+pub mod Split
+pub mod Raise
+pub mod Fits
+pub mod FirstFit
+pub mod Started
+pub mod Fronts
+pub mod BoardEntries
+pub mod Gathered
+pub mod QueueMembers
+pub mod Booked
+pub mod Ends
+pub mod NoDelay
+pub mod Within
+pub mod PlanFacts
+pub mod ByExtra
+pub mod Falls
+pub mod Scenes

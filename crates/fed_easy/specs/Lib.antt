@@ -1,0 +1,11 @@
+-- What the contracts of this crate cite.
+pub mod Use
+pub mod Profile
+pub mod QueueOrder
+pub mod QueueLaws
+pub mod Queue
+pub mod Plan
+pub mod Machine
+pub mod SitePlan
+pub mod Extra
+pub mod PlanLaws

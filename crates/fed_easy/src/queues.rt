@@ -1,0 +1,160 @@
+//! The jobs that wait at a site.
+ghost use Rattle.std.specs.Prelude.{◌≡◌, ◌&&◌, ◌||◌, All, IfOk, IfSome, IsTrue, Some, not, refl};
+ghost use Rattle.std.specs.Cmp.{partial_equiv_from_equiv, eq_by_cmp_equiv, po};
+ghost use Rattle.std.specs.Ordering.{eq_by_cmp};
+ghost use Rattle.fed_record.specs.JobRecord.{reads as reads_job};
+ghost use Rattle.fed_record.specs.Letter.{is_granted, is_granted_to};
+ghost use Rattle.fed_board.specs.Board.{reads};
+ghost use Rattle.fed_easy.specs.PlanLaws.{IsSized};
+ghost use Rattle.fed_easy.specs.Queue.{is_waiting as is_job_waiting, queue_in, queued as job_queued};
+ghost use Rattle.fed_easy.specs.QueueLaws.{queue_total};
+ghost use Rattle.fed_easy.specs.QueueOrder.{queue_cmp};
+
+use fed_board::Board;
+use fed_lattice::NoMemory;
+use fed_record::{JobRecord, Limit, Nodes, Priority};
+use fed_stamp::{JobId, SiteId};
+use std::alloc::Global;
+use std::cmp::Ordering;
+use std::collections::BTreeSet;
+
+/// A job that waits to start, with what its place in the queue and its time depend on.
+///
+/// Jobs are ordered as in the queue: granted to the site first, then the greater priority, then the smaller stamp.
+/// Jobs of one stamp, of which a queue has one at most, are ordered by nodes and limit.
+#[derive(Clone, Copy)]
+pub(crate) struct QueuedJob {
+    /// Whether it is granted to the site already.
+    pub(crate) is_granted: bool,
+    /// How soon it is wanted: the greater comes first.
+    pub(crate) priority: Priority,
+    /// Its identifier.
+    pub(crate) id: JobId,
+    /// How many nodes it runs on.
+    pub(crate) nodes: Nodes,
+    /// How long it may run, in seconds.
+    pub(crate) limit: Limit,
+}
+
+impl PartialEq for QueuedJob {
+    ghost eq = { eq_by_cmp queue_cmp };
+
+    ghost laws = { partial_equiv_from_equiv (eq_by_cmp_equiv queue_total) };
+
+    fn eq(&self, other: &QueuedJob) -> bool {
+        self.cmp(other).is_eq()
+    }
+}
+
+impl Eq for QueuedJob {
+    ghost laws = { eq_by_cmp_equiv queue_total };
+}
+
+impl PartialOrd for QueuedJob {
+    ghost partial_cmp = { λ g h. Some (queue_cmp g h) };
+
+    ghost laws = { po queue_total (λ g h. refl) };
+
+    fn partial_cmp(&self, other: &QueuedJob) -> Option<Ordering> {
+        Some(self.cmp(other))
+    }
+}
+
+impl Ord for QueuedJob {
+    ghost cmp = { queue_cmp };
+
+    ghost total = { queue_total };
+
+    ghost matches_partial_cmp = { λ g h. refl };
+
+    ghost matches_eq = { λ g h. refl };
+
+    fn cmp(&self, other: &QueuedJob) -> Ordering {
+        let by_size = self
+            .nodes
+            .cmp(&other.nodes)
+            .then(self.limit.cmp(&other.limit));
+        let by_stamp = self.id.cmp(&other.id).then(by_size);
+        let by_priority = other.priority.cmp(&self.priority).then(by_stamp);
+        other.is_granted.cmp(&self.is_granted).then(by_priority)
+    }
+}
+
+// Whether the job is granted to no site or to this one.
+fn is_open(held: &JobRecord, site: SiteId) -> bool
+    ensures { result ≡ (not (is_granted (reads_job held.now)) || is_granted_to (reads_job held.now) site) }
+{
+    held.holder().is_none() || held.is_granted_to(site)
+}
+
+// Whether the job waits at the site.
+fn is_waiting(held: &JobRecord, site: SiteId) -> bool
+    ensures { result ≡ is_job_waiting site (reads_job held.now) }
+{
+    held.is_submitted()
+        && !held.is_gone()
+        && held.progress().begun.is_none()
+        && !held.is_held()
+        && is_open(held, site)
+        && held.has_site(site)
+}
+
+// The job as it stands in the queue of the site, if it does.
+fn queued(id: JobId, held: &JobRecord, site: SiteId, capacity: u64) -> Option<QueuedJob>
+    ensures job { result ≡ job_queued site capacity id (reads_job held.now) }
+    ensures sized { IfSome result (λ job. IsSized capacity job) }
+{
+    if !is_waiting(held, site) {
+        return None;
+    }
+    let (_, nodes) = held.nodes();
+    let (_, limit) = held.limit();
+    let _seconds = limit.get();
+    if nodes.get() > capacity {
+        return None;
+    }
+    Some(QueuedJob {
+        is_granted: held.is_granted_to(site),
+        priority: held.priority().1,
+        id,
+        nodes,
+        limit,
+    })
+}
+
+// The jobs that wait at the site.
+fn waiting_jobs(
+    alloc: Global,
+    board: &Board,
+    site: SiteId,
+    capacity: u64,
+) -> Result<BTreeSet<QueuedJob>, NoMemory>
+    ensures queue { IfOk result (λ waiting. waiting.keys ≡ queue_in site capacity (reads board.now)) }
+    ensures sized { IfOk result (λ waiting. All (IsSized capacity) waiting.keys) }
+{
+    let mut waiting = BTreeSet::new(alloc);
+    for (id, held) in board.jobs() {
+        if let Some(job) = queued(*id, held, site, capacity) {
+            waiting.insert(job)?;
+        }
+    }
+    Ok(waiting)
+}
+
+/// The queue at the site, of jobs that need at most so many nodes.
+pub(crate) fn queue_of(
+    alloc: Global,
+    board: &Board,
+    site: SiteId,
+    capacity: u64,
+) -> Result<Vec<QueuedJob>, NoMemory>
+    ensures queue { IfOk result (λ queue. queue.items ≡ queue_in site capacity (reads board.now)) }
+    ensures sized { IfOk result (λ queue. All (IsSized capacity) queue.items) }
+{
+    let waiting = waiting_jobs(alloc, board, site, capacity)?;
+    let mut queue = Vec::new(alloc);
+    for job in waiting {
+        queue.push(job)?;
+    }
+    Ok(queue)
+}
