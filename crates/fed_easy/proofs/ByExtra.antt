@@ -7,7 +7,7 @@ use Rattle.fed_easy.specs.declared.queues.QueuedJob.{QueuedJob}
 use Rattle.fed_easy.specs.Use.{end_with, first_fit, is_during, shadow, with_job, with_jobs, Fits, fits, IsShadow}
 use Rattle.fed_easy.specs.Plan.{PlanValue, front, behind, backfill, ids, plan_behind, queue_plan}
 use Rattle.fed_easy.specs.Extra.{free_at, front_by_free, behind_by_free, ends_by, backfill_by_extra, extra_plan, extra_plan_behind, first_free}
-use Rattle.fed_easy.specs.PlanLaws.{Falls, IsIdleFrom, IsSized}
+use Rattle.fed_easy.specs.Promises.{Falls, IsIdleFrom, IsSized}
 use Rattle.fed_easy.proofs.FirstFit.{shadow_least}
 use Rattle.fed_easy.proofs.Fits.{fits-true, Fits-fits, same_test}
 use Rattle.fed_easy.proofs.NoDelay.{during, within, with_job_swap, job_used}

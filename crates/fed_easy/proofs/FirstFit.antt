@@ -2,7 +2,7 @@
 use Rattle.std.proofs.Common.{◌≡◌, ℕ, zero, suc, ◌+◌, ◌-◌, ◌≤◌, Bool, true, false, cond, refl, arith, inl, inr}
 use Rattle.std.proofs.lemmas.Bool.{cases_lt}
 use Rattle.fed_easy.specs.declared.queues.QueuedJob.{QueuedJob}
-use Rattle.fed_easy.specs.PlanLaws.{IsIdleFrom}
+use Rattle.fed_easy.specs.Promises.{IsIdleFrom}
 use Rattle.fed_easy.specs.Use.{first_fit, fits, shadow, Fits, IsShadow}
 use Rattle.fed_easy.proofs.Fits.{fits-true, Fits-fits}
 

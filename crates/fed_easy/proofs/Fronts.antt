@@ -7,7 +7,7 @@ use Rattle.fed_stamp.specs.Stamp.{StampValue}
 use Rattle.fed_easy.specs.declared.queues.QueuedJob.{QueuedJob}
 use Rattle.fed_easy.specs.Use.{end_with, fits, shadow, with_job, with_jobs, IsShadow}
 use Rattle.fed_easy.specs.Plan.{PlanValue, front, behind, backfill, ids, queue_plan}
-use Rattle.fed_easy.specs.PlanLaws.{IsIdleFrom}
+use Rattle.fed_easy.specs.Promises.{IsIdleFrom}
 use Rattle.fed_easy.proofs.FirstFit.{shadow_is}
 use Rattle.fed_easy.proofs.Started.{idle_started}
 

@@ -4,7 +4,7 @@ use Rattle.std.specs.List.{AllByRecursion}
 use Rattle.fed_stamp.specs.Stamp.{StampValue}
 use Rattle.fed_easy.specs.declared.queues.QueuedJob.{QueuedJob}
 use Rattle.fed_easy.specs.Plan.{behind, front, queue_plan}
-use Rattle.fed_easy.specs.PlanLaws.{IsIdleFrom, IsSized, NoDelay, StaysWithin, started_use}
+use Rattle.fed_easy.specs.Promises.{IsIdleFrom, IsSized, NoDelay, StaysWithin, started_use}
 use Rattle.fed_easy.specs.Use.{end_with, shadow, IsShadow}
 use Rattle.fed_easy.proofs.FirstFit.{shadow_least}
 use Rattle.fed_easy.proofs.NoDelay.{no_delay}

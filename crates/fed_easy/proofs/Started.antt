@@ -6,7 +6,7 @@ use Rattle.std.proofs.lemmas.Bool.{and_right, le-ltb}
 use Rattle.fed_easy.specs.declared.bookings.Booking.{Booking}
 use Rattle.fed_easy.specs.declared.queues.QueuedJob.{QueuedJob}
 use Rattle.fed_easy.specs.Plan.{behind}
-use Rattle.fed_easy.specs.PlanLaws.{IsIdleFrom}
+use Rattle.fed_easy.specs.Promises.{IsIdleFrom}
 use Rattle.fed_easy.specs.Use.{end_with, fits, last_end, use_at, with_job, with_jobs, with_nodes}
 
 -- nodes are not used from the end of their time on

@@ -4,7 +4,7 @@ use Rattle.std.proofs.Common.{arith}
 use Rattle.fed_easy.specs.declared.queues.QueuedJob.{QueuedJob}
 use Rattle.fed_easy.specs.Use.{is_during, with_job, with_jobs, Fits, fits, IsShadow}
 use Rattle.fed_easy.specs.Plan.{front, backfill}
-use Rattle.fed_easy.specs.PlanLaws.{KeepsWithin}
+use Rattle.fed_easy.specs.Promises.{KeepsWithin}
 use Rattle.fed_easy.proofs.Fits.{fits-true}
 use Rattle.fed_easy.proofs.NoDelay.{within}
 

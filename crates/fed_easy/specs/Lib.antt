@@ -8,4 +8,4 @@ pub mod Plan
 pub mod Machine
 pub mod SitePlan
 pub mod Extra
-pub mod PlanLaws
+pub mod Promises

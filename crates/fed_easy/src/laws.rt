@@ -4,7 +4,7 @@ ghost use Rattle.std.specs.List.Sorted.{IsStrictlySortedBy};
 ghost use Rattle.fed_lattice.specs.Sets.{Has};
 ghost use Rattle.fed_board.specs.Names.{jobs_in};
 ghost use Rattle.fed_board.specs.View.{View};
-ghost use Rattle.fed_easy.specs.PlanLaws.{IsIdleFrom};
+ghost use Rattle.fed_easy.specs.Promises.{IsIdleFrom};
 ghost use Rattle.fed_easy.specs.Queue.{queue_in, queued};
 ghost use Rattle.fed_easy.specs.QueueOrder.{queue_cmp};
 ghost use Rattle.fed_easy.specs.Use.{IsShadow, shadow};

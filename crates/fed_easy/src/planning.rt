@@ -1,7 +1,7 @@
 //! Plans of a queue beside the use of a machine.
 ghost use Rattle.std.specs.Prelude.{◌≡◌, ℕ, ◌≤◌, ◌^◌, ◌++◌, length, take, drop, IfOk, OnOk, All};
 ghost use Rattle.fed_easy.specs.Plan.{backfill, behind, front, ids, queue_plan, reads};
-ghost use Rattle.fed_easy.specs.PlanLaws.{IsIdleFrom};
+ghost use Rattle.fed_easy.specs.Promises.{IsIdleFrom};
 ghost use Rattle.fed_easy.specs.Profile.{IsProfile, Tells, TellsUntil};
 ghost use Rattle.fed_easy.specs.Use.{with_jobs};
 
@@ -91,7 +91,7 @@ pub(crate) fn plan_queue(
     let head = queue[count];
     let (nodes, limit) = (head.nodes.get(), head.limit.get());
     let shadow = profile.shadow(nodes, limit);
-    // beyond the last second that a number can tell, the head's time is in nobody's way
+    // a time whose end is no 64-bit number begins after the last end of every other job
     if let Some(end) = shadow.checked_add(limit) {
         profile.add(shadow, end, nodes)?;
     }

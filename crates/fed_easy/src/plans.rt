@@ -3,7 +3,7 @@ ghost use Rattle.std.specs.Prelude.{◌≡◌, ◌↔◌, ◌<◌, ◌+◌, ℕ,
 ghost use Rattle.fed_board.specs.Board.{reads};
 ghost use Rattle.fed_easy.specs.Extra.{extra_plan};
 ghost use Rattle.fed_easy.specs.Plan.{reads as reads_plan};
-ghost use Rattle.fed_easy.specs.PlanLaws.{IsOver, NoDelay, StaysWithin};
+ghost use Rattle.fed_easy.specs.Promises.{IsOver, NoDelay, StaysWithin};
 ghost use Rattle.fed_easy.specs.Profile.{IsProfile, Tells};
 ghost use Rattle.fed_easy.specs.Queue.{queue_in};
 ghost use Rattle.fed_easy.specs.SitePlan.{booked_at, bookings_in, number_of, reserved_in, site_plan};

@@ -5,7 +5,7 @@ ghost use Rattle.std.specs.Ordering.{eq_by_cmp};
 ghost use Rattle.fed_record.specs.JobRecord.{reads as reads_job};
 ghost use Rattle.fed_record.specs.Letter.{is_granted, is_granted_to};
 ghost use Rattle.fed_board.specs.Board.{reads};
-ghost use Rattle.fed_easy.specs.PlanLaws.{IsSized};
+ghost use Rattle.fed_easy.specs.Promises.{IsSized};
 ghost use Rattle.fed_easy.specs.Queue.{is_waiting as is_job_waiting, queue_in, queued as job_queued};
 ghost use Rattle.fed_easy.specs.QueueLaws.{queue_total};
 ghost use Rattle.fed_easy.specs.QueueOrder.{queue_cmp};

@@ -6,7 +6,7 @@ use Rattle.fed_easy.specs.declared.bookings.Booking.{Booking}
 use Rattle.fed_easy.specs.declared.queues.QueuedJob.{QueuedJob}
 use Rattle.fed_easy.specs.Plan.{reads as reads_plan}
 use Rattle.fed_easy.specs.Machine.{MachineValue}
-use Rattle.fed_easy.specs.PlanLaws.{IsOver, IsSized, NoDelay, StaysWithin}
+use Rattle.fed_easy.specs.Promises.{IsOver, IsSized, NoDelay, StaysWithin}
 use Rattle.fed_easy.specs.Profile.{Tells}
 use Rattle.fed_easy.specs.SitePlan.{bookings_in, reserved_in, running_booking, site_plan}
 use Rattle.fed_easy.specs.Queue.{queue_in}

@@ -2,7 +2,7 @@ use Rattle.std.specs.Map.Iter.{deref_pair}
 use Rattle.std.proofs.lemmas.Map.Iter.{rest_all}
 use Rattle.std.proofs.Common.{◌∙◌, sym}
 use Rattle.std.proofs.lemmas.Map.Views.{All-insert_key}
-use Rattle.fed_easy.specs.PlanLaws.{IsSized}
+use Rattle.fed_easy.specs.Promises.{IsSized}
 use Rattle.fed_easy.specs.QueueOrder.{queue_cmp}
 use Rattle.fed_easy.proofs.Gathered.{gathered_more, queue_done}
 use Rattle.fed_easy.proofs.queues.waiting_jobs.Goals as goal

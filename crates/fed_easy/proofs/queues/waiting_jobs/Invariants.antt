@@ -1,5 +1,5 @@
 use Rattle.std.proofs.Common.{◌≡◌, [], All}
-use Rattle.fed_easy.specs.PlanLaws.{IsSized}
+use Rattle.fed_easy.specs.Promises.{IsSized}
 use Rattle.fed_easy.proofs.Gathered.{gathered}
 use Rattle.fed_easy.proofs.queues.waiting_jobs.Given as goal
 

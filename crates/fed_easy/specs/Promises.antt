@@ -1,4 +1,4 @@
--- What holds of every plan.
+-- What every plan keeps.
 use Rattle.std.specs.Prelude.{◌≡◌, ℕ, ◌<◌, ◌≤◌, List, ◌∷◌, Some}
 use Rattle.fed_easy.specs.declared.bookings.Booking.{Booking}
 use Rattle.fed_easy.specs.declared.queues.QueuedJob.{QueuedJob}
