@@ -1,0 +1,14 @@
+//! Examples of plans, and a plain planner that plans of boards taken at random are compared with, over public calls
+//! alone. The crate has tests and nothing else.
+#![tactic(auto)]
+
+#[cfg(test)]
+mod faults;
+#[cfg(test)]
+mod plain;
+#[cfg(test)]
+mod random;
+#[cfg(test)]
+mod rows;
+#[cfg(test)]
+mod sites;

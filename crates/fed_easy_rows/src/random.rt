@@ -1,0 +1,126 @@
+//! Boards taken at random, whose plans are those of the plain planner.
+use crate::plain::is_plain_plan;
+use crate::sites::{Ask, act, begin, grant, reserve, site, stamp, submit_to};
+use fed_board::Board;
+use fed_easy::{machine_of, plan};
+use fed_record::{HoldKinds, Operation};
+use fed_stamp::JobId;
+use std::alloc::Global;
+use std::test::Fail;
+
+/// How many boards are planned.
+const BOARDS: u64 = 400;
+
+/// How many jobs, and how many reservations, a board has at most.
+const JOBS: u64 = 7;
+
+const RESERVATIONS: u64 = 4;
+
+/// Numbers that look random (D. Knuth's linear congruential generator).
+#[derive(Drop)]
+struct Numbers {
+    state: u64,
+}
+
+impl Numbers {
+    /// A number below this one, or 0 where it is 0.
+    fn below(&mut self, end: u64) -> u64 {
+        self.state = self
+            .state
+            .wrapping_mul(6364136223846793005)
+            .wrapping_add(1442695040888963407);
+        (self.state >> 33).checked_rem(end).unwrap_or(0)
+    }
+
+    /// The number of a site, 0 or, more rarely, 1.
+    fn site(&mut self) -> u8 {
+        if self.below(5) == 0 { 1 } else { 0 }
+    }
+
+    fn ask(&mut self) -> Ask {
+        Ask {
+            nodes: self.below(7).saturating_add(1),
+            limit: self.below(9).saturating_add(1),
+            priority: if self.below(3) == 0 { 1 } else { 0 },
+        }
+    }
+}
+
+/// Grants the job to site 0 and begins it there.
+fn run(board: &mut Board, counter: u64, job: JobId, ask: Ask, moment: u64) -> Result<(), Fail> {
+    grant(board, counter, job, 0)?;
+    begin(board, counter.saturating_add(1), job, ask, moment)
+}
+
+/// Holds, deletes, grants or runs the job, or leaves it.
+fn change(
+    board: &mut Board,
+    numbers: &mut Numbers,
+    counter: u64,
+    job: JobId,
+    ask: Ask,
+) -> Result<(), Fail> {
+    let at = stamp(counter, 0);
+    let kinds = HoldKinds::USER;
+    match numbers.below(10) {
+        0 => act(board, at, &Operation::Hold { job, kinds }),
+        1 => act(board, at, &Operation::Delete { job }),
+        2 => grant(board, counter, job, 1),
+        3 => grant(board, counter, job, 0),
+        4 | 5 => run(board, counter, job, ask, numbers.below(12)),
+        _ => Ok(()),
+    }
+}
+
+fn add_jobs(board: &mut Board, numbers: &mut Numbers) -> Result<(), Fail> {
+    for number in 0..numbers.below(JOBS) {
+        let counter = number.saturating_mul(3).saturating_add(1);
+        let ask = numbers.ask();
+        let place = numbers.site();
+        let job = submit_to(board, counter, ask, place)?;
+        change(board, numbers, counter.saturating_add(1), job, ask)?;
+    }
+    Ok(())
+}
+
+fn add_reservations(board: &mut Board, numbers: &mut Numbers) -> Result<(), Fail> {
+    for number in 0..numbers.below(RESERVATIONS) {
+        let at = stamp(number.saturating_mul(2).saturating_add(1), 1);
+        let start = numbers.below(24);
+        let end = start.saturating_add(numbers.below(9));
+        let place = numbers.site();
+        reserve(board, at, place, start, end, numbers.below(8))?;
+        if numbers.below(5) == 0 {
+            let reservation = at;
+            let later = stamp(number.saturating_mul(2).saturating_add(2), 1);
+            act(board, later, &Operation::Cancel { reservation })?;
+        }
+    }
+    Ok(())
+}
+
+/// Whether the plan of a board with this seed has a head, or `None` where it isn't that of the plain planner.
+fn planned(alloc: Global, seed: u64) -> Result<Option<bool>, Fail> {
+    let mut numbers = Numbers { state: seed };
+    let mut board = Board::new(alloc);
+    add_jobs(&mut board, &mut numbers)?;
+    add_reservations(&mut board, &mut numbers)?;
+    let machine = machine_of(alloc, &board, site(0), 6)?;
+    let moment = numbers.below(16);
+    let plan = plan(alloc, &board, site(0), moment, &machine)?;
+    let is_plain = is_plain_plan(alloc, &board, moment, &machine, &plan)?;
+    Ok(is_plain.then_some(plan.head.is_some()))
+}
+
+#[test]
+fn random_boards_are_planned_plainly(rt: HostRuntime) -> Result<(), Fail> {
+    let mut heads: u64 = 0;
+    for seed in 0..BOARDS {
+        let has_head = planned(rt.alloc(), seed)?.ok_or("the plans differ")?;
+        if has_head {
+            heads = heads.saturating_add(1);
+        }
+    }
+    assert!(rt; heads > BOARDS / 4);
+    Ok(())
+}
