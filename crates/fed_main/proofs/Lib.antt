@@ -7,6 +7,7 @@ pub mod GrantScript
 pub mod HandBackScript
 pub mod KnownBytes
 pub mod LateScript
+pub mod Machines
 pub mod PriorityScript
 pub mod Progress
 pub mod RepeatScript

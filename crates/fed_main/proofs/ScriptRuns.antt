@@ -15,7 +15,7 @@ use Rattle.fed_world.specs.declared.events.Event.TheVariants.{Do, Ship, Take}
 use Rattle.fed_world.specs.Run.{World, step}
 use Rattle.fed_world.proofs.Runs.{run-push}
 use Rattle.fed_script.specs.Forms.{◌>>=◌}
-use Rattle.fed_script.specs.Line.{Line, skips, begins, acts, lists, misuses, ships, takes, compares, first_line, words_in}
+use Rattle.fed_script.specs.Line.{Line, skips, begins, acts, lists, misuses, ships, takes, plans, compares, first_line, words_in}
 use Rattle.fed_script.specs.Rosters.{is_reserved, roster_of, sites_in}
 use Rattle.fed_main.specs.Script.{Answered, IsRun, Script, State, after_commands, after_event, answered, does, later, line_in}
 
@@ -74,6 +74,7 @@ later_run s (lists site full jobs) r = r
 later_run s (misuses fault) r = r
 later_run s (ships site to) r = event_run s (Ship site to) r
 later_run s (takes site packet) r = event_run s (Take site packet) r
+later_run s (plans site moment) r = r
 later_run s (compares site other) r = r
 
 does_run : (state : State) (bytes : List ℕ) (line : Line) → IsRun state → line_in state bytes ≡ Some line → IsRun (does state line).after

@@ -3,6 +3,7 @@ pub mod Ends
 pub mod Fault
 pub mod Federation
 pub mod Outcome
+pub mod Planned
 pub mod Reading
 pub mod Said
 pub mod Script

@@ -15,8 +15,9 @@ use Rattle.fed_words.specs.Fault.{fault_number}
 use Rattle.fed_qstat.specs.Full.{full_lines}
 use Rattle.fed_qstat.specs.Listing.{listing}
 use Rattle.fed_qstat.specs.Short.{short_line}
-use Rattle.fed_script.specs.Line.{Line, skips, begins, acts, lists, misuses, ships, takes, compares, first_line_in, later_line_in}
+use Rattle.fed_script.specs.Line.{Line, skips, begins, acts, lists, misuses, ships, takes, plans, compares, first_line_in, later_line_in}
 use Rattle.fed_main.specs.Outcome.{answer_line, outcome_text}
+use Rattle.fed_main.specs.Planned.{planned}
 
 -- the sites, and the world of the run so far
 pub record Script : Type 0 where
@@ -81,6 +82,7 @@ later s (lists site full jobs) = says s (listing (lines_of full s.roster) (view_
 later s (misuses fault) = says s (answer_line (codes "usage " ++ decimal (fault_number fault)))
 later s (ships site to) = after_event s (Ship site to)
 later s (takes site packet) = after_event s (Take site packet)
+later s (plans site moment) = says s (planned s.roster (view_at s site) site moment)
 later s (compares site other) = says s (answer_line (compared s site other))
 
 -- no site holds an operation yet

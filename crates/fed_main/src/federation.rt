@@ -9,13 +9,15 @@ ghost use Rattle.fed_script.specs.LineSites.{HasSites};
 ghost use Rattle.fed_script.specs.LineView.{said_by};
 ghost use Rattle.fed_main.specs.Federation.{reads};
 ghost use Rattle.fed_main.specs.Outcome.{answer_line, outcome_text};
+ghost use Rattle.fed_main.specs.Planned.{planned};
 ghost use Rattle.fed_main.specs.Script.{after_commands, after_event, answered, compared, later, lines_of, says, view_at};
 
 use crate::answers::outcome_line;
+use crate::plans::site_plan_text;
 use fed_board::Board;
 use fed_lattice::NoMemory;
 use fed_qstat::{full as list_in_full, list};
-use fed_record::{Command, Who};
+use fed_record::{Command, Moment, Who};
 use fed_script::laws::lines_name_sites_of_the_roster;
 use fed_script::{HeldRoster, Line, read_later_line};
 use fed_stamp::{JobId, Roster, SiteId};
@@ -145,6 +147,15 @@ impl Federation {
         }
     }
 
+    /// A site plans its machine.
+    fn plan(&self, alloc: Global, site: SiteId, moment: Moment) -> Result<String, NoMemory>
+        requires { site < length self.now.roster }
+        ensures { IfOk result (λ text. string_bytes text ≡
+            planned self.now.roster (view_at (reads self.now) site) site moment) }
+    {
+        site_plan_text(alloc, self.roster(), self.board(site), site, moment)
+    }
+
     /// Whether the boards of two sites are equal, which their versions tell.
     fn compare(&self, alloc: Global, site: SiteId, other: SiteId) -> Result<String, AllocError>
         requires site { site < length self.now.roster }
@@ -178,6 +189,7 @@ impl Federation {
             Line::Misuse { fault } => Ok(usage_line(alloc, fault)?),
             Line::Ship { site, to } => self.happen(alloc, &Event::Ship { site, to }),
             Line::Take { site, packet } => self.happen(alloc, &Event::Take { site, packet }),
+            Line::Plan { site, moment } => self.plan(alloc, site, moment),
             Line::Compare { site, other } => Ok(self.compare(alloc, site, other)?),
         }
     }

@@ -9,6 +9,8 @@ mod fault;
 mod federation;
 /// Laws of what scripts do.
 pub mod laws;
+/// The text of a site's plan.
+mod plans;
 /// Replaying a script: its lines run in order, each answered before the next one runs.
 mod run;
 /// Reading a script to its end.

@@ -5,3 +5,4 @@ pub mod DistinctNames
 pub mod ListedSets
 pub mod NamesBelow
 pub mod ShownFields
+pub mod StartLines

@@ -5,4 +5,5 @@ pub mod Identifier
 pub mod JobText
 pub mod Layout
 pub mod Listing
+pub mod PlanText
 pub mod Short

@@ -1,4 +1,4 @@
-//! Listings of the jobs of a board.
+//! Listings of the jobs of a board, and the text of plans.
 #![tactic(auto)]
 
 /// What listings show of a job, piece by piece.
@@ -11,11 +11,14 @@ pub mod identifiers;
 pub mod laws;
 /// Listings of the jobs of a board.
 pub mod listings;
+/// The text of a plan.
+pub mod plan_texts;
 /// The short listing.
 mod short_lines;
 
 pub use identifiers::{identifier_text, site_text};
 pub use listings::{full, list};
+pub use plan_texts::plan_text;
 
 #[cfg(test)]
 mod tests;

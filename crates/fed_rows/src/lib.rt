@@ -8,6 +8,8 @@ mod memory;
 #[cfg(test)]
 mod misused;
 #[cfg(test)]
+mod plans;
+#[cfg(test)]
 mod rows;
 #[cfg(test)]
 mod streams;

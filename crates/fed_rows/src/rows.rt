@@ -27,10 +27,11 @@ equal
 1.lemont           STDIN            bob              Q      0        1      3600 -
 ";
 
-// A listing of no job.
+// A listing of no job, and a plan of none.
 const EMPTY: &str = "\
 roster argonne:8
 argonne ann qstat
+argonne plan 0
 ";
 
 // Of two priorities set at one counter that of the greater site stays.

@@ -14,9 +14,9 @@ use Rattle.fed_script.specs.declared.verbs.Verb.{Verb}
 use Rattle.fed_script.specs.declared.verbs.Verb.TheVariants.{Grant, Begin, Finish, HandBack, Ship, Take, Plan}
 use Rattle.fed_script.specs.Asker.{scheduler, who_in}
 use Rattle.fed_script.specs.Forms.{◌>>=◌, one_word, two_words}
-use Rattle.fed_script.specs.Line.{Line, skips, begins, acts, lists, misuses, ships, takes, compares, act, asked_at, cancels, later_line, later_line_in, reserves, scheduled, site_line, user_line, verb_line, words_in}
+use Rattle.fed_script.specs.Line.{Line, skips, begins, acts, lists, misuses, ships, takes, plans, compares, act, asked_at, cancels, later_line, later_line_in, reserves, scheduled, site_line, user_line, verb_line, words_in}
 use Rattle.fed_script.specs.LineSites.{HasSites}
-use Rattle.fed_script.specs.Values.{packet, site}
+use Rattle.fed_script.specs.Values.{moment, packet, site}
 use Rattle.fed_script.specs.Verb.{verb_named}
 
 -- what is found in a range lies in it
@@ -59,10 +59,18 @@ module _ (roster : List (List ℕ × ℕ)) (here : ℕ) (h : here < length roste
   takes_sites made None line e = cc
   takes_sites made (Some word) line e = takes_of (packet made word) line e
 
+  plans_of : (o : Option ℕ) (line : Line) → option_map (plans here) o ≡ Some line → HasSites (length roster) line
+  plans_of None line e = cc
+  plans_of (Some m) line e = let same : plans here m ≡ line = cc in subst (HasSites (length roster)) same h
+
+  plans_sites : (o : Option (List ℕ)) (line : Line) → (o >>= λ w. option_map (plans here) (moment w)) ≡ Some line → HasSites (length roster) line
+  plans_sites None line e = cc
+  plans_sites (Some word) line e = plans_of (moment word) line e
+
   verb_sites : (made : ℕ) (verb : Verb) (words : List (List ℕ)) (line : Line) → verb_line roster here made verb words ≡ Some line → HasSites (length roster) line
   verb_sites made Ship words line e = ships_sites (one_word words) line e
   verb_sites made Take words line e = takes_sites made (one_word words) line e
-  verb_sites made Plan words line e = cc
+  verb_sites made Plan words line e = plans_sites (one_word words) line e
   verb_sites made Grant words line e = act_sites (length roster) here scheduler (scheduled roster here Grant words) line h e
   verb_sites made Begin words line e = act_sites (length roster) here scheduler (scheduled roster here Begin words) line h e
   verb_sites made Finish words line e = act_sites (length roster) here scheduler (scheduled roster here Finish words) line h e

@@ -1,4 +1,4 @@
--- What a line of a script says. Lines that ask a site for its plan are not run yet: they can't be read.
+-- What a line of a script says.
 use Rattle.std.specs.Prelude.{ℕ, ◌==◌, Bool, false, List, [], ◌∷◌, codes, slice_index, Option, Some, None, Ok, Err, option_map, if◌then◌else◌}
 use Rattle.std.specs.Option.{option_map_or}
 use Rattle.std.specs.Str.{byte, bytes_eq}
@@ -32,6 +32,8 @@ pub data Line : Type 0 where
   ships : (site : ℕ) (to : ℕ) → Line
   -- a site takes a packet, by its number
   takes : (site : ℕ) (packet : ℕ) → Line
+  -- a site plans its machine at a moment
+  plans : (site : ℕ) (moment : ℕ) → Line
   -- do the boards of two sites read the same?
   compares : (site : ℕ) (other : ℕ) → Line
 
@@ -66,7 +68,7 @@ module _ (roster : List (List ℕ × ℕ)) (here : ℕ) where
   abbrev pub verb_line : ℕ → Verb → Form Line
   verb_line made Ship = one (site roster) (ships here)
   verb_line made Take = one (packet made) (takes here)
-  verb_line made Plan = λ words. None
+  verb_line made Plan = one moment (plans here)
   verb_line made verb = λ words. act here scheduler (scheduled verb words)
 
   -- what stands behind a user: a reservation, or the words of a utility

@@ -1,6 +1,6 @@
 -- The sites that a line names.
 use Rattle.std.specs.Prelude.{ℕ, ◌<◌}
-use Rattle.fed_script.specs.Line.{Line, skips, begins, acts, lists, misuses, ships, takes, compares}
+use Rattle.fed_script.specs.Line.{Line, skips, begins, acts, lists, misuses, ships, takes, plans, compares}
 
 -- the sites that the line names are of a federation of n sites
 abbrev pub HasSites : ℕ → Line → Type 0
@@ -11,4 +11,5 @@ HasSites n (lists site full jobs) = site < n
 HasSites n (misuses fault) = Unit {0}
 HasSites n (ships site to) = (site < n) × (to < n)
 HasSites n (takes site packet) = site < n
+HasSites n (plans site moment) = site < n
 HasSites n (compares site other) = (site < n) × (other < n)

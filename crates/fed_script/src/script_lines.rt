@@ -2,9 +2,9 @@
 ghost use Rattle.std.specs.Prelude.{◌≡◌, IfOk, option_map};
 ghost use Rattle.fed_words.specs.Item.{words_of as texts_of};
 ghost use Rattle.fed_script.specs.Forms.{one, two};
-ghost use Rattle.fed_script.specs.Line.{act as act_of, asked_at, compares, first_line, first_line_in, is_comment as are_of_comment, later_line, later_line_in, ships, site_line, takes, user_line, verb_line, words_in};
+ghost use Rattle.fed_script.specs.Line.{act as act_of, asked_at, compares, first_line, first_line_in, is_comment as are_of_comment, later_line, later_line_in, plans, ships, site_line, takes, user_line, verb_line, words_in};
 ghost use Rattle.fed_script.specs.LineView.{said_by};
-ghost use Rattle.fed_script.specs.Values.{packet as packet_of, site as site_of_roster};
+ghost use Rattle.fed_script.specs.Values.{moment as moment_of, packet as packet_of, site as site_of_roster};
 ghost use Rattle.fed_words.specs.Request.{request_in};
 
 use crate::askers::{read_who, scheduler};
@@ -12,10 +12,10 @@ use crate::commands::{read_cancel, read_reserve, read_scheduled};
 use crate::forms::{one_word, two_words};
 use crate::lines::{line_text, words};
 use crate::rosters::{HeldRoster, read_roster};
-use crate::values::read_packet;
+use crate::values::{read_moment, read_packet};
 use crate::verbs::Verb;
 use fed_lattice::NoMemory;
-use fed_record::{Command, Who};
+use fed_record::{Command, Moment, Who};
 use fed_stamp::{JobId, Roster, SiteId};
 use fed_words::{Request, UsageFault, read_words};
 use std::alloc::Global;
@@ -46,6 +46,8 @@ pub enum Line {
     Ship { site: SiteId, to: SiteId },
     /// `SITE take PACKET`, a packet that was made.
     Take { site: SiteId, packet: u64 },
+    /// `SITE plan MOMENT`
+    Plan { site: SiteId, moment: Moment },
     /// `equal SITE SITE`
     Compare { site: SiteId, other: SiteId },
 }
@@ -107,6 +109,14 @@ fn read_take(made: u64, site: SiteId, words: &[&str]) -> Option<Line>
     Some(Line::Take { site, packet })
 }
 
+/// `plan MOMENT`
+fn read_plan(site: SiteId, words: &[&str]) -> Option<Line>
+    ensures { option_map said_by result ≡ one moment_of (plans site) (texts_of words.now) }
+{
+    let moment = read_moment(one_word(words)?)?;
+    Some(Line::Plan { site, moment })
+}
+
 /// What the words behind a verb say.
 fn read_verb(
     alloc: Global,
@@ -121,7 +131,7 @@ fn read_verb(
     match verb {
         Verb::Ship => Ok(read_ship(roster, site, words)),
         Verb::Take => Ok(read_take(made, site, words)),
-        Verb::Plan => Ok(None),
+        Verb::Plan => Ok(read_plan(site, words)),
         Verb::Grant | Verb::Begin | Verb::Finish | Verb::HandBack => {
             act(alloc, site, scheduler(), read_scheduled(roster, site, verb, words))
         }
