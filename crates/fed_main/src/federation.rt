@@ -196,7 +196,11 @@ impl Federation {
 
     /// Runs a line, and gives the text that answers it, or `None` where the line can't be read.
     #[tactic(auto, using(crate::proofs::Federations::done_line))]
-    pub(crate) fn run_line(&mut self, alloc: Global, bytes: &[u8]) -> Result<Option<String>, NoMemory>
+    pub(crate) fn run_line(
+        &mut self,
+        alloc: Global,
+        bytes: &[u8],
+    ) -> Result<Option<String>, NoMemory>
         ensures { IfOk result (λ text. option_map (λ t. says (Some (reads self.new)) (string_bytes t)) text ≡
             answered (Some (reads self.old)) bytes.now) }
     {

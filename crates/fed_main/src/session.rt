@@ -40,7 +40,11 @@ impl Session {
     }
 
     /// Runs a line, and gives the text that answers it, or `None` where the line can't be read.
-    pub(crate) fn run_line(&mut self, alloc: Global, bytes: &[u8]) -> Result<Option<String>, NoMemory>
+    pub(crate) fn run_line(
+        &mut self,
+        alloc: Global,
+        bytes: &[u8],
+    ) -> Result<Option<String>, NoMemory>
         ensures { IfOk result (λ text. option_map (λ t. says (state_of self.new.federation) (string_bytes t)) text ≡
             answered (state_of self.old.federation) bytes.now) }
     {

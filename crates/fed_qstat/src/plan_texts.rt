@@ -18,7 +18,11 @@ fn start_line(alloc: Global, roster: &Roster, job: JobId) -> Result<String, Allo
 }
 
 /// The line of the head with its second, or nothing where there is no head.
-fn head_line(alloc: Global, roster: &Roster, head: Option<(JobId, u64)>) -> Result<String, AllocError>
+fn head_line(
+    alloc: Global,
+    roster: &Roster,
+    head: Option<(JobId, u64)>,
+) -> Result<String, AllocError>
     ensures { IfOk result (λ text. string_bytes text ≡ head_of roster.now head) }
 {
     match head {

@@ -26,7 +26,9 @@ pub enum Line {
     /// Nothing: it is empty or a comment.
     Skip,
     /// `roster NAME:NODES ..`
-    Begin { roster: HeldRoster },
+    Begin {
+        roster: HeldRoster,
+    },
     /// Somebody, or the site's own scheduler, asks a site to do this, one command after another.
     Act {
         site: SiteId,
@@ -41,15 +43,29 @@ pub enum Line {
         jobs: Vec<JobId>,
     },
     /// The words of a utility ask nothing.
-    Misuse { fault: UsageFault },
+    Misuse {
+        fault: UsageFault,
+    },
     /// `SITE ship SITE`
-    Ship { site: SiteId, to: SiteId },
+    Ship {
+        site: SiteId,
+        to: SiteId,
+    },
     /// `SITE take PACKET`, a packet that was made.
-    Take { site: SiteId, packet: u64 },
+    Take {
+        site: SiteId,
+        packet: u64,
+    },
     /// `SITE plan MOMENT`
-    Plan { site: SiteId, moment: Moment },
+    Plan {
+        site: SiteId,
+        moment: Moment,
+    },
     /// `equal SITE SITE`
-    Compare { site: SiteId, other: SiteId },
+    Compare {
+        site: SiteId,
+        other: SiteId,
+    },
 }
 
 /// The line that asks a site for one command.
@@ -133,7 +149,12 @@ fn read_verb(
         Verb::Take => Ok(read_take(made, site, words)),
         Verb::Plan => Ok(read_plan(site, words)),
         Verb::Grant | Verb::Begin | Verb::Finish | Verb::HandBack => {
-            act(alloc, site, scheduler(), read_scheduled(roster, site, verb, words))
+            act(
+                alloc,
+                site,
+                scheduler(),
+                read_scheduled(roster, site, verb, words),
+            )
         }
     }
 }
