@@ -11,8 +11,8 @@ use Rattle.fed_qstat.specs.PlanText.{plan_lines}
 abbrev pub machine_in : List (List ℕ × ℕ) → View → ℕ → MachineValue
 machine_in roster v site = record { nodes = nodes_at roster site; running = running_in site v }
 
--- the text, where nothing is wrong with the machine; in a run nothing ever is, since a site has at most 10,000 jobs and
--- the values of a Begin are in range
+-- the text, where nothing is wrong with the machine. Nothing should be wrong with one of a run, since a site has at most
+-- 10,000 jobs and the values of a Begin are in range; that is not proved here
 abbrev pub said_unless : Option MachineFault → List ℕ → List ℕ
 said_unless None text = text
 said_unless (Some fault) text = []

@@ -32,7 +32,7 @@ fn machine_plan_text(
     }
 }
 
-/// What is said where there is no machine, which want of memory alone can bring about in a run.
+/// What is said where there is no machine: nothing, and want of memory is told.
 fn no_plan_text(alloc: Global, fault: MachineFault) -> Result<String, NoMemory>
     ensures { IfOk result (λ text. (string_bytes text ≡ []) × (fault ≢ MachineFault.NoMemory)) }
 {
