@@ -2,6 +2,7 @@
 ghost use Rattle.std.specs.Prelude.{◌≡◌, ◌<◌, ◌≤◌, ◌++◌, ◌∷◌, [], ℕ, length, IfOk, None, Some, OnOk, OnErr, MatchOption, option_copied, vec_capacity, vec_len};
 ghost use Rattle.fed_board.specs.Board.{reads};
 ghost use Rattle.fed_board.specs.View.{view};
+ghost use Rattle.fed_wire.specs.Limits.{IsWithinLimits};
 ghost use Rattle.fed_replica.specs.Packet.{Packet};
 ghost use Rattle.fed_world.specs.Kept.{AreReplicas, IsTextOf};
 ghost use Rattle.fed_world.specs.Run.{outcomes as outcomes_of, packet as packet_of, run as run_of, start, step as step_of};
@@ -83,10 +84,11 @@ impl World {
     }
 
     /// The board of a site, or `None` where the federation has no such site. It stands for the set of operations that the
-    /// site holds once the events are run.
+    /// site holds once the events are run. These are within limits.
     pub fn board(&self, site: SiteId) -> Option<&Board>
-        ensures { MatchOption (option_copied result) (self.now.sites ≤ site)
+        ensures stands { MatchOption (option_copied result) (self.now.sites ≤ site)
             (λ b. (site < self.now.sites) × (reads b ≡ view ((run_of self.now.sites self.now.events).site site).set)) }
+        ensures within { IsWithinLimits ((run_of self.now.sites self.now.events).site site).set }
     {
         let index = site.get() as usize;
         if index < self.replicas.len() {
