@@ -3,29 +3,17 @@ use Rattle.std.specs.Prelude.{◌↔◌}
 use Rattle.std.proofs.Common.{◌≡◌, ℕ, List, true, ◌&&◌, length, Some, sym, ap, ap₂, subst}
 use Rattle.std.proofs.lemmas.Bool.{and_parts}
 use Rattle.fed_stamp.specs.Version.{is_below}
-use Rattle.fed_stamp.proofs.VersionLaws.{below_itself, covers_more}
-use Rattle.fed_lattice.specs.History.{History, Shares}
-use Rattle.fed_lattice.specs.Sets.{Includes, IsSameSet}
-use Rattle.fed_lattice.specs.VersionOf.{HasSites, version_of}
-use Rattle.fed_lattice.proofs.VersionOfLaws.{version_of-covers}
+use Rattle.fed_stamp.proofs.VersionLaws.{below_itself}
+use Rattle.fed_lattice.specs.History.{History}
+use Rattle.fed_lattice.specs.VersionOf.{version_of}
 use Rattle.fed_record.specs.Body.{Body}
 use Rattle.fed_board.specs.Lawful.{AreKin}
 use Rattle.fed_board.specs.View.{View, view}
 use Rattle.fed_board.proofs.ViewLaws.{view_same}
 use Rattle.fed_world.specs.Run.{World}
+use Rattle.fed_world.proofs.EqualVersions.{kin_below}
 use Rattle.fed_world.proofs.Promises.{sites_kin}
 use Rattle.fed_main.specs.Script.{IsRun, Script, same_version, view_at}
-
--- a set whose version is not above the other's is included in it
-included : (ops others : History Body) → HasSites ops → Shares (version_of others) ops others → is_below (version_of ops) (version_of others) ≡ true → Includes others ops
-included ops others sites shares below e h =
-    shares e h (covers_more (version_of ops) (version_of others) e.0 below (version_of-covers ops sites e h))
-
-kin_below : (ops others : History Body) → AreKin ops others → is_below (version_of ops) (version_of others) ≡ true → is_below (version_of others) (version_of ops) ≡ true → IsSameSet ops others
-kin_below ops others kin up down = (
-  included others ops kin.right.sites kin.right_shares down,
-  included ops others kin.left.sites kin.left_shares up,
-)
 
 same_itself : (v w : List ℕ) → v ≡ w → same_version v w ≡ true
 same_itself v w e = subst (λ u. same_version v u ≡ true) e (ap₂ (λ x y. x && y) (below_itself v) (below_itself v))
