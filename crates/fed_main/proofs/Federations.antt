@@ -1,6 +1,6 @@
 -- What the code of a script's federation keeps is what the script does.
 use Rattle.std.specs.Prelude.{IfOk, OnOk, MatchResult}
-use Rattle.std.proofs.Common.{◌≡◌, ℕ, ◌+◌, ◌<◌, ◌≤◌, Bool, List, [], ◌∷◌, ◌++◌, length, get_or, take, Some, Result, Ok, Err, refl, sym, ap, ap₂, subst, ◌∙◌, append_assoc, append-nil, arith}
+use Rattle.std.proofs.Common.{◌≡◌, ℕ, ◌+◌, ◌<◌, ◌≤◌, Bool, List, [], ◌∷◌, ◌++◌, length, get_or, take, Some, Result, Ok, Err, refl, sym, ap, ap₂, ◌∙◌, append_assoc, append-nil}
 use Rattle.std.proofs.lemmas.List.{take_more, take_all}
 use Rattle.fed_stamp.specs.Stamp.{StampValue}
 use Rattle.fed_board.specs.View.{View}
@@ -13,7 +13,7 @@ use Rattle.fed_world.specs.declared.outcomes.Outcome.{Outcome}
 use Rattle.fed_world.specs.Kept.{WorldValue}
 use Rattle.fed_world.specs.Run.{World, run, step}
 use Rattle.fed_world.proofs.Runs.{run-push}
-use Rattle.fed_main.specs.Federation.{FederationValue, reads}
+use Rattle.fed_main.specs.Federation.{reads}
 use Rattle.fed_main.specs.Outcome.{answer_line, outcome_text}
 use Rattle.fed_script.specs.Line.{Line}
 use Rattle.fed_main.specs.Script.{Answered, Script, State, after_commands, after_event, does, followed, later, lines_of, says}

@@ -2,6 +2,7 @@ pub mod AccountScript
 pub mod DeleteScript
 pub mod EqualVersions
 pub mod Federations
+pub mod FewJobs
 pub mod GapScript
 pub mod GrantScript
 pub mod HandBackScript
@@ -12,6 +13,7 @@ pub mod PriorityScript
 pub mod Progress
 pub mod RepeatScript
 pub mod RoleScript
+pub mod RunMachines
 pub mod ScriptRuns
 pub mod Texts
 pub mod UnreadScript

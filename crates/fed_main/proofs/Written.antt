@@ -1,5 +1,5 @@
 -- What is known to be written, step by step.
-use Rattle.std.proofs.Common.{◌≡◌, ℕ, List, [], ◌∷◌, ◌++◌, Option, Some, None, Result, Ok, Err, subst, refl, sym, ◌∙◌, inl, inr, append_assoc, append-nil, true}
+use Rattle.std.proofs.Common.{◌≡◌, ℕ, List, [], ◌++◌, Option, Some, None, Result, Ok, Err, subst, refl, sym, ◌∙◌, inl, inr, append_assoc, append-nil, true}
 use Rattle.std.specs.Prelude.{◌⊎◌, is_ok, OnOk, IfSome}
 use Rattle.std.specs.Io.KnownBytes.{Appends, Keeps}
 use Rattle.fed_main.specs.Ends.{EndsAs, HasSaid}

@@ -1,8 +1,10 @@
 //! The federation of a script.
 ghost use Rattle.std.specs.Prelude.{◌≡◌, ◌<◌, [], ◌++◌, codes, IfOk, MatchResult, length, option_map, Some, string_bytes};
 ghost use Rattle.std.specs.Fmt.{decimal};
+ghost use Rattle.fed_stamp.specs.Roster.{IsRoster};
 ghost use Rattle.fed_board.specs.Board.{reads as reads_board};
 ghost use Rattle.fed_qstat.specs.Listing.{listing};
+ghost use Rattle.fed_wire.specs.Limits.{IsWithinLimits};
 ghost use Rattle.fed_words.specs.Fault.{fault_number};
 ghost use Rattle.fed_world.specs.declared.events.Event.TheVariants.{Do};
 ghost use Rattle.fed_script.specs.LineSites.{HasSites};
@@ -57,15 +59,17 @@ impl Federation {
 
     /// The sites.
     fn roster(&self) -> &Roster
-        ensures { result.now ≡ self.now.roster }
+        ensures same { result.now ≡ self.now.roster }
+        ensures lawful { IsRoster self.now.roster }
     {
         self.roster.get()
     }
 
-    /// The board of a site.
+    /// The board of a site, whose operations are within limits.
     fn board(&self, site: SiteId) -> &Board
         requires { site < length self.now.roster }
-        ensures { reads_board result.now ≡ view_at (reads self.now) site }
+        ensures stands { reads_board result.now ≡ view_at (reads self.now) site }
+        ensures within { IsWithinLimits ((reads self.now).world.site site).set }
     {
         self.world.board(site).unwrap()
     }

@@ -1,5 +1,11 @@
 //! Laws of what scripts do. Each function does nothing: its contract is the law.
-ghost use Rattle.std.specs.Prelude.{◌≡◌, ◌↔◌, ℕ, List, Some, IsTrue};
+ghost use Rattle.std.specs.Prelude.{◌≡◌, ◌↔◌, ◌≤◌, ℕ, List, None, Some, IsTrue};
+ghost use Rattle.fed_stamp.specs.Roster.{is_node_count};
+ghost use Rattle.fed_board.specs.View.{view};
+ghost use Rattle.fed_easy.specs.Machine.{first_fault, running_in};
+ghost use Rattle.fed_world.specs.declared.events.Event.{Event};
+ghost use Rattle.fed_world.specs.Ranges.{AreRanged};
+ghost use Rattle.fed_world.specs.Run.{run};
 ghost use Rattle.fed_main.specs.Script.{Answered, IsRun, Script, State, answered, same_version, view_at};
 
 /// The world of a script is that of a run, whatever lines were run.
@@ -13,4 +19,11 @@ pub fn scripts_are_runs()
 pub fn boards_of_one_version_read_the_same()
     ensures { (s : Script) (site other : ℕ) → IsRun (Some s) →
         IsTrue (same_version (view_at s site).version (view_at s other).version) ↔ (view_at s site ≡ view_at s other) }
+{}
+
+/// In a run of events whose values are in range nothing is wrong with the machine of a site, as long as its nodes are a
+/// site's: of each of the 16 sites there are 10,000 jobs at most, and what runs came of a Begin in range.
+pub fn machines_of_runs_are_never_refused()
+    ensures { (n : ℕ) (events : List Event) (site nodes : ℕ) → n ≤ 16 → AreRanged events → IsTrue (is_node_count nodes) →
+        first_fault nodes (running_in site (view ((run n events).site site).set)) ≡ None }
 {}

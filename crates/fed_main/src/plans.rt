@@ -1,12 +1,14 @@
 //! The text of a site's plan.
-ghost use Rattle.std.specs.Prelude.{◌≡◌, ◌≢◌, ◌<◌, [], IfOk, length, string_bytes};
+ghost use Rattle.std.specs.Prelude.{◌≡◌, ◌<◌, IfOk, None, length, string_bytes};
+ghost use Rattle.fed_stamp.specs.Roster.{nodes_at};
 ghost use Rattle.fed_board.specs.Board.{reads};
+ghost use Rattle.fed_easy.specs.Machine.{first_fault, running_in};
 ghost use Rattle.fed_easy.specs.SitePlan.{site_plan};
 ghost use Rattle.fed_qstat.specs.PlanText.{plan_lines};
 ghost use Rattle.fed_main.specs.Planned.{planned};
 
 use fed_board::Board;
-use fed_easy::{Machine, MachineFault, machine_of, plan};
+use fed_easy::{Machine, MachineFault, PlanFault, machine_of, plan};
 use fed_lattice::NoMemory;
 use fed_qstat::plan_text;
 use fed_record::Moment;
@@ -27,24 +29,15 @@ fn machine_plan_text(
 {
     match plan(alloc, board, site, moment.get(), machine) {
         Ok(plan) => plan_text(alloc, &plan, roster),
-        // a moment is in range, so that want of memory is all that is left
-        Err(_) => Err(NoMemory),
-    }
-}
-
-/// What is said where there is no machine: nothing, and want of memory is told.
-fn no_plan_text(alloc: Global, fault: MachineFault) -> Result<String, NoMemory>
-    ensures { IfOk result (λ text. (string_bytes text ≡ []) × (fault ≢ MachineFault.NoMemory)) }
-{
-    match fault {
-        MachineFault::NoMemory => Err(NoMemory),
-        MachineFault::Nodes | MachineFault::TooMany | MachineFault::Entry { .. } => {
-            Ok(String::new(alloc))
+        Err(fault) => {
+            // a moment is in range, so that want of memory is all that is left
+            prove!(matches!(&fault, PlanFault::NoMemory));
+            Err(NoMemory)
         }
     }
 }
 
-/// The plan of a site at a moment, with the roster's nodes and what the board says runs there.
+/// The plan of a site at a moment, with the roster's nodes and what the board says runs there, which a machine may have.
 pub(crate) fn site_plan_text(
     alloc: Global,
     roster: &Roster,
@@ -52,12 +45,17 @@ pub(crate) fn site_plan_text(
     site: SiteId,
     moment: Moment,
 ) -> Result<String, NoMemory>
-    requires { site < length roster.now }
+    requires site { site < length roster.now }
+    requires machine { first_fault (nodes_at roster.now site) (running_in site (reads board.now)) ≡ None }
     ensures { IfOk result (λ text. string_bytes text ≡ planned roster.now (reads board.now) site moment) }
 {
     let nodes = roster.nodes(site).unwrap();
     match machine_of(alloc, board, site, nodes) {
         Ok(machine) => machine_plan_text(alloc, roster, board, site, moment, &machine),
-        Err(fault) => no_plan_text(alloc, fault),
+        Err(fault) => {
+            // nothing is wrong with the machine, so that want of memory is all that is left
+            prove!(matches!(&fault, MachineFault::NoMemory));
+            Err(NoMemory)
+        }
     }
 }

@@ -1,14 +1,9 @@
 use Rattle.std.proofs.Common.{sym, string_bytes, ◌∙◌}
 use Rattle.fed_board.specs.Board.{reads}
-use Rattle.fed_main.proofs.Machines.{nodes_found, none_said, plan_said}
+use Rattle.fed_main.proofs.Machines.{nodes_found, plan_said}
 use Rattle.fed_main.proofs.plans.site_plan_text.Goals as goal
 
 pub returns-in-Ok : goal.returns-in-Ok
-returns-in-Ok c = plan_said c.args.roster.now (reads c.args.board.now) c.args.site c.args.moment c.unwrap-nodes.result
-    (nodes_found c.args.roster.now c.args.site c.unwrap-nodes.result c.requires (sym c.unwrap-nodes.ensures ∙ c.nodes.ensures.same))
-    c.machine_plan_text.result string_bytes c.in-Ok.machine c.in-Ok.ensures c.machine_plan_text.ensures
-
-pub returns-in-Err : goal.returns-in-Err
-returns-in-Err c = none_said c.args.roster.now (reads c.args.board.now) c.args.site c.args.moment c.unwrap-nodes.result
-    (nodes_found c.args.roster.now c.args.site c.unwrap-nodes.result c.requires (sym c.unwrap-nodes.ensures ∙ c.nodes.ensures.same))
-    c.no_plan_text.result string_bytes c.in-Err.fault c.in-Err.ensures c.no_plan_text.ensures
+returns-in-Ok c = plan_said c.args.roster.now (reads c.args.board.now) c.args.site c.unwrap-nodes.result
+    (nodes_found c.args.roster.now c.args.site c.unwrap-nodes.result c.requires.site (sym c.unwrap-nodes.ensures ∙ c.nodes.ensures.same)) c.requires.machine
+    c.machine_plan_text.result string_bytes c.args.moment c.in-Ok.machine c.in-Ok.ensures c.machine_plan_text.ensures
