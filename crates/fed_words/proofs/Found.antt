@@ -34,7 +34,7 @@ use Rattle.fed_words.specs.Setting.{last_settings, setting_in, settings_in}
 use Rattle.fed_words.specs.Spelling.{Item, Spelling, before, group, is_options, spelling}
 use Rattle.fed_words.specs.Utility.{choice_of, choices, letter_of, takes_argument, utility_named}
 use Rattle.fed_words.specs.Request.{Asked, jobs_in, named_jobs, once, request_in, request_of}
-use Rattle.fed_words.specs.Wish.{CanBeAsked, HasJobs, IsJob, IsOption, IsResourceWish, IsWish, ResourceWish, Wish, account, full, held, item_of, kinds, name, nodes, priority, resource_of, resources, setting_of, sites, walltime}
+use Rattle.fed_words.specs.Askable.{CanBeAsked, HasJobs, IsJob, IsOption, IsResourceInRange, IsInRange, ResourceArgument, OptionArgument, account, full, held, item_of, kinds, name, nodes, priority, resource_of, resources, setting_of, sites, walltime}
 use Rattle.fed_words.proofs.Cuts.{map-itself}
 use Rattle.fed_words.proofs.Each.{each-length}
 
@@ -66,16 +66,16 @@ both : (a b : Bool) → (a && b) ≡ true → (a ≡ true) × (b ≡ true)
 both true b e = (refl, e)
 both false b e = absurd cc
 
--- each value found is of a wish
+-- each value found is of a argument
 pub each_found : {W A B : Type 0} (says : A → Answer B) (means : W → B) (Q : W → Type 0) → ((x : A) (y : B) → says x ≡ Ok y → (w : W) × Q w × (means w ≡ y)) → (xs : List A) (ys : List B) → each says xs ≡ Ok ys → (ws : List W) × All Q ws × (map means ws ≡ ys)
 each_found says means Q h [] ys e = ([], All-nil Q, cc)
 each_found says means Q h (x ∷ xs) ys e =
     let first = bind_ok (says x) _ ys e in
     let others = bind_ok (each says xs) _ ys first.2 in
-    let wish = h x first.0 first.1 in
-    let wishes = each_found says means Q h xs others.0 others.1 in
+    let argument = h x first.0 first.1 in
+    let arguments = each_found says means Q h xs others.0 others.1 in
     let whole : first.0 ∷ others.0 ≡ ys = cc (others.2) in
-    (wish.0 ∷ wishes.0, All-cons Q wish.0 wishes.0 wish.1 wishes.1, rw (wish.2, wishes.2) whole)
+    (argument.0 ∷ arguments.0, All-cons Q argument.0 arguments.0 argument.1 arguments.1, rw (argument.2, arguments.2) whole)
 
 number_found : (least most n : ℕ) (word : List ℕ) → number_in least most word ≡ Some n → is_within least most n ≡ true
 number_found least most n word e =
@@ -104,7 +104,7 @@ module _ (roster : List (List ℕ × ℕ)) where
       let found = find_below (is_named roster text) 0 (length roster) site (ok_or_ok (find (is_named roster text) (range_with_len 0 (length roster))) UnknownSite site formed.1) in
       omega arith
 
-  sites_found : (text : List ℕ) (set : List Bool) → sites_in roster text ≡ Ok set → (wish : ResourceWish) × IsResourceWish roster wish × (resource_of wish ≡ Resource.Sites set)
+  sites_found : (text : List ℕ) (set : List Bool) → sites_in roster text ≡ Ok set → (argument : ResourceArgument) × IsResourceInRange roster argument × (resource_of argument ≡ Resource.Sites set)
   sites_found text set e =
       let found = map_ok set_of (each (site_in BadValue roster) (slice_split is_plus text)) set e in
       let ids = each_found (site_in BadValue roster) (λ site. site) (λ site. site < length roster) (λ part site f. (site, site_found BadValue part site f, refl)) (slice_split is_plus text) found.0 found.1 in
@@ -112,7 +112,7 @@ module _ (roster : List (List ℕ × ℕ)) where
       let count = each-length (site_in BadValue roster) (slice_split is_plus text) found.0 found.1 in
       (sites ids.0, (rw same (omega (arith, count, length-slice_split is_plus text)), ids.1), ap Resource.Sites (ap set_of same ∙ found.2))
 
-  value_found : (front value : List ℕ) (resource : Resource) → value_in roster front value ≡ Ok resource → (wish : ResourceWish) × IsResourceWish roster wish × (resource_of wish ≡ resource)
+  value_found : (front value : List ℕ) (resource : Resource) → value_in roster front value ≡ Ok resource → (argument : ResourceArgument) × IsResourceInRange roster argument × (resource_of argument ≡ resource)
   value_found front value resource e = elim (cases_Bool (bytes_eq front (codes "nodes"))) [
     | inl is_nodes ↦
         let read = option_map_some Resource.Nodes (number_in 1 1_000_000 value) resource (ok_or_ok (option_map Resource.Nodes (number_in 1 1_000_000 value)) BadValue resource (rw is_nodes at e)) in
@@ -124,25 +124,25 @@ module _ (roster : List (List ℕ × ℕ)) where
       | inr no_limit ↦
           let read = when_ok (bytes_eq front (codes "sites")) (answer_map Resource.Sites (sites_in roster value)) BadValue resource (rw (no_nodes, no_limit) at e) in
           let set = map_ok Resource.Sites (sites_in roster value) resource read.1 in
-          let wish = sites_found value set.0 set.1 in
-          (wish.0, wish.1, wish.2 ∙ set.2)
+          let argument = sites_found value set.0 set.1 in
+          (argument.0, argument.1, argument.2 ∙ set.2)
     ]
   ]
 
-  resource_found : (pair : List ℕ) (resource : Resource) → resource_in roster pair ≡ Ok resource → (wish : ResourceWish) × IsResourceWish roster wish × (resource_of wish ≡ resource)
+  resource_found : (pair : List ℕ) (resource : Resource) → resource_in roster pair ≡ Ok resource → (argument : ResourceArgument) × IsResourceInRange roster argument × (resource_of argument ≡ resource)
   resource_found pair resource e =
       let read = when_ok (is_some (position is_equals pair)) (value_in roster (before_first is_equals pair) (after_first is_equals pair)) BadValue resource e in
       value_found (before_first is_equals pair) (after_first is_equals pair) resource read.1
 
-  resources_found : (text : List ℕ) (given : Resources) → resources_in roster text ≡ Ok given → (wishes : List ResourceWish) × (0 < length wishes) × All (IsResourceWish roster) wishes × (last_resources (map resource_of wishes) ≡ given)
+  resources_found : (text : List ℕ) (given : Resources) → resources_in roster text ≡ Ok given → (arguments : List ResourceArgument) × (0 < length arguments) × All (IsResourceInRange roster) arguments × (last_resources (map resource_of arguments) ≡ given)
   resources_found text given e =
       let found = map_ok last_resources (each (resource_in roster) (slice_split is_comma text)) given e in
-      let wishes = each_found (resource_in roster) resource_of (IsResourceWish roster) resource_found (slice_split is_comma text) found.0 found.1 in
+      let arguments = each_found (resource_in roster) resource_of (IsResourceInRange roster) resource_found (slice_split is_comma text) found.0 found.1 in
       let count = each-length (resource_in roster) (slice_split is_comma text) found.0 found.1 in
-      let same = length-mapped wishes.0 in
-      (wishes.0, omega (arith, count, length-slice_split is_comma text, ap length wishes.2, same), wishes.1, ap last_resources wishes.2 ∙ found.2)
+      let same = length-mapped arguments.0 in
+      (arguments.0, omega (arith, count, length-slice_split is_comma text, ap length arguments.2, same), arguments.1, ap last_resources arguments.2 ∙ found.2)
     where
-      length-mapped : (ws : List ResourceWish) → length (map resource_of ws) ≡ length ws
+      length-mapped : (ws : List ResourceArgument) → length (map resource_of ws) ≡ length ws
       length-mapped [] = refl
       length-mapped (w ∷ ws) = ap suc (length-mapped ws)
 
@@ -177,7 +177,7 @@ module _ (roster : List (List ℕ × ℕ)) where
   any_kind false false true false false z e = refl
   any_kind false false false x y z e = absurd cc
 
-  kinds_found : (text : List ℕ) (found : HoldKinds) → kinds_in text ≡ Some found → (wish : Wish) × IsWish roster wish × (setting_of wish ≡ Setting.Kinds found) × ((item_of roster wish).0 ≡ Choice.Kinds)
+  kinds_found : (text : List ℕ) (found : HoldKinds) → kinds_in text ≡ Some found → (argument : OptionArgument) × IsInRange roster argument × (setting_of argument ≡ Setting.Kinds found) × ((item_of roster argument).0 ≡ Choice.Kinds)
   kinds_found [] found e = absurd cc
   kinds_found (b ∷ text) found e =
       let read = when_some (nat_lt 0 (length (b ∷ text)) && list_all is_kind_letter (b ∷ text)) (record { 0 = sum_of_bits (has_letter 117 (b ∷ text)) (has_letter 111 (b ∷ text)) (has_letter 115 (b ∷ text)) }) found e in
@@ -188,17 +188,17 @@ module _ (roster : List (List ℕ × ℕ)) where
         refl,
       )
 
-  setting_found : (option : Choice) (text : List ℕ) (setting : Setting) → setting_in roster option text ≡ Ok setting → (wish : Wish) × IsWish roster wish × (setting_of wish ≡ setting) × ((item_of roster wish).0 ≡ option)
+  setting_found : (option : Choice) (text : List ℕ) (setting : Setting) → setting_in roster option text ≡ Ok setting → (argument : OptionArgument) × IsInRange roster argument × (setting_of argument ≡ setting) × ((item_of roster argument).0 ≡ option)
   setting_found Choice.Account text setting e = let read = when_ok (is_name text) (Ok (Setting.Account (Some text))) BadValue setting e in let same : Setting.Account (Some text) ≡ setting = cc (read.1) in (account text, read.0, same, refl)
   setting_found Choice.Held text setting e = let same : Setting.Held ≡ setting = cc in (held, tt, same, refl)
   setting_found Choice.Kinds text setting e =
       let read = option_map_some Setting.Kinds (kinds_in text) setting (ok_or_ok (option_map Setting.Kinds (kinds_in text)) BadValue setting e) in
-      let wish = kinds_found text read.0 read.1 in
-      (wish.0, wish.1, wish.2 ∙ read.2, wish.3)
+      let argument = kinds_found text read.0 read.1 in
+      (argument.0, argument.1, argument.2 ∙ read.2, argument.3)
   setting_found Choice.Resources text setting e =
       let read = map_ok Setting.Resources (resources_in roster text) setting e in
-      let wishes = resources_found text read.0 read.1 in
-      (resources wishes.0, (wishes.1, wishes.2), ap Setting.Resources wishes.3 ∙ read.2, refl)
+      let arguments = resources_found text read.0 read.1 in
+      (resources arguments.0, (arguments.1, arguments.2), ap Setting.Resources arguments.3 ∙ read.2, refl)
   setting_found Choice.Name text setting e = let read = when_ok (is_name text) (Ok (Setting.Name text)) BadValue setting e in let same : Setting.Name text ≡ setting = cc (read.1) in (name text, read.0, same, refl)
   setting_found Choice.Priority text setting e =
       let read = option_map_some Setting.Priority (priority_in text) setting (ok_or_ok (option_map Setting.Priority (priority_in text)) BadValue setting e) in
@@ -271,10 +271,10 @@ each_found_of says means P Q h [] ys all e = ([], All-nil Q, cc)
 each_found_of says means P Q h (x ∷ xs) ys all e =
     let first = bind_ok (says x) _ ys e in
     let others = bind_ok (each says xs) _ ys first.2 in
-    let wish = h x first.0 (All-head P x xs all) first.1 in
-    let wishes = each_found_of says means P Q h xs others.0 (All-tail P x xs all) others.1 in
+    let argument = h x first.0 (All-head P x xs all) first.1 in
+    let arguments = each_found_of says means P Q h xs others.0 (All-tail P x xs all) others.1 in
     let whole : first.0 ∷ others.0 ≡ ys = cc (others.2) in
-    (wish.0 ∷ wishes.0, All-cons Q wish.0 wishes.0 wish.1 wishes.1, rw (wish.2, wishes.2) whole)
+    (argument.0 ∷ arguments.0, All-cons Q argument.0 arguments.0 argument.1 arguments.1, rw (argument.2, arguments.2) whole)
 
 each_all : {A B : Type 0} (says : A → Answer B) (P : B → Type 0) → ((x : A) (y : B) → says x ≡ Ok y → P y) → (xs : List A) (ys : List B) → each says xs ≡ Ok ys → All P ys
 each_all says P h [] ys e = let nothing : [] ≡ ys = cc in rw (← nothing) (All-nil P)
@@ -302,11 +302,11 @@ module _ (roster : List (List ℕ × ℕ)) (here : ℕ) (inside : here < length 
   jobs_found Qdel settings [] jobs e = absurd cc
   jobs_found Qdel settings (operand ∷ operands) jobs e = let f = named_found (operand ∷ operands) jobs e in (f.0, f.1, omega (arith, f.2), ap (request_of roster Qdel settings) (sym f.3))
 
-  wish_found : (utility : Utility) (item : Item) (setting : Setting) → KnownItem utility item → setting_in roster item.0 item.1 ≡ Ok setting → (wish : Wish) × (IsOption roster utility wish × IsWish roster wish) × (setting_of wish ≡ setting)
+  argument_found : (utility : Utility) (item : Item) (setting : Setting) → KnownItem utility item → setting_in roster item.0 item.1 ≡ Ok setting → (argument : OptionArgument) × (IsOption roster utility argument × IsInRange roster argument) × (setting_of argument ≡ setting)
   unfolding Known KnownItem
-  wish_found utility item setting known e =
-      let wish = setting_found roster item.0 item.1 setting e in
-      (wish.0, (rw wish.3 known, wish.1), wish.2)
+  argument_found utility item setting known e =
+      let argument = setting_found roster item.0 item.1 setting e in
+      (argument.0, (rw argument.3 known, argument.1), argument.2)
 
   pub request_found : (words : List (List ℕ)) (request : Asked) → request_in roster here words ≡ Ok request → CanBeAsked roster request
   request_found [] request e = absurd cc
@@ -316,17 +316,17 @@ module _ (roster : List (List ℕ × ℕ)) (here : ℕ) (inside : here < length 
       let operands = bind_ok (spelling utility.0 None words).rest _ request settings.2 in
       let jobs = bind_ok (jobs_in roster here utility.0 operands.0) _ request operands.2 in
       let given = map_ok last_settings (each (λ item. setting_in roster item.0 item.1) (spelling utility.0 None words).items) settings.0 settings.1 in
-      let wishes = each_found_of (λ item. setting_in roster item.0 item.1) setting_of (KnownItem utility.0) (λ wish. IsOption roster utility.0 wish × IsWish roster wish) (wish_found utility.0) (spelling utility.0 None words).items given.0 (spelling_known utility.0 None words (λ option f. absurd cc)) given.1 in
+      let arguments = each_found_of (λ item. setting_in roster item.0 item.1) setting_of (KnownItem utility.0) (λ argument. IsOption roster utility.0 argument × IsInRange roster argument) (argument_found utility.0) (spelling utility.0 None words).items given.0 (spelling_known utility.0 None words (λ option f. absurd cc)) given.1 in
       let found = jobs_found utility.0 settings.0 operands.0 jobs.0 jobs.1 in
       let whole : request_of roster utility.0 settings.0 jobs.0 ≡ request = cc (jobs.2) in
-      let last : settings.0 ≡ last_settings (map setting_of wishes.0) = sym (ap last_settings wishes.2 ∙ given.2) in
+      let last : settings.0 ≡ last_settings (map setting_of arguments.0) = sym (ap last_settings arguments.2 ∙ given.2) in
       record {
         utility = utility.0;
-        wishes = wishes.0;
+        arguments = arguments.0;
         jobs = found.0;
         asked = record {
-          options = All-weaker (λ wish. IsOption roster utility.0 wish × IsWish roster wish) (IsOption roster utility.0) (λ wish h. h.0) wishes.0 wishes.1;
-          wished = All-weaker (λ wish. IsOption roster utility.0 wish × IsWish roster wish) (IsWish roster) (λ wish h. h.1) wishes.0 wishes.1;
+          options = All-weaker (λ argument. IsOption roster utility.0 argument × IsInRange roster argument) (IsOption roster utility.0) (λ argument h. h.0) arguments.0 arguments.1;
+          in_range = All-weaker (λ argument. IsOption roster utility.0 argument × IsInRange roster argument) (IsInRange roster) (λ argument h. h.1) arguments.0 arguments.1;
           known = found.1;
           some = found.2;
         };

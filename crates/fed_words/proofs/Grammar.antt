@@ -1,5 +1,5 @@
 -- Words are read as the grammar says, and all words are of the grammar.
-use Rattle.std.proofs.Common.{◌≡◌, ℕ, suc, ◌<◌, Bool, true, false, ◌&&◌, List, [], ◌∷◌, ◌++◌, length, map, Option, Some, None, Ok, Err, refl, ap, sym, ◌∙◌, arith, inl, inr, append-nil, append_assoc, codes}
+use Rattle.std.proofs.Common.{◌≡◌, ℕ, suc, ◌<◌, Bool, true, false, ◌&&◌, List, [], ◌∷◌, ◌++◌, length, Option, Some, None, Ok, Err, refl, ap, sym, ◌∙◌, arith, inl, inr, append-nil, append_assoc, codes}
 use Rattle.std.specs.Prelude.{◌==◌, nat_lt, option_map}
 use Rattle.std.specs.List.{All, find, flat_map}
 use Rattle.std.specs.Str.{bytes_eq}
@@ -11,9 +11,8 @@ use Rattle.fed_words.specs.declared.faults.UsageFault.TheVariants.{MissingArgume
 use Rattle.fed_words.specs.declared.utilities.Choice.{Choice}
 use Rattle.fed_words.specs.declared.utilities.Utility.{Utility}
 use Rattle.fed_words.specs.declared.utilities.Utility.TheVariants.{Qsub, Qalter, Qhold, Qrls, Qdel, Qstat}
-use Rattle.fed_words.specs.Fault.{Answer}
 use Rattle.fed_words.specs.Spelling.{Item, Spelling, before, group, is_options, spelling, with_item}
-use Rattle.fed_words.specs.Syntax.{Argued, Ending, HasOption, IsEnding, IsLast, IsLine, IsOptionWord, Line, OptionWord, attached, bare, delimited, item_of_last, items_of_ending, items_of_flags, items_of_line, items_of_option, letters, missing, rest_of_ending, separate, unknown, words_behind, words_of_ending, words_of_line, words_of_option}
+use Rattle.fed_words.specs.Syntax.{Argued, Ending, HasOption, IsEnding, IsLast, IsLine, IsOptionWord, Line, OptionWord, attached, bare, delimited, item_of_last, items_of_ending, items_of_flags, items_of_option, letters, missing, rest_of_ending, separate, unknown, words_behind, words_of_ending, words_of_line, words_of_option}
 use Rattle.fed_words.specs.Utility.{choice_of, choices, letter_of, takes_argument}
 use Rattle.fed_words.proofs.Spellings.{Words, with_items}
 

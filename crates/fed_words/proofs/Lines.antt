@@ -3,12 +3,11 @@ use Rattle.std.proofs.Common.{◌≡◌, ℕ, inl, inr, false, List, [], ◌∷�
 use Rattle.std.specs.List.{All, flat_map}
 use Rattle.std.proofs.lemmas.Bool.{cases_Bool}
 use Rattle.std.proofs.lemmas.List.Elements.{All-cons, All-head, All-nil, All-tail}
-use Rattle.fed_words.specs.declared.utilities.Choice.{Choice}
 use Rattle.fed_words.specs.declared.utilities.Utility.{Utility}
 use Rattle.fed_words.specs.Spelling.{Item, spelling}
 use Rattle.fed_words.specs.Syntax.{HasOption, IsOptionWord, delimited, items_of_option, words_of_line}
 use Rattle.fed_words.specs.Utility.{choice_of, letter_of, takes_argument}
-use Rattle.fed_words.specs.Wish.{line_of, option_word_of}
+use Rattle.fed_words.specs.Askable.{line_of, option_word_of}
 use Rattle.fed_words.proofs.Cuts.{all-map}
 use Rattle.fed_words.proofs.Grammar.{line_read}
 

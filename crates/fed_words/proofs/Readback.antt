@@ -1,4 +1,4 @@
--- What is wished is read back from the words that say it.
+-- What a user asks is read back from the words that say it.
 use Rattle.std.proofs.Common.{◌≡◌, ℕ, zero, suc, ◌+◌, ◌<◌, ◌≤◌, ◌^◌, Bool, true, false, List, [], ◌∷◌, ◌++◌, length, map, Some, None, Ok, refl, ap, sym, ◌∙◌, arith, inl, inr}
 use Rattle.std.specs.Prelude.{◌==◌, codes, nat_eq, nat_le}
 use Rattle.std.specs.Cmp.Lexicographic.{pointwise, same_text, nat_list_eq_equiv}
@@ -25,7 +25,7 @@ use Rattle.fed_words.specs.Setting.{last_settings, setting_in, settings_in}
 use Rattle.fed_words.specs.Spelling.{spelling}
 use Rattle.fed_words.specs.Syntax.{words_of_line}
 use Rattle.fed_words.specs.Utility.{takes_argument, utility_named}
-use Rattle.fed_words.specs.Wish.{HasJobs, IsAsked, IsJob, IsOption, IsResourceWish, IsWish, ResourceWish, Wish, account, asking, full, held, identifier_text, item_of, kinds, line_of, name, name_of, nodes, priority, resource_of, resource_text, resources, setting_of, sites, walltime}
+use Rattle.fed_words.specs.Askable.{HasJobs, IsAsked, IsJob, IsOption, IsResourceInRange, IsInRange, ResourceArgument, OptionArgument, account, asking, full, held, identifier_text, item_of, kinds, line_of, name, name_of, nodes, priority, resource_of, resource_text, resources, setting_of, sites, walltime}
 use Rattle.fed_words.proofs.Answering.{asked-answer}
 use Rattle.fed_words.proofs.Lines.{IsItem, line_is_read}
 use Rattle.fed_words.proofs.Cuts.{Free, all-map, cut-after, cut-before, cut-found, each-said, free-append, free-join, map-itself, split-join}
@@ -96,7 +96,7 @@ module _ (roster : List (List ℕ × ℕ)) (lawful : IsRoster roster) where
       ∙ ap (answer_map set_of) (each-said (site_in BadValue roster) (name_at roster) (λ site. site) (λ site. site < length roster) (site_in-name BadValue) ids all)
       ∙ ap (λ found. Ok (set_of found)) (map-itself ids)
 
-  pub resource_in-text : (wish : ResourceWish) → IsResourceWish roster wish → resource_in roster (resource_text roster wish) ≡ Ok (resource_of wish)
+  pub resource_in-text : (argument : ResourceArgument) → IsResourceInRange roster argument → resource_in roster (resource_text roster argument) ≡ Ok (resource_of argument)
   resource_in-text (nodes n) h = value_read (codes "nodes") (decimal n) (refl, (refl, (refl, (refl, (refl, tt))))) ∙ rw (number_in-decimal 1 1_000_000 n (omega arith) h) refl
   resource_in-text (walltime n) h = value_read (codes "walltime") (decimal n) (refl, (refl, (refl, (refl, (refl, (refl, (refl, (refl, tt)))))))) ∙ rw (number_in-decimal 1 10_000_000 n (omega arith) h) refl
   resource_in-text (sites ids) h = value_read (codes "sites") (join_with_byte 43 (map (name_at roster) ids)) (refl, (refl, (refl, (refl, (refl, tt))))) ∙ rw (names_read ids h.0 h.1) refl
@@ -104,23 +104,23 @@ module _ (roster : List (List ℕ × ℕ)) (lawful : IsRoster roster) where
   digit_no_comma : (c : ℕ) → (48 ≤ c) × (c ≤ 57) → (c == 44) ≡ false
   digit_no_comma c h = grind (arith, nat_tests)
 
-  text_free : (wish : ResourceWish) → IsResourceWish roster wish → Free (λ b. b == 44) (resource_text roster wish)
+  text_free : (argument : ResourceArgument) → IsResourceInRange roster argument → Free (λ b. b == 44) (resource_text roster argument)
   text_free (nodes n) h = free-append (λ b. b == 44) (codes "nodes=") (decimal n) (refl, (refl, (refl, (refl, (refl, (refl, tt)))))) (free-decimal (λ b. b == 44) n (in_64 1 1_000_000 n (omega arith) h) digit_no_comma)
   text_free (walltime n) h = free-append (λ b. b == 44) (codes "walltime=") (decimal n) (refl, (refl, (refl, (refl, (refl, (refl, (refl, (refl, (refl, tt))))))))) (free-decimal (λ b. b == 44) n (in_64 1 10_000_000 n (omega arith) h) digit_no_comma)
   text_free (sites ids) h = free-append (λ b. b == 44) (codes "sites=") (join_with_byte 43 (map (name_at roster) ids)) (refl, (refl, (refl, (refl, (refl, (refl, tt))))))
       (free-join (λ b. b == 44) 43 (map (name_at roster) ids) refl (all-map (Free (λ b. b == 44)) (name_at roster) (λ site. site < length roster) (λ site within. free-site_name (λ b. b == 44) (name_at roster site) no_comma (name_formed site within)) ids h.1))
 
-  some_texts : (wishes : List ResourceWish) → 0 < length wishes → 0 < length (map (resource_text roster) wishes)
+  some_texts : (arguments : List ResourceArgument) → 0 < length arguments → 0 < length (map (resource_text roster) arguments)
   some_texts [] some = absurd (omega arith)
-  some_texts (wish ∷ wishes) some = omega arith
+  some_texts (argument ∷ arguments) some = omega arith
 
-  pub resources_in-texts : (wishes : List ResourceWish) → 0 < length wishes → All (IsResourceWish roster) wishes → resources_in roster (join_with_byte 44 (map (resource_text roster) wishes)) ≡ Ok (last_resources (map resource_of wishes))
-  resources_in-texts wishes some all =
-      let parts = split-join 44 (map (resource_text roster) wishes) (some_texts wishes some) (all-map (Free (λ b. b == 44)) (resource_text roster) (IsResourceWish roster) text_free wishes all) in
+  pub resources_in-texts : (arguments : List ResourceArgument) → 0 < length arguments → All (IsResourceInRange roster) arguments → resources_in roster (join_with_byte 44 (map (resource_text roster) arguments)) ≡ Ok (last_resources (map resource_of arguments))
+  resources_in-texts arguments some all =
+      let parts = split-join 44 (map (resource_text roster) arguments) (some_texts arguments some) (all-map (Free (λ b. b == 44)) (resource_text roster) (IsResourceInRange roster) text_free arguments all) in
       ap (λ texts. answer_map last_resources (each (resource_in roster) texts)) parts
-      ∙ ap (answer_map last_resources) (each-said (resource_in roster) (resource_text roster) resource_of (IsResourceWish roster) resource_in-text wishes all)
+      ∙ ap (answer_map last_resources) (each-said (resource_in roster) (resource_text roster) resource_of (IsResourceInRange roster) resource_in-text arguments all)
 
-  setting_read : (wish : Wish) → IsWish roster wish → setting_in roster (item_of roster wish).0 (item_of roster wish).1 ≡ Ok (setting_of wish)
+  setting_read : (argument : OptionArgument) → IsInRange roster argument → setting_in roster (item_of roster argument).0 (item_of roster argument).1 ≡ Ok (setting_of argument)
   setting_read (account text) h = rw h refl
   setting_read held h = refl
   setting_read (kinds true true true) h = refl
@@ -131,26 +131,26 @@ module _ (roster : List (List ℕ × ℕ)) (lawful : IsRoster roster) where
   setting_read (kinds false true false) h = refl
   setting_read (kinds false false true) h = refl
   setting_read (kinds false false false) h = absurd cc
-  setting_read (resources wishes) h = rw (resources_in-texts wishes h.0 h.1) refl
+  setting_read (resources arguments) h = rw (resources_in-texts arguments h.0 h.1) refl
   setting_read (name text) h = rw h refl
   setting_read (priority number) h = rw (priority_in-signed number h) refl
   setting_read full h = refl
 
-  takes : (wish : Wish) → takes_argument (item_of roster wish).0 ≡ false → (item_of roster wish).1 ≡ []
+  takes : (argument : OptionArgument) → takes_argument (item_of roster argument).0 ≡ false → (item_of roster argument).1 ≡ []
   takes (account text) e = absurd cc
   takes held e = refl
   takes (kinds user operator system) e = absurd cc
-  takes (resources wishes) e = absurd cc
+  takes (resources arguments) e = absurd cc
   takes (name text) e = absurd cc
   takes (priority number) e = absurd cc
   takes full e = refl
 
-  line_read : (utility : Utility) (wishes : List Wish) (operands : List (List ℕ)) → All (IsOption roster utility) wishes → spelling utility None (words_of_line (line_of (map (item_of roster) wishes) operands)) ≡ record { items = map (item_of roster) wishes; rest = Ok operands }
-  line_read utility wishes operands options = line_is_read utility (map (item_of roster) wishes) operands
-      (all-map (IsItem utility) (item_of roster) (IsOption roster utility) (λ wish known. record { choice = known; none = takes wish }) wishes options)
+  line_read : (utility : Utility) (arguments : List OptionArgument) (operands : List (List ℕ)) → All (IsOption roster utility) arguments → spelling utility None (words_of_line (line_of (map (item_of roster) arguments) operands)) ≡ record { items = map (item_of roster) arguments; rest = Ok operands }
+  line_read utility arguments operands options = line_is_read utility (map (item_of roster) arguments) operands
+      (all-map (IsItem utility) (item_of roster) (IsOption roster utility) (λ argument known. record { choice = known; none = takes argument }) arguments options)
 
-  settings_read : (wishes : List Wish) → All (IsWish roster) wishes → settings_in roster (map (item_of roster) wishes) ≡ Ok (last_settings (map setting_of wishes))
-  settings_read wishes wished = ap (answer_map last_settings) (each-said (λ item. setting_in roster item.0 item.1) (item_of roster) setting_of (IsWish roster) setting_read wishes wished)
+  settings_read : (arguments : List OptionArgument) → All (IsInRange roster) arguments → settings_in roster (map (item_of roster) arguments) ≡ Ok (last_settings (map setting_of arguments))
+  settings_read arguments in_range = ap (answer_map last_settings) (each-said (λ item. setting_in roster item.0 item.1) (item_of roster) setting_of (IsInRange roster) setting_read arguments in_range)
 
   jobs_named : (here : ℕ) (jobs : List StampValue) → All (IsJob roster) jobs → named_jobs roster here (map (identifier_text roster) jobs) ≡ Ok (once jobs)
   jobs_named here jobs known =
@@ -178,10 +178,10 @@ module _ (roster : List (List ℕ × ℕ)) (lawful : IsRoster roster) where
   answered here Qdel settings [] some known = absurd (omega arith)
   answered here Qdel settings (job ∷ jobs) some known = ap (answer_map (request_of roster Qdel settings)) (jobs_named here (job ∷ jobs) known)
 
-  pub asking_is_read : (here : ℕ) (utility : Utility) (wishes : List Wish) (jobs : List StampValue) → IsAsked roster utility wishes jobs → request_in roster here (asking roster utility wishes jobs) ≡ Ok (request_of roster utility (last_settings (map setting_of wishes)) (once jobs))
-  asking_is_read here utility wishes jobs asked =
-      asked-answer roster here (name_of utility) (words_of_line (line_of (map (item_of roster) wishes) (map (identifier_text roster) jobs))) utility (named utility)
-      (record { items = map (item_of roster) wishes; rest = Ok (map (identifier_text roster) jobs) })
-      (sym (line_read utility wishes (map (identifier_text roster) jobs) asked.options))
-      (last_settings (map setting_of wishes)) (map (identifier_text roster) jobs) (settings_read wishes asked.wished) refl
-      ∙ answered here utility (last_settings (map setting_of wishes)) jobs asked.some asked.known
+  pub asking_is_read : (here : ℕ) (utility : Utility) (arguments : List OptionArgument) (jobs : List StampValue) → IsAsked roster utility arguments jobs → request_in roster here (asking roster utility arguments jobs) ≡ Ok (request_of roster utility (last_settings (map setting_of arguments)) (once jobs))
+  asking_is_read here utility arguments jobs asked =
+      asked-answer roster here (name_of utility) (words_of_line (line_of (map (item_of roster) arguments) (map (identifier_text roster) jobs))) utility (named utility)
+      (record { items = map (item_of roster) arguments; rest = Ok (map (identifier_text roster) jobs) })
+      (sym (line_read utility arguments (map (identifier_text roster) jobs) asked.options))
+      (last_settings (map setting_of arguments)) (map (identifier_text roster) jobs) (settings_read arguments asked.in_range) refl
+      ∙ answered here utility (last_settings (map setting_of arguments)) jobs asked.some asked.known

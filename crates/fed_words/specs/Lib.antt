@@ -1,4 +1,5 @@
 -- What the contracts of this crate cite.
+pub mod Askable
 pub mod Fault
 pub mod Identifier
 pub mod Item
@@ -14,4 +15,3 @@ pub mod Site
 pub mod Spelling
 pub mod Syntax
 pub mod Utility
-pub mod Wish

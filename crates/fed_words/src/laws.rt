@@ -6,7 +6,7 @@ ghost use Rattle.fed_words.specs.declared.utilities.Utility.{Utility};
 ghost use Rattle.fed_words.specs.Request.{Asked, request_in};
 ghost use Rattle.fed_words.specs.Spelling.{spelling};
 ghost use Rattle.fed_words.specs.Syntax.{IsLine, Line, items_of_line, rest_of_ending, words_of_line};
-ghost use Rattle.fed_words.specs.Wish.{CanBeAsked, words_for};
+ghost use Rattle.fed_words.specs.Askable.{CanBeAsked, words_for};
 
 /// Words of the utility syntax (POSIX.1-2017, XBD 12.2) are read as the options and operands that the grammar gives, or
 /// the fault that they end at.

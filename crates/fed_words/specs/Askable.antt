@@ -1,5 +1,5 @@
--- What a user wishes, and words that say it.
-use Rattle.std.specs.Prelude.{◌≡◌, ℕ, ◌<◌, ℤ, Bool, true, false, ◌||◌, List, [], ◌∷◌, ◌++◌, length, map, codes, Some, None, if◌then◌else◌}
+-- What a user can ask, and words that ask it.
+use Rattle.std.specs.Prelude.{◌≡◌, ℕ, ◌<◌, ℤ, Bool, true, ◌||◌, List, [], ◌∷◌, ◌++◌, length, map, codes, Some, None, if◌then◌else◌}
 use Rattle.std.specs.Fmt.{decimal, signed_decimal}
 use Rattle.std.specs.List.{All, join_with_byte}
 use Rattle.std.specs.Str.{byte}
@@ -44,77 +44,79 @@ IsJob roster job = (is_within 1 1_000_000_000 job.counter ≡ true) × (job.site
 
 -- ---- settings
 
-pub data ResourceWish : Type 0 where
-  nodes : ℕ → ResourceWish
-  walltime : ℕ → ResourceWish
-  sites : List ℕ → ResourceWish
+-- one resource of a list of them, with its value
+pub data ResourceArgument : Type 0 where
+  nodes : ℕ → ResourceArgument
+  walltime : ℕ → ResourceArgument
+  sites : List ℕ → ResourceArgument
 
-abbrev pub resource_of : ResourceWish → Resource
+abbrev pub resource_of : ResourceArgument → Resource
 resource_of (nodes n) = Resource.Nodes n
 resource_of (walltime n) = Resource.Limit n
 resource_of (sites ids) = Resource.Sites (set_of ids)
 
-abbrev pub resource_text : List (List ℕ × ℕ) → ResourceWish → List ℕ
+abbrev pub resource_text : List (List ℕ × ℕ) → ResourceArgument → List ℕ
 resource_text roster (nodes n) = codes "nodes=" ++ decimal n
 resource_text roster (walltime n) = codes "walltime=" ++ decimal n
 resource_text roster (sites ids) = codes "sites=" ++ join_with_byte (byte "+") (map (name_at roster) ids)
 
-abbrev pub IsResourceWish : List (List ℕ × ℕ) → ResourceWish → Type 0
-IsResourceWish roster (nodes n) = is_within 1 1_000_000 n ≡ true
-IsResourceWish roster (walltime n) = is_within 1 10_000_000 n ≡ true
-IsResourceWish roster (sites ids) = (0 < length ids) × All (λ site. site < length roster) ids
+abbrev pub IsResourceInRange : List (List ℕ × ℕ) → ResourceArgument → Type 0
+IsResourceInRange roster (nodes n) = is_within 1 1_000_000 n ≡ true
+IsResourceInRange roster (walltime n) = is_within 1 10_000_000 n ≡ true
+IsResourceInRange roster (sites ids) = (0 < length ids) × All (λ site. site < length roster) ids
 
-pub data Wish : Type 0 where
-  account : List ℕ → Wish
-  held : Wish
-  kinds : Bool → Bool → Bool → Wish
-  resources : List ResourceWish → Wish
-  name : List ℕ → Wish
-  priority : ℤ → Wish
-  full : Wish
+-- an option, with the value of its option-argument where it takes one
+pub data OptionArgument : Type 0 where
+  account : List ℕ → OptionArgument
+  held : OptionArgument
+  kinds : Bool → Bool → Bool → OptionArgument
+  resources : List ResourceArgument → OptionArgument
+  name : List ℕ → OptionArgument
+  priority : ℤ → OptionArgument
+  full : OptionArgument
 
-abbrev pub setting_of : Wish → Setting
+abbrev pub setting_of : OptionArgument → Setting
 setting_of (account text) = Setting.Account (Some text)
 setting_of held = Setting.Held
 setting_of (kinds user operator system) = Setting.Kinds (record { 0 = sum_of_bits user operator system })
-setting_of (resources wishes) = Setting.Resources (last_resources (map resource_of wishes))
+setting_of (resources arguments) = Setting.Resources (last_resources (map resource_of arguments))
 setting_of (name text) = Setting.Name text
 setting_of (priority number) = Setting.Priority number
 setting_of full = Setting.Full
 
--- a letter where it is wished
+-- a letter where its kind is asked for
 abbrev pub letter_where : Bool → ℕ → List ℕ
-letter_where wished letter = if wished then letter ∷ [] else []
+letter_where is_asked letter = if is_asked then letter ∷ [] else []
 
 -- the option and the argument that say it
-abbrev pub item_of : List (List ℕ × ℕ) → Wish → Item
+abbrev pub item_of : List (List ℕ × ℕ) → OptionArgument → Item
 item_of roster (account text) = (Choice.Account, text)
 item_of roster held = (Choice.Held, [])
 item_of roster (kinds user operator system) = (
   Choice.Kinds,
   letter_where user (byte "u") ++ letter_where operator (byte "o") ++ letter_where system (byte "s"),
 )
-item_of roster (resources wishes) = (Choice.Resources, join_with_byte (byte ",") (map (resource_text roster) wishes))
+item_of roster (resources arguments) = (Choice.Resources, join_with_byte (byte ",") (map (resource_text roster) arguments))
 item_of roster (name text) = (Choice.Name, text)
 item_of roster (priority number) = (Choice.Priority, signed_decimal number)
 item_of roster full = (Choice.Full, [])
 
 -- a value in its range or form; a list has an element
-abbrev pub IsWish : List (List ℕ × ℕ) → Wish → Type 0
-IsWish roster (account text) = is_name text ≡ true
-IsWish roster held = Unit {0}
-IsWish roster (kinds user operator system) = (user || operator || system) ≡ true
-IsWish roster (resources wishes) = (0 < length wishes) × All (IsResourceWish roster) wishes
-IsWish roster (name text) = is_name text ≡ true
-IsWish roster (priority number) = is_priority number ≡ true
-IsWish roster full = Unit {0}
+abbrev pub IsInRange : List (List ℕ × ℕ) → OptionArgument → Type 0
+IsInRange roster (account text) = is_name text ≡ true
+IsInRange roster held = Unit {0}
+IsInRange roster (kinds user operator system) = (user || operator || system) ≡ true
+IsInRange roster (resources arguments) = (0 < length arguments) × All (IsResourceInRange roster) arguments
+IsInRange roster (name text) = is_name text ≡ true
+IsInRange roster (priority number) = is_priority number ≡ true
+IsInRange roster full = Unit {0}
 
 -- ---- requests
 
 -- the utility has the option that says it
-abbrev pub IsOption : List (List ℕ × ℕ) → Utility → Wish → Type 0
-IsOption roster utility wish =
-    choice_of utility (letter_of (item_of roster wish).0) ≡ Some (item_of roster wish).0
+abbrev pub IsOption : List (List ℕ × ℕ) → Utility → OptionArgument → Type 0
+IsOption roster utility argument =
+    choice_of utility (letter_of (item_of roster argument).0) ≡ Some (item_of roster argument).0
 
 -- one job at least, where the utility takes one or more
 abbrev pub HasJobs : Utility → List StampValue → Type 0
@@ -123,10 +125,10 @@ HasJobs Qstat jobs = Unit {0}
 HasJobs _ jobs = 0 < length jobs
 
 -- what a user can ask of a utility
-pub record IsAsked (roster : List (List ℕ × ℕ)) (utility : Utility) (wishes : List Wish) (jobs : List StampValue)
+pub record IsAsked (roster : List (List ℕ × ℕ)) (utility : Utility) (arguments : List OptionArgument) (jobs : List StampValue)
     : Type 0 where
-  pub options : All (IsOption roster utility) wishes
-  pub wished : All (IsWish roster) wishes
+  pub options : All (IsOption roster utility) arguments
+  pub in_range : All (IsInRange roster) arguments
   pub known : All (IsJob roster) jobs
   pub some : HasJobs utility jobs
 
@@ -139,18 +141,18 @@ name_of Qdel = codes "qdel"
 name_of Qstat = codes "qstat"
 
 -- words that ask this of a utility
-abbrev pub asking : List (List ℕ × ℕ) → Utility → List Wish → List StampValue → List (List ℕ)
-asking roster utility wishes jobs =
-    name_of utility ∷ words_of_line (line_of (map (item_of roster) wishes) (map (identifier_text roster) jobs))
+abbrev pub asking : List (List ℕ × ℕ) → Utility → List OptionArgument → List StampValue → List (List ℕ)
+asking roster utility arguments jobs =
+    name_of utility ∷ words_of_line (line_of (map (item_of roster) arguments) (map (identifier_text roster) jobs))
 
 -- a request that a user can ask for, of a utility, by these options and for these jobs
 pub record CanBeAsked (roster : List (List ℕ × ℕ)) (request : Asked) : Type 0 where
   pub utility : Utility
-  pub wishes : List Wish
+  pub arguments : List OptionArgument
   pub jobs : List StampValue
-  pub asked : IsAsked roster utility wishes jobs
-  pub same : request ≡ request_of roster utility (last_settings (map setting_of wishes)) (once jobs)
+  pub asked : IsAsked roster utility arguments jobs
+  pub same : request ≡ request_of roster utility (last_settings (map setting_of arguments)) (once jobs)
 
 -- words that ask for the request
 abbrev pub words_for : (roster : List (List ℕ × ℕ)) (request : Asked) → CanBeAsked roster request → List (List ℕ)
-words_for roster request asked = asking roster asked.utility asked.wishes asked.jobs
+words_for roster request asked = asking roster asked.utility asked.arguments asked.jobs
