@@ -14,7 +14,7 @@ use Rattle.fed_script.specs.declared.verbs.Verb.{Verb}
 use Rattle.fed_script.specs.declared.verbs.Verb.TheVariants.{Grant, Begin, Finish, HandBack, Ship, Take, Plan}
 use Rattle.fed_script.specs.Asker.{scheduler, who_in}
 use Rattle.fed_script.specs.Forms.{◌>>=◌, one_word, two_words}
-use Rattle.fed_script.specs.Line.{Line, skips, begins, acts, lists, misuses, ships, takes, plans, compares, act, asked_at, cancels, later_line, later_line_in, reserves, scheduled, site_line, user_line, verb_line, words_in}
+use Rattle.fed_script.specs.Line.{Line, skips, acts, ships, takes, plans, compares, act, asked_at, cancels, later_line, later_line_in, reserves, scheduled, site_line, user_line, verb_line, words_in}
 use Rattle.fed_script.specs.LineSites.{HasSites}
 use Rattle.fed_script.specs.Values.{moment, packet, site}
 use Rattle.fed_script.specs.Verb.{verb_named}

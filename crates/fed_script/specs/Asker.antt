@@ -1,5 +1,5 @@
 -- Who asks: `USER`, or `USER/ROLE`.
-use Rattle.std.specs.Prelude.{ℕ, Bool, not, ◌&&◌, ◌==◌, List, codes, Some, None, is_some, position, if◌then◌else◌}
+use Rattle.std.specs.Prelude.{ℕ, Bool, not, ◌&&◌, ◌==◌, codes, Some, None, is_some, position, if◌then◌else◌}
 use Rattle.std.specs.List.{before_first, after_first}
 use Rattle.std.specs.Str.{byte, bytes_eq}
 use Rattle.fed_stamp.specs.Word.{is_name}

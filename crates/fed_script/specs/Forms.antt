@@ -1,5 +1,6 @@
 -- Words that stand in a fixed number, each read in its own way.
 use Rattle.std.specs.Prelude.{ℕ, List, [], ◌∷◌, Option, Some, None, option_map}
+use Rattle.std.specs.Option.{option_and_then}
 
 -- what one word says, if it can be read
 abbrev pub Reads : Type 0 → Type 0
@@ -9,10 +10,10 @@ Reads A = List ℕ → Option A
 abbrev pub Form : Type 0 → Type 0
 Form C = List (List ℕ) → Option C
 
+-- what is said of what is there, if anything is
 infixl 10 ◌>>=◌
 abbrev pub ◌>>=◌ : {A B : Type 0} → Option A → (A → Option B) → Option B
-(Some x) >>= f = f x
-None >>= f = None
+o >>= f = option_and_then f o
 
 -- the words, where they are one, two, three or four
 abbrev pub one_word : Form (List ℕ)
