@@ -1,0 +1,19 @@
+-- Lemmas of this crate.
+pub mod Journals
+pub mod Replicas
+pub mod Steps
+pub mod Greedy
+pub mod Rows
+pub mod Claimants
+pub mod Tables
+pub mod Ready
+pub mod Filling
+pub mod Firsts
+pub mod Cursors
+pub mod Nexts
+pub mod OnePlacing
+pub mod Numbers
+pub mod Courses
+pub mod Boards
+pub mod Answered
+pub mod Fields

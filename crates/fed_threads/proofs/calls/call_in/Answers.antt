@@ -1,0 +1,13 @@
+use Rattle.std.specs.Prelude.{None}
+use Rattle.fed_threads.specs.Replay.{outcome_of}
+use Rattle.fed_threads.specs.declared.journal.Asked.TheVariants.{Do}
+use Rattle.fed_threads.specs.Seat.{known_by}
+use Rattle.fed_threads.proofs.Steps.{steps}
+use Rattle.fed_threads.proofs.calls.call_in.Goals as goal
+
+pub returns-clause-ok : goal.returns-clause-ok
+returns-clause-ok c =
+    steps c.args.held.now c.call.new.self (known_by c.args.seat.now) (known_by c.reserve.new.self) (known_by c.claim.new.self)
+    c.args.site c.len-index.result c.version.result c.version-2.result (Do c.args.site c.args.who.now c.args.command.now) None (outcome_of c.in_ok-said.said)
+    c.in_ok-said.ensures.ok c.in_ok-said.ensures.named c.len-index.ensures c.version.ensures.value c.version.ensures.counters c.version-2.ensures.value c.in_ok-check.ensures.ok c.reserve.ensures.same
+    (rw (← c.outcome_of.ensures) c.claim.ensures)

@@ -1,0 +1,28 @@
+//! Laws of settled lists. Each function does nothing: its contract is the law.
+ghost use Rattle.std.specs.Prelude.{◌≡◌, ◌≤◌, ℕ, Bool, List, length};
+ghost use Rattle.fed_world.specs.declared.events.Event.{Event};
+ghost use Rattle.fed_world.specs.Run.{run};
+ghost use Rattle.fed_threads.specs.declared.journal.Claim.{Claim};
+ghost use Rattle.fed_threads.specs.declared.journal.Entry.{Entry};
+ghost use Rattle.fed_threads.specs.Placing.{IsPlacing};
+ghost use Rattle.fed_threads.specs.Settle.{AreReplays, HasItsOutcomes, IsSettled};
+
+/// There is only one placing, whatever may be placed when; so journals and claims have only one settled list.
+pub fn there_is_one_placing()
+    ensures placing { (ready : List ℕ → ℕ → Bool) (start sites others : List ℕ) →
+        IsPlacing ready start sites → IsPlacing ready start others → sites ≡ others }
+    ensures settled { (journals : List (List Entry)) (seats : List (List Claim)) (events others : List Event) →
+        IsSettled journals seats events → IsSettled journals seats others → events ≡ others }
+{}
+
+/// Where entries are settled, the board of each site, once the events are run, is that of the replay of its journal.
+pub fn settled_boards_are_replays()
+    ensures { (journals : List (List Entry)) (seats : List (List Claim)) (events : List Event) → length journals ≤ 16 →
+        IsSettled journals seats events → AreReplays journals (run (length journals) events) }
+{}
+
+/// The entries of settled journals were answered as the run of the events answers, a ship with its own place.
+pub fn settled_outcomes_are_those_of_the_run()
+    ensures { (journals : List (List Entry)) (seats : List (List Claim)) (events : List Event) →
+        IsSettled journals seats events → HasItsOutcomes journals seats events }
+{}

@@ -1,0 +1,11 @@
+//! Parcels.
+use fed_stamp::SiteId;
+use fed_wire::Packet;
+
+/// A packet on its way: its sender, and the place in the sender's journal where it was made, counted from 0.
+#[derive(Drop)]
+pub(crate) struct Parcel {
+    pub(crate) sender: SiteId,
+    pub(crate) place: u64,
+    pub(crate) packet: Packet,
+}
