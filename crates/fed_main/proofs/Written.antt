@@ -5,7 +5,7 @@ use Rattle.std.specs.Io.KnownBytes.{Appends, Keeps}
 use Rattle.fed_main.specs.Ends.{EndsAs, HasSaid}
 use Rattle.fed_main.specs.Said.{Said}
 use Rattle.fed_main.specs.declared.fault.RunFault.{RunFault}
-use Rattle.fed_main.specs.declared.fault.RunFault.TheVariants.{Line, Read, Write, NoMemory}
+use Rattle.fed_main.specs.declared.fault.RunFault.TheVariants.{Line, Read, Write, NoMemory, Close, Behind}
 
 pub Appends-none : (known : Option (List ℕ)) → Appends known known []
 Appends-none None = tt
@@ -62,3 +62,5 @@ EndsAs-kept a b c script (Err (Line n)) h k = said_kept a b c _ _ h k
 EndsAs-kept a b c script (Err Read) h k = Keeps-kept a b c h k
 EndsAs-kept a b c script (Err Write) h k = tt
 EndsAs-kept a b c script (Err NoMemory) h k = (h.0, said_kept a b c _ _ h.1 k)
+EndsAs-kept a b c script (Err (Close fault)) h k = absurd h
+EndsAs-kept a b c script (Err Behind) h k = absurd h

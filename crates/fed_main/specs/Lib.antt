@@ -2,6 +2,7 @@
 pub mod Ends
 pub mod Fault
 pub mod Federation
+pub mod Live
 pub mod Outcome
 pub mod Planned
 pub mod Reading

@@ -1,11 +1,14 @@
 //! The texts that answer events.
-ghost use Rattle.std.specs.Prelude.{◌≡◌, IfOk, string_bytes};
+ghost use Rattle.std.specs.Prelude.{◌≡◌, ◌++◌, codes, IfOk, string_bytes};
+ghost use Rattle.std.specs.Fmt.{decimal};
+ghost use Rattle.fed_words.specs.Fault.{fault_number};
 ghost use Rattle.fed_world.specs.declared.outcomes.Outcome.TheVariants.{Gap};
 ghost use Rattle.fed_main.specs.Outcome.{answer_line, outcome_text as text_of_outcome, reply_text as text_of_reply};
 
 use fed_qstat::{identifier_text, site_text};
 use fed_record::Reply;
 use fed_stamp::{Roster, SiteId};
+use fed_words::UsageFault;
 use fed_world::Outcome;
 use std::alloc::{AllocError, Global};
 
@@ -62,4 +65,13 @@ pub(crate) fn outcome_line(
     let mut text = outcome_text(alloc, roster, outcome)?;
     text.push('\n')?;
     Ok(text)
+}
+
+/// The line that answers words of a utility that ask nothing.
+pub(crate) fn usage_line(alloc: Global, fault: UsageFault) -> Result<String, AllocError>
+    ensures { IfOk result (λ text. string_bytes text ≡
+        answer_line (codes "usage " ++ decimal (fault_number fault))) }
+{
+    let number = fault.number();
+    format!(in alloc; "usage {number}\n")
 }

@@ -5,7 +5,6 @@ ghost use Rattle.fed_stamp.specs.Roster.{IsRoster};
 ghost use Rattle.fed_board.specs.Board.{reads as reads_board};
 ghost use Rattle.fed_qstat.specs.Listing.{listing};
 ghost use Rattle.fed_wire.specs.Limits.{IsWithinLimits};
-ghost use Rattle.fed_words.specs.Fault.{fault_number};
 ghost use Rattle.fed_world.specs.declared.events.Event.TheVariants.{Do};
 ghost use Rattle.fed_script.specs.LineSites.{HasSites};
 ghost use Rattle.fed_script.specs.LineView.{said_by};
@@ -14,7 +13,7 @@ ghost use Rattle.fed_main.specs.Outcome.{answer_line, outcome_text};
 ghost use Rattle.fed_main.specs.Planned.{planned};
 ghost use Rattle.fed_main.specs.Script.{after_commands, after_event, answered, compared, later, lines_of, says, view_at};
 
-use crate::answers::outcome_line;
+use crate::answers::{outcome_line, usage_line};
 use crate::plans::site_plan_text;
 use fed_board::Board;
 use fed_lattice::NoMemory;
@@ -23,7 +22,6 @@ use fed_record::{Command, Moment, Who};
 use fed_script::laws::lines_name_sites_of_the_roster;
 use fed_script::{HeldRoster, Line, read_later_line};
 use fed_stamp::{JobId, Roster, SiteId};
-use fed_words::UsageFault;
 use fed_world::{Event, Outcome, World};
 use std::alloc::{AllocError, Global};
 use std::marker::Model;
@@ -190,7 +188,7 @@ impl Federation {
                 commands,
             } => self.act(alloc, site, &who, &commands),
             Line::List { site, full, jobs } => self.list(alloc, site, full, &jobs),
-            Line::Misuse { fault } => Ok(usage_line(alloc, fault)?),
+            Line::Misuse { fault, .. } => Ok(usage_line(alloc, fault)?),
             Line::Ship { site, to } => self.happen(alloc, &Event::Ship { site, to }),
             Line::Take { site, packet } => self.happen(alloc, &Event::Take { site, packet }),
             Line::Plan { site, moment } => self.plan(alloc, site, moment),
@@ -214,13 +212,4 @@ impl Federation {
             None => Ok(None),
         }
     }
-}
-
-/// The line that answers words of a utility that ask nothing.
-fn usage_line(alloc: Global, fault: UsageFault) -> Result<String, AllocError>
-    ensures { IfOk result (λ text. string_bytes text ≡
-        answer_line (codes "usage " ++ decimal (fault_number fault))) }
-{
-    let number = fault.number();
-    format!(in alloc; "usage {number}\n")
 }

@@ -9,6 +9,12 @@ mod fault;
 mod federation;
 /// Laws of what scripts do.
 pub mod laws;
+/// Reading the lines of a script that runs live.
+mod live_lines;
+/// Sites that run the lines of a script at the same time.
+mod live_runs;
+/// What the threads of a site do.
+mod live_sites;
 /// The text of a site's plan.
 mod plans;
 /// Replaying a script: its lines run in order, each answered before the next one runs.
@@ -19,4 +25,5 @@ mod script;
 mod session;
 
 pub use fault::RunFault;
+pub use live_runs::{live, live_with};
 pub use run::replay;

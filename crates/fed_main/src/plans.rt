@@ -59,3 +59,23 @@ pub(crate) fn site_plan_text(
         }
     }
 }
+
+/// The plan of a site of so many nodes at a moment, by a copy of its board.
+pub(crate) fn copy_plan_text(
+    alloc: Global,
+    roster: &Roster,
+    board: &Board,
+    site: SiteId,
+    nodes: u64,
+    moment: Moment,
+) -> Result<String, NoMemory>
+    ensures { IfOk result (λ text. string_bytes text ≡ plan_lines roster.now (site_plan (reads board.now) site moment
+        (record { nodes = nodes; running = running_in site (reads board.now) }))) }
+{
+    match machine_of(alloc, board, site, nodes) {
+        Ok(machine) => machine_plan_text(alloc, roster, board, site, moment, &machine),
+        // in a run no machine of a site is refused, so that want of memory is all that is left; nothing is known of the
+        // copy by which this could be proved
+        Err(_) => Err(NoMemory),
+    }
+}

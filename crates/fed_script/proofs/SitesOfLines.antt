@@ -38,7 +38,7 @@ act_sites n here who (Some command) line h e = let same : acts here who (command
 asked_sites : (n here : ℕ) (who : Who) (asked : Answer Asked) → here < n → HasSites n (asked_at here who asked)
 asked_sites n here who (Ok (acts_of commands)) h = h
 asked_sites n here who (Ok (list_of full jobs)) h = h
-asked_sites n here who (Err fault) h = tt
+asked_sites n here who (Err fault) h = h
 
 -- one thing more that a word says
 named_one : (roster : List (List ℕ × ℕ)) (word : List ℕ) (o : Option ℕ) (make : ℕ → Line) (line : Line) → site roster word ≡ o → ((i : ℕ) → i < length roster → HasSites (length roster) (make i))

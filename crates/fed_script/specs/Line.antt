@@ -26,8 +26,8 @@ pub data Line : Type 0 where
   acts : (site : ℕ) (who : Who) (commands : List Command) → Line
   -- a site lists these jobs, or all where none is named, in full or not
   lists : (site : ℕ) (full : Bool) (jobs : List StampValue) → Line
-  -- the words of a utility ask nothing
-  misuses : UsageFault → Line
+  -- the words of a utility ask nothing of a site
+  misuses : (site : ℕ) (fault : UsageFault) → Line
   -- a site makes a packet for a site
   ships : (site : ℕ) (to : ℕ) → Line
   -- a site takes a packet, by its number
@@ -41,7 +41,7 @@ pub data Line : Type 0 where
 abbrev pub asked_at : ℕ → Who → Answer Asked → Line
 asked_at here who (Ok (acts_of commands)) = acts here who commands
 asked_at here who (Ok (list_of full jobs)) = lists here full jobs
-asked_at here who (Err fault) = misuses fault
+asked_at here who (Err fault) = misuses here fault
 
 -- one command, where there is one
 abbrev pub act : ℕ → Who → Option Command → Option Line

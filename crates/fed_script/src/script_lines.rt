@@ -42,8 +42,9 @@ pub enum Line {
         full: bool,
         jobs: Vec<JobId>,
     },
-    /// The words of a utility ask nothing.
+    /// Somebody's words of a utility ask nothing of a site.
     Misuse {
+        site: SiteId,
         fault: UsageFault,
     },
     /// `SITE ship SITE`
@@ -105,7 +106,7 @@ fn read_asked(
         }),
         Ok(Request::List { full, jobs }) => Ok(Line::List { site, full, jobs }),
         Err(UsageFault::NoMemory) => Err(NoMemory),
-        Err(fault) => Ok(Line::Misuse { fault }),
+        Err(fault) => Ok(Line::Misuse { site, fault }),
     }
 }
 

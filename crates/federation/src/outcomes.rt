@@ -9,11 +9,11 @@ use fed_main::RunFault;
 pub enum Outcome {
     /// The script was run to its end.
     Ran,
-    /// The line with this number, from 1, can't be read. The answers of the lines before it are written.
+    /// The line with this number, from 1, can't be read. In a replay the answers of the lines before it are written.
     UnreadableLine(u64),
     /// The program's own words are refused.
     Usage,
-    /// Standard input, standard output or memory failed.
+    /// Standard input, standard output or memory failed, or sites that ran at the same time can't be settled.
     Failed,
 }
 
@@ -31,13 +31,19 @@ impl Outcome {
     }
 }
 
-/// How the program ends when a replay has ended.
+/// How the program ends when a replay, or a live run, has ended.
 pub fn outcome_of(ended: Result<(), RunFault>) -> Outcome
     ensures { result ≡ outcome_of_run ended }
 {
     match ended {
         Ok(()) => Outcome::Ran,
         Err(RunFault::Line(number)) => Outcome::UnreadableLine(number),
-        Err(RunFault::Read | RunFault::Write | RunFault::NoMemory) => Outcome::Failed,
+        Err(
+            RunFault::Read
+            | RunFault::Write
+            | RunFault::NoMemory
+            | RunFault::Close(_)
+            | RunFault::Behind,
+        ) => Outcome::Failed,
     }
 }

@@ -179,7 +179,7 @@ fn refused<'a>(words: &'a [&'a str]) -> Case<'a> {
     }
 }
 
-fn cases() -> [Case<'static>; 10] {
+fn cases() -> [Case<'static>; 11] {
     let script = b"roster a:1\na ann qsub\n";
     [
         ran(script, b"1.a\n"),
@@ -190,7 +190,16 @@ fn cases() -> [Case<'static>; 10] {
         },
         refused(&[]),
         refused(&["federation"]),
-        refused(&["federation", "live"]),
+        Case {
+            words: &["federation", "live"],
+            ..ran(script, b"1.a\nevents 1\n")
+        },
+        Case {
+            words: &["federation", "live"],
+            status: 1,
+            errors: b"line 3: cannot be read\n",
+            ..ran(b"roster a:1\na ann qsub\na take 1\n", b"")
+        },
         refused(&["federation", "requeue"]),
         refused(&["federation", "replay", "replay"]),
         refused(&["federation", "--help"]),
@@ -223,7 +232,7 @@ fn tells_how_it_ended(rt: HostRuntime) -> Result<(), Fail> {
             output: RefCell::new(Vec::new(rt.alloc())),
             errors: RefCell::new(Vec::new(rt.alloc())),
         };
-        let status = run_and_tell(&memory);
+        let status = run_and_tell(&memory, &rt);
         assert_eq!(rt; status, case.status);
         assert_eq!(rt; memory.output.into_inner().as_slice(), case.output);
         assert_eq!(rt; memory.errors.into_inner().as_slice(), case.errors);
