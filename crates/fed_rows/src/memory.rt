@@ -7,7 +7,9 @@ use std::test::Fail;
 pub fn answers(alloc: Global, script: &str) -> Result<String, Fail> {
     let mut reader = script.as_bytes();
     let mut written = Vec::new(alloc);
-    replay(alloc, &mut reader, &mut written)?;
+    if replay(alloc, &mut reader, &mut written) != Ok(()) {
+        return Err("the script ends with a fault".into());
+    }
     Ok(String::from_utf8(written)?)
 }
 

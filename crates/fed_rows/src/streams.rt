@@ -226,7 +226,7 @@ fn a_flush_that_fails_is_told(rt: HostRuntime) {
 }
 
 #[test]
-fn a_script_comes_byte_by_byte(rt: HostRuntime) -> Result<(), Fail> {
+fn a_script_comes_byte_by_byte(rt: HostRuntime) {
     let mut reader = Dribble {
         rest: EXCHANGE.as_bytes(),
         is_interrupted: false,
@@ -234,9 +234,9 @@ fn a_script_comes_byte_by_byte(rt: HostRuntime) -> Result<(), Fail> {
     let mut writer = Narrow {
         written: Vec::new(rt.alloc()),
     };
-    replay(rt.alloc(), &mut reader, &mut writer)?;
+    let ended = replay(rt.alloc(), &mut reader, &mut writer);
+    assert_eq!(rt; ended, Ok(()));
     assert_eq!(rt; writer.written.as_slice(), EXCHANGED.as_bytes());
-    Ok(())
 }
 
 #[test]

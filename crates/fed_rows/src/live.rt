@@ -1,0 +1,181 @@
+//! Scripts whose sites run at the same time.
+use crate::rows::EXCHANGE;
+use fed_main::{RunFault, live, live_with};
+use fed_stamp::SiteId;
+use fed_threads::Gate;
+use std::alloc::Global;
+use std::hint;
+use std::sync::Wait;
+use std::sync::atomic::{AtomicBool, Ordering};
+use std::test::Fail;
+use std::thread::Threads;
+
+/// How many turns a gate waits at most.
+const TURNS: u64 = 1_000_000_000;
+
+// A site that runs alone.
+const ALONE: &str = "\
+roster argonne:8
+argonne ann qsub
+argonne ann qstat
+";
+
+const ALONE_ANSWERED: &str = "\
+1.argonne
+1.argonne          STDIN            ann              Q      0        1      3600 -
+events 1
+";
+
+// A packet that is taken: two events at one site and one at the other.
+const SHIPPED: &str = "\
+roster argonne:8 lemont:4
+argonne ann qsub
+argonne ship lemont
+";
+
+// The answers stand in the order of the sites, whatever the order of the lines.
+const MIXED: &str = "\
+# two sites
+roster argonne:8 lemont:4
+
+lemont bob qsub -l nodes=3
+argonne ann qsub -Z
+lemont plan 7
+argonne ann qdel 4.argonne
+lemont bob qhold 1
+lemont bob qstat 1
+argonne ann qsub
+";
+
+const MIXED_ANSWERED: &str = "\
+usage 2
+refused 1
+1.argonne
+1.lemont
+start 1.lemont
+done
+1.lemont           STDIN            bob              H      0        3      3600 -
+events 4
+";
+
+// One command at each of two sites.
+const BOTH: &str = "\
+roster argonne:8 lemont:4
+argonne ann qsub
+lemont bob qsub
+";
+
+/// What a script is answered by that runs live.
+fn answers<R: Threads + Wait + Sync>(rt: &R, alloc: Global, script: &str) -> Result<String, Fail> {
+    let mut reader = script.as_bytes();
+    let mut written = Vec::new(alloc);
+    live(rt, alloc, &mut reader, &mut written)?;
+    Ok(String::from_utf8(written)?)
+}
+
+/// Whether nothing is written, since line `number` can't be read.
+fn stops_at<R: Threads + Wait + Sync>(rt: &R, alloc: Global, script: &str, number: u64) -> bool {
+    let mut reader = script.as_bytes();
+    let mut written = Vec::new(alloc);
+    let ended = live(rt, alloc, &mut reader, &mut written);
+    ended == Err(RunFault::Line(number)) && written.is_empty()
+}
+
+/// Holds the first call at each of two sites until both are inside.
+#[derive(Drop)]
+struct MeetingGate<'a> {
+    first: &'a AtomicBool,
+    second: &'a AtomicBool,
+    ran_out: &'a AtomicBool,
+}
+
+impl Gate for MeetingGate<'_> {
+    fn inside(&self, site: SiteId, _index: u64) {
+        let (mine, other) = match site.get() {
+            0 => (self.first, self.second),
+            _ => (self.second, self.first),
+        };
+        mine.store(true, Ordering::SeqCst);
+        for _ in 0..TURNS {
+            if other.load(Ordering::SeqCst) {
+                return;
+            }
+            hint::spin_loop();
+        }
+        self.ran_out.store(true, Ordering::SeqCst);
+    }
+}
+
+/// What two sites answer whose calls meet.
+fn met<R: Threads + Wait + Sync>(rt: &R, alloc: Global) -> Result<String, Fail> {
+    let (first, second) = (AtomicBool::new(false), AtomicBool::new(false));
+    let ran_out = AtomicBool::new(false);
+    let gate = MeetingGate {
+        first: &first,
+        second: &second,
+        ran_out: &ran_out,
+    };
+    let mut reader = BOTH.as_bytes();
+    let mut written = Vec::new(alloc);
+    live_with(rt, alloc, &mut reader, &mut written, gate)?;
+    if ran_out.load(Ordering::SeqCst) {
+        return Err("the calls did not meet".into());
+    }
+    Ok(String::from_utf8(written)?)
+}
+
+#[test]
+fn a_site_runs_alone(rt: HostRuntime) -> Result<(), Fail> {
+    let alloc = rt.alloc();
+    let text = answers(&rt, alloc, ALONE)?;
+    assert_eq!(rt; text.as_str(), ALONE_ANSWERED);
+    Ok(())
+}
+
+#[test]
+fn a_packet_is_taken(rt: HostRuntime) -> Result<(), Fail> {
+    let alloc = rt.alloc();
+    let text = answers(&rt, alloc, SHIPPED)?;
+    assert_eq!(rt; text.as_str(), "1.argonne\nshipped\nevents 3\n");
+    Ok(())
+}
+
+#[test]
+fn calls_of_two_sites_meet(rt: HostRuntime) -> Result<(), Fail> {
+    let alloc = rt.alloc();
+    let text = met(&rt, alloc)?;
+    assert_eq!(rt; text.as_str(), "1.argonne\n1.lemont\nevents 2\n");
+    Ok(())
+}
+
+#[test]
+fn answers_stand_in_the_order_of_the_sites(rt: HostRuntime) -> Result<(), Fail> {
+    let alloc = rt.alloc();
+    let text = answers(&rt, alloc, MIXED)?;
+    assert_eq!(rt; text.as_str(), MIXED_ANSWERED);
+    Ok(())
+}
+
+#[test]
+fn skipped_lines_are_answered_by_nothing(rt: HostRuntime) -> Result<(), Fail> {
+    let alloc = rt.alloc();
+    for script in ["", "\n# nothing\n"] {
+        assert_eq!(rt; answers(&rt, alloc, script)?.as_str(), "");
+    }
+    assert_eq!(rt;
+        answers(&rt, alloc, "roster argonne:8\n")?.as_str(),
+        "events 0\n"
+    );
+    Ok(())
+}
+
+#[test]
+fn packets_are_not_taken_by_their_numbers_and_boards_not_compared(
+    rt: HostRuntime,
+) -> Result<(), Fail> {
+    let alloc = rt.alloc();
+    assert!(rt; stops_at(&rt, alloc, EXCHANGE, 6));
+    assert!(rt; stops_at(&rt, alloc, "roster a:1 b:1\na ann qsub\nequal a b\n", 3));
+    assert!(rt; stops_at(&rt, alloc, "a ann qsub\n", 1));
+    Ok(())
+}
