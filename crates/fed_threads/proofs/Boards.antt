@@ -1,5 +1,5 @@
 -- The sets of a settled run are read as the replays of the journals.
-use Rattle.std.specs.Prelude.{cond, nat_lt, replicate, Option, Some, None}
+use Rattle.std.specs.Prelude.{cond, nat_lt, Option, Some, None}
 use Rattle.std.proofs.Common.{◌≡◌, ◌≢◌, ℕ, ◌+◌, ◌<◌, ◌≤◌, ◌==◌, List, [], ◌∷◌, ◌++◌, true, ◌&&◌, length, get_or, take, refl, sym, ap, ap₂, subst, ◌∙◌, inl, inr, arith, zero, suc}
 use Rattle.std.proofs.lemmas.Bool.{cases_eq, cases_lt, ltb-false}
 use Rattle.std.proofs.lemmas.List.{get_or_past, get_or-set_same, get_or-set_other, length-set, length-replicate, take_more, take_all}
@@ -40,6 +40,8 @@ use Rattle.fed_threads.specs.Placing.{entry_at, with_next, placed_after}
 use Rattle.fed_threads.specs.Replay.{State, empty_at, after_answer, after_packet_unless, lacking, after_event, replay_from}
 use Rattle.fed_threads.specs.Settle.{IsSettled, AreReplays}
 use Rattle.fed_threads.specs.Settled.{Point, starts, event_of, site_of, number_of, IsSentIf, HoldsPacket, Agrees, AgreesIf, AllAgree, with_entry, with_entry_if, after_next, point_after}
+use Rattle.fed_threads.proofs.Filling.{zeros_low}
+use Rattle.fed_threads.proofs.Journals.{replay_from_push}
 
 -- what the site with this number holds is read as the state
 pub record StandsAs (number : ℕ) (held : Site) (state : State) : Type 0 where
@@ -179,10 +181,6 @@ entry_inside [] site index e at = cc
 entry_inside (j ∷ journals) zero index e at = omega arith
 entry_inside (j ∷ journals) (suc site) index e at = omega (arith, entry_inside journals site index e at)
 
-replay_push : (s : State) (es : List Entry) (e : Entry) → replay_from s (es ++ e ∷ []) ≡ after_event (replay_from s es) e.asked e.packet
-replay_push s [] e = refl
-replay_push s (d ∷ es) e = replay_push (after_event s d.asked d.packet) es e
-
 module _ (journals : List (List Entry)) (few : length journals ≤ 16) where
   abbrev n : ℕ
   n = length journals
@@ -205,7 +203,7 @@ module _ (journals : List (List Entry)) (few : length journals ≤ 16) where
 
     here : StandsAs s ((step n (run n p.events) next).after.site s) (replay_from (empty_at s) (take (i + 1) mine))
     here =
-        subst (λ (t : State). StandsAs s ((step n (run n p.events) next).after.site s) t) (sym (replay_push (empty_at s) (take i mine) e) ∙ ap (replay_from (empty_at s)) (sym more))
+        subst (λ (t : State). StandsAs s ((step n (run n p.events) next).after.site s) t) (sym (replay_from_push (empty_at s) (take i mine) e) ∙ ap (replay_from (empty_at s)) (sym more))
         (entry_same n p.events few p.ships s e.asked e.packet (replay_from (empty_at s) (take i mine)) inside agrees.here agrees.holds (old.each s inside))
 
     abbrev IsTracked : ℕ → Type 0
@@ -244,11 +242,6 @@ module _ (journals : List (List Entry)) (few : length journals ≤ 16) where
   tracks_after p [] old all = old
   tracks_after p (s ∷ sites) old all =
       tracks_after (after_next journals p s) sites (tracks_if p s (entry_at journals s (get_or p.placed s 0)) old refl all.0) all.1
-
-zeros_low : (n k : ℕ) → ◌≡◌ {A = ℕ} (get_or (replicate n 0) k 0) 0
-zeros_low zero k = refl
-zeros_low (suc n) zero = refl
-zeros_low (suc n) (suc k) = zeros_low n k
 
 pub starts_tracked : (journals : List (List Entry)) → Tracks journals (starts journals)
 starts_tracked journals = record {

@@ -2,14 +2,15 @@
 use Rattle.std.proofs.Common.{◌≡◌, ◌<◌, ◌≤◌, ℕ, List, [], ◌∷◌, length, get_or, Bool, true, false, ◌&&◌, Option, Some, None, refl, ap, subst, arith, zero, suc}
 use Rattle.std.specs.Global.{Vec}
 use native.Mathlib.Decide.{dec_lt}
-use Rattle.std.specs.List.{list_all, slice_get}
+use Rattle.std.specs.List.{list_all}
 use Rattle.std.proofs.lemmas.Grind.{common_steps}
-use Rattle.std.proofs.lemmas.Option.{slice_get_within, slice_get_read}
+use Rattle.std.proofs.lemmas.Option.{slice_get_within}
 use Rattle.fed_threads.specs.declared.journal.Asked.{Asked}
 use Rattle.fed_threads.specs.declared.journal.Asked.TheVariants.{Do, Ship, Take}
 use Rattle.fed_threads.specs.declared.journal.Claim.{Claim}
 use Rattle.fed_threads.specs.declared.journal.Entry.{Entry}
 use Rattle.fed_threads.specs.Placing.{entry_at, is_placed, take_allows, claims_before, seat_allows, may_follow, is_ready, entries_of}
+use Rattle.fed_threads.proofs.Courses.{entry_found}
 use Rattle.fed_threads.proofs.Greedy.{IsWithin, StaysReady, and_left, and_right}
 
 stays_placed : (a b : List ℕ) (site index : ℕ) → IsWithin a b → is_placed a site index ≡ true → is_placed b site index ≡ true
@@ -102,16 +103,6 @@ pub none_ready : (journals : List (List Entry)) (seats : List (List Claim)) (pla
 none_ready journals seats placed n all none s =
     elim (dec_lt s n) [ yes lt ↦ none s lt | no ge ↦ past_not_ready journals seats placed s (omega arith) ]
 
--- an entry of a journal, as the program finds it
-pub entry_found : (journals : List (Vec Entry)) (site index : ℕ) (v : Vec Entry) (e : Entry)
-    → site < length journals
-    → v ≡ get_or journals site v
-    → slice_get v.items index ≡ Some e
-    → entry_at (entries_of journals) site index ≡ Some e
-entry_found [] site index v e h is at = absurd (omega arith)
-entry_found (w ∷ journals) zero index v e h is at = subst (λ (x : Vec Entry). slice_get x.items index ≡ Some e) is at
-entry_found (w ∷ journals) (suc site) index v e h is at = entry_found journals site index v e (omega arith) is at
-
 -- what the test of a site comes to where it has an entry left
 pub ready_is : (journals : List (Vec Entry)) (seats : List (List Claim)) (placed : List ℕ) (site : ℕ) (v : Vec Entry) (e : Entry)
     → site < length journals
@@ -122,5 +113,5 @@ pub ready_is : (journals : List (Vec Entry)) (seats : List (List Claim)) (placed
     ≡ (take_allows (entries_of journals) placed e.asked && list_all (seat_allows placed site (get_or placed site 0)) seats)
 ready_is journals seats placed site v e h is inside item =
     let found : entry_at (entries_of journals) site (get_or placed site 0) ≡ Some e =
-    entry_found journals site (get_or placed site 0) v e h is (slice_get_read v.items (length v.items) (get_or placed site 0) e refl inside item) in
+    entry_found journals site (get_or placed site 0) v h is e inside item in
     ap (λ (o : Option Entry). may_follow (entries_of journals) seats placed site (get_or placed site 0) o) found
