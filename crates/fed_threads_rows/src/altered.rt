@@ -26,7 +26,7 @@ fn shipped_after(alloc: Global, entry: &Entry) -> Result<Packet, Fail> {
 }
 
 /// The submission of a job at argonne.
-fn submitted() -> Result<Entry, Fail> {
+pub(crate) fn submitted() -> Result<Entry, Fail> {
     Ok(Entry {
         asked: Asked::Do {
             site: site(0)?,
@@ -39,7 +39,7 @@ fn submitted() -> Result<Entry, Fail> {
 }
 
 /// A shipment from argonne to lemont, at this place of argonne's journal.
-fn ship_at(place: u64) -> Result<Entry, Fail> {
+pub(crate) fn ship_at(place: u64) -> Result<Entry, Fail> {
     Ok(Entry {
         asked: Asked::Ship {
             site: site(0)?,
@@ -51,7 +51,7 @@ fn ship_at(place: u64) -> Result<Entry, Fail> {
 }
 
 /// Lemont takes the packet as the one that argonne made at this place.
-fn taken(place: u64, packet: Packet) -> Result<Entry, Fail> {
+pub(crate) fn taken(place: u64, packet: Packet) -> Result<Entry, Fail> {
     Ok(Entry {
         asked: Asked::Take {
             site: site(1)?,
@@ -64,7 +64,7 @@ fn taken(place: u64, packet: Packet) -> Result<Entry, Fail> {
 }
 
 /// The claim of an entry.
-fn claim(number: u8, index: u64, entry: &Entry) -> Result<Claim, Fail> {
+pub(crate) fn claim(number: u8, index: u64, entry: &Entry) -> Result<Claim, Fail> {
     Ok(Claim {
         site: site(number)?,
         index,

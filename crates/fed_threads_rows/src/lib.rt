@@ -8,6 +8,8 @@ mod altered;
 #[cfg(test)]
 mod many;
 #[cfg(test)]
+mod memory;
+#[cfg(test)]
 mod one_seat;
 #[cfg(test)]
 mod two_seats;
