@@ -22,7 +22,7 @@ pub(crate) struct Course {
     alloc: Global,
     // of each site, for each entry that was run, the number of its packet, or 0 where it is no ship
     numbers: Vec<Vec<u64>>,
-    // the site and the place of each ship
+    // the site and the place of each ship: the code reads only how many there are, the definitions also which they are
     ships: Vec<(usize, usize)>,
     world: World,
 }

@@ -31,7 +31,7 @@ pub mod seat;
 /// The entries of all journals as one list of events.
 pub mod settling;
 /// What lies under a site's lock.
-pub mod site;
+mod site;
 
 pub use closing::Run;
 pub use fault::{CallFault, CloseFault};

@@ -19,7 +19,7 @@ pub struct Seat {
 
 impl Seat {
     /// A seat that has seen nothing and claims nothing.
-    pub fn new(alloc: Global) -> Seat
+    pub(crate) fn new(alloc: Global) -> Seat
         ensures { known_by result ≡ starts }
     {
         Seat {

@@ -12,8 +12,8 @@ use fed_stamp::{Roster, SITES};
 use fed_world::{Event, World};
 use std::alloc::Global;
 
-/// The events that the entries of the journals come to, in the one order that is chosen. The claims of the seats must be
-/// of just these entries.
+/// The events that the entries of the journals come to, in the one order that is chosen. It asks for one journal for each
+/// site of the roster, in the order of their numbers; the claims of the seats must be of just these entries.
 pub fn settle(
     alloc: Global,
     roster: &Roster,

@@ -26,7 +26,7 @@ use std::marker::Model;
 /// What lies under a site's lock: its replica, and the journal whose replay is that replica. Contracts see whose journal
 /// it is and its entries: what the replica is follows from these.
 #[derive(Drop)]
-pub struct Site {
+pub(crate) struct Site {
     replica: Replica,
     journal: Vec<Entry>,
 }
@@ -43,7 +43,7 @@ impl Model for Site {
 
 /// What came of a packet.
 #[derive(Clone, Copy, PartialEq, Eq, Debug)]
-pub enum Receipt {
+pub(crate) enum Receipt {
     /// It was taken.
     Taken(Taken),
     /// The site lacks something of this site.
@@ -138,7 +138,7 @@ pub(crate) fn outcome_of(said: &Result<Reply, Refusal>) -> Outcome
 
 impl Site {
     /// A site with an empty replica and an empty journal.
-    pub fn new(alloc: Global, site: SiteId) -> Site
+    pub(crate) fn new(alloc: Global, site: SiteId) -> Site
         ensures { result ≡ record { site = site; entries = [] } }
     {
         Site {
@@ -148,14 +148,14 @@ impl Site {
     }
 
     /// How many entries the journal has.
-    pub fn len(&self) -> u64
+    pub(crate) fn len(&self) -> u64
         ensures { result ≡ length self.now.entries }
     {
         self.journal.len() as u64
     }
 
     /// The version of the board.
-    pub fn version(&self) -> Version
+    pub(crate) fn version(&self) -> Version
         ensures value { result ≡ (replay self.now).view.version }
         ensures counters { IsVersion result }
     {
@@ -166,7 +166,7 @@ impl Site {
     }
 
     /// A copy of the board.
-    pub fn board(&self) -> Result<Board, NoMemory>
+    pub(crate) fn board(&self) -> Result<Board, NoMemory>
         ensures { IfOk result (λ b. reads b ≡ (replay self.now).view) }
     {
         self.replica.board().copy()
@@ -174,7 +174,7 @@ impl Site {
 
     /// Runs a command: what the replica says is kept in the journal, a refusal too. Where memory is refused, nothing
     /// changes.
-    pub fn call(
+    pub(crate) fn call(
         &mut self,
         site: SiteId,
         who: &Who,
@@ -198,7 +198,7 @@ impl Site {
     }
 
     /// Makes a packet for another site. Its place in the journal is the length before.
-    pub fn ship(&mut self, site: SiteId, to: SiteId) -> Result<Packet, NoMemory>
+    pub(crate) fn ship(&mut self, site: SiteId, to: SiteId) -> Result<Packet, NoMemory>
         ensures packet { IfOk result (λ p. IsMadeFor (replay self.old) to p) }
         ensures ok { OnOk result (Appends self.old self.new (Ship site to) None (Outcome.Packet (length self.old.entries))) }
         ensures err { OnErr result (self.new ≡ self.old) }
@@ -212,7 +212,7 @@ impl Site {
 
     /// Takes a packet, which the journal keeps, also where the site lacks something that it needs. Where memory is
     /// refused, the packet is dropped and nothing changes.
-    pub fn take(
+    pub(crate) fn take(
         &mut self,
         site: SiteId,
         sender: SiteId,
@@ -240,7 +240,7 @@ impl Site {
     }
 
     /// The replica and the journal, taken apart.
-    pub fn into_parts(self) -> (Replica, Vec<Entry>)
+    pub(crate) fn into_parts(self) -> (Replica, Vec<Entry>)
         ensures { result.1.items ≡ self.entries }
     {
         let Site { replica, journal } = self;
