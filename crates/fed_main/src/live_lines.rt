@@ -12,7 +12,7 @@ use std::alloc::Global;
 pub(crate) struct LiveScript {
     /// The sites, once a line has named them.
     pub(crate) sites: Option<HeldRoster>,
-    /// The lines behind that one, in order.
+    /// The lines behind that one, in order, without those that are skipped.
     pub(crate) lines: Vec<Line>,
 }
 
@@ -36,6 +36,7 @@ impl LiveScript {
         };
         match line {
             None | Some(Line::Take { .. } | Line::Compare { .. }) => return Ok(false),
+            Some(Line::Skip) => {}
             Some(Line::Begin { roster }) => self.sites = Some(roster),
             Some(line) => self.lines.push(line)?,
         }
