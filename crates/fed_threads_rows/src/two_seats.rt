@@ -14,9 +14,21 @@ use std::{hint, thread};
 /// How many turns a gate waits at most.
 const TURNS: u64 = 1_000_000_000;
 
+/// Waits until the flag is set, for so many turns at most. Whether it was set.
+fn is_met(flag: &AtomicBool) -> bool {
+    for _ in 0..TURNS {
+        if flag.load(Ordering::SeqCst) {
+            return true;
+        }
+        hint::spin_loop();
+    }
+    false
+}
+
 /// Holds the first call at argonne until it is let go.
 #[derive(Drop)]
 struct HeldGate<'a> {
+    arrived: &'a AtomicBool,
     let_go: &'a AtomicBool,
     ran_out: &'a AtomicBool,
 }
@@ -26,13 +38,10 @@ impl Gate for HeldGate<'_> {
         if site.get() != 0 || index != 0 {
             return;
         }
-        for _ in 0..TURNS {
-            if self.let_go.load(Ordering::SeqCst) {
-                return;
-            }
-            hint::spin_loop();
+        self.arrived.store(true, Ordering::SeqCst);
+        if !is_met(self.let_go) {
+            self.ran_out.store(true, Ordering::SeqCst);
         }
-        self.ran_out.store(true, Ordering::SeqCst);
     }
 }
 
@@ -83,16 +92,17 @@ fn sees_priority<G: Gate, R: Wait>(
     Ok(job.priority().1.get() == priority)
 }
 
-/// Both seats, of which the first is held until the second is through; then a change that both see. How many events the
+/// Both seats, of which the first is held until the second is through, which begins once the first is held; then a change that both see. How many events the
 /// federation of these seats has, or the fault with which it is closed.
 fn run_both<R: Threads + Wait + Sync>(
     rt: &R,
     alloc: Global,
     with_second: bool,
 ) -> Result<Result<usize, CloseFault>, Fail> {
-    let let_go = AtomicBool::new(false);
+    let (arrived, let_go) = (AtomicBool::new(false), AtomicBool::new(false));
     let ran_out = AtomicBool::new(false);
     let gate = HeldGate {
+        arrived: &arrived,
         let_go: &let_go,
         ran_out: &ran_out,
     };
@@ -104,9 +114,10 @@ fn run_both<R: Threads + Wait + Sync>(
         rt,
         || at_argonne(rt, &federation, &ann, &submission, &mut first),
         || {
+            let is_held = is_met(&arrived);
             let through = at_lemont(rt, &federation, &bob, &submission, &mut second);
             let_go.store(true, Ordering::SeqCst);
-            through
+            through.filter(|()| is_held)
         },
     );
     if held.is_none() || through.is_none() || ran_out.load(Ordering::SeqCst) {
