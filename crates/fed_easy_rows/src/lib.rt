@@ -1,9 +1,11 @@
-//! Examples of plans, and a plain planner that plans of boards taken at random are compared with, over public calls
-//! alone. The crate has tests and nothing else.
+//! Examples of plans and of listings, and a plain planner that plans of boards taken at random are compared with, over
+//! public calls alone. The crate has tests and nothing else.
 #![tactic(auto)]
 
 #[cfg(test)]
 mod faults;
+#[cfg(test)]
+mod listings;
 #[cfg(test)]
 mod plain;
 #[cfg(test)]

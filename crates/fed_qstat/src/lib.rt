@@ -19,6 +19,3 @@ mod short_lines;
 pub use identifiers::{identifier_text, site_text};
 pub use listings::{full, list};
 pub use plan_texts::plan_text;
-
-#[cfg(test)]
-mod tests;

@@ -25,6 +25,3 @@ pub use elements::Elements;
 pub use laws::joins_take_the_later_stage;
 pub use pairs::Pairs;
 pub use sets::TagSet;
-
-#[cfg(test)]
-mod tests;

@@ -12,7 +12,8 @@ use Rattle.fed_threads.specs.declared.claims.Times.{Times}
 use Rattle.fed_threads.specs.declared.journal.Claim.{Claim}
 use Rattle.fed_threads.specs.declared.journal.Entry.{Entry}
 use Rattle.fed_threads.specs.Placing.{is_claim_of}
-use Rattle.fed_threads.specs.Claims.{times_claimed, IsTimes, IsClaimant, IsClaimantIf, AreClaimantsOf, AreClaimants}
+use Rattle.fed_threads.specs.Claims.{times_claimed}
+use Rattle.fed_threads.specs.Claimants.{IsTimes, IsClaimant, IsClaimantIf, AreClaimantsOf, AreClaimants}
 use Rattle.fed_threads.proofs.Greedy.{same_or_not, and_left, and_right}
 
 abbrev one_if : Bool → ℕ

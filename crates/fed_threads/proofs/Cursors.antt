@@ -7,8 +7,10 @@ use Rattle.std.specs.Option.{unwrap_or}
 use lib.Dec.{ltb}
 use Rattle.fed_threads.specs.declared.claims.Claimant.{Claimant}
 use Rattle.fed_threads.specs.declared.journal.Claim.{Claim}
-use Rattle.fed_threads.specs.Claims.{times_claimed, IsClaimantIf, seat_if}
-use Rattle.fed_threads.specs.Placing.{is_placed, is_claim_of, is_claim_if, first_of, seat_allows, with_next, IsPlacedBelow, AreCursors}
+use Rattle.fed_threads.specs.Claims.{times_claimed}
+use Rattle.fed_threads.specs.Claimants.{IsClaimantIf, seat_if}
+use Rattle.fed_threads.specs.Placing.{is_placed, is_claim_of, first_of, seat_allows, with_next}
+use Rattle.fed_threads.specs.Cursors.{is_claim_if, IsPlacedBelow, AreCursors}
 use Rattle.fed_threads.proofs.Filling.{zeros_low}
 use Rattle.fed_threads.proofs.Firsts.{passes, counts, counts_twice, StandsFirst, first_of_some, position_is, position_none, all_taken, not_all_taken, all_but_one, counted_in, counted_in_two, counted_inside, found_inside}
 use Rattle.fed_threads.proofs.Greedy.{same_or_not, next_same, next_other, and_left, and_right}

@@ -6,8 +6,9 @@ use Rattle.std.specs.List.{slice_get, count_by, list_all}
 use Rattle.fed_threads.specs.declared.claims.Claimant.{Claimant}
 use Rattle.fed_threads.specs.declared.journal.Claim.{Claim}
 use Rattle.fed_threads.specs.declared.journal.Entry.{Entry}
-use Rattle.fed_threads.specs.Claims.{AreClaimants, seat_at}
-use Rattle.fed_threads.specs.Placing.{entries_of, is_claim_of, is_claim_if, take_allows, seat_allows, is_ready, AreCursors}
+use Rattle.fed_threads.specs.Claimants.{AreClaimants, seat_at}
+use Rattle.fed_threads.specs.Placing.{entries_of, is_claim_of, take_allows, seat_allows, is_ready}
+use Rattle.fed_threads.specs.Cursors.{is_claim_if, AreCursors}
 use Rattle.fed_threads.specs.Settle.{AreClaimed}
 use Rattle.fed_threads.proofs.Cursors.{all_allow, seat_claims}
 use Rattle.fed_threads.proofs.Firsts.{counted_inside}

@@ -7,7 +7,8 @@ use Rattle.fed_threads.specs.declared.claims.Times.{Times}
 use Rattle.fed_threads.specs.declared.claims.Times.TheVariants.{Never, Once, Often}
 use Rattle.fed_threads.specs.declared.journal.Claim.{Claim}
 use Rattle.fed_threads.specs.declared.journal.Entry.{Entry}
-use Rattle.fed_threads.specs.Claims.{times_claimed, OnceAtMost, OnceAtLeast, FailsFirst, IsTimes, IsClaimant, IsClaimantIf, AreClaimants, IsNot, IsNotThere}
+use Rattle.fed_threads.specs.Claims.{times_claimed, OnceAtMost, OnceAtLeast, FailsFirst}
+use Rattle.fed_threads.specs.Claimants.{IsTimes, IsClaimant, IsClaimantIf, AreClaimants, IsNot, IsNotThere}
 
 -- past the lists there is no item
 pub past_empty : {X : Type 0} (rows : List (List X)) (site index : ℕ) → index < length (get_or rows site []) → site < length rows

@@ -1,4 +1,4 @@
--- What the contracts of this crate cite.
+-- What the contracts of public calls cite.
 pub mod Faults
 pub mod Replay
 pub mod Seat
@@ -6,5 +6,8 @@ pub mod Calls
 pub mod Claims
 pub mod Placing
 pub mod Settled
-pub mod Course
 pub mod Settle
+-- What contracts of inner calls cite alone.
+pub mod Course
+pub mod Cursors
+pub mod Claimants

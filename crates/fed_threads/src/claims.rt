@@ -4,7 +4,8 @@ ghost use Rattle.std.specs.List.{slice_get};
 ghost use Rattle.fed_stamp.specs.declared.sites.TheConstants.{SITES};
 ghost use Rattle.fed_threads.specs.declared.journal.Claim.{Claim};
 ghost use Rattle.fed_threads.specs.Placing.{entries_of, claims_of};
-ghost use Rattle.fed_threads.specs.Claims.{ClaimHolds, HoldsIfAny, HoldsThere, FailsFirst, AreClaimants, AreClaimantsOf, rows_of, IsTimes, IsNot, IsNotThere, seat_at};
+ghost use Rattle.fed_threads.specs.Claims.{ClaimHolds, HoldsIfAny, HoldsThere, FailsFirst};
+ghost use Rattle.fed_threads.specs.Claimants.{AreClaimants, AreClaimantsOf, rows_of, IsTimes, IsNot, IsNotThere, seat_at};
 ghost use Rattle.fed_threads.specs.Settle.{AreClaimed, IsCloseFault};
 
 use crate::fault::CloseFault;

@@ -1,8 +1,9 @@
 //! The order in which the entries of several journals are placed.
 ghost use Rattle.std.specs.Prelude.{◌≡◌, ◌<◌, ◌+◌, ◌^◌, ℕ, false, IfOk, IsTrue, MatchOption, length};
 ghost use Rattle.std.specs.List.{slice_get};
-ghost use Rattle.fed_threads.specs.Claims.{AreClaimants, rows_of};
-ghost use Rattle.fed_threads.specs.Placing.{entries_of, claims_of, is_claim_if, is_placed, is_ship, entry_at, take_allows, is_ready, none_placed, placed_after, AreCursors, IsNextOf, IsLeastNext, IsPlacing};
+ghost use Rattle.fed_threads.specs.Claimants.{AreClaimants, rows_of};
+ghost use Rattle.fed_threads.specs.Placing.{entries_of, claims_of, is_placed, is_ship, entry_at, take_allows, is_ready, none_placed, placed_after, IsPlacing};
+ghost use Rattle.fed_threads.specs.Cursors.{is_claim_if, AreCursors, IsNextOf, IsLeastNext};
 ghost use Rattle.fed_threads.specs.Settle.{AreClaimed};
 
 use crate::claims::Claimants;

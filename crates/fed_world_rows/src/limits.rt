@@ -2,7 +2,7 @@
 use crate::values::{asker, reservation, site, stamp, submission};
 use fed_record::{Command, Refusal, Reply, Role, Who};
 use fed_replica::Replica;
-use fed_stamp::MAX_COUNTER;
+use fed_stamp::{MAX_COUNTER, Stamp};
 use fed_wire::{Packet, read};
 use std::alloc::Global;
 use std::test::Fail;
@@ -80,13 +80,21 @@ fn no_counter_is_above_the_last(rt: HostRuntime) -> Result<(), Fail> {
     Ok(())
 }
 
+/// What a site ships that has used its last counter, by this stamp.
+fn shipped_with_the_last_counter(alloc: Global, last: Stamp) -> Result<Packet, Fail> {
+    let mut lemont = replica(alloc, 1)?;
+    let is_used = grew_by(alloc, &mut lemont, LAST_BUT_ONE)?
+        && submit(alloc, &mut lemont)? == Some(Ok(Reply::Submitted(last)));
+    is_used
+        .then_some(())
+        .ok_or("the last counter was not used")?;
+    Ok(lemont.ship(site(0)?)?)
+}
+
 #[test]
 fn last_counter_is_used(rt: HostRuntime) -> Result<(), Fail> {
     let last = stamp(MAX_COUNTER, 1)?;
-    let mut lemont = replica(rt.alloc(), 1)?;
-    assert!(rt; grew_by(rt.alloc(), &mut lemont, LAST_BUT_ONE)?);
-    assert!(rt; submit(rt.alloc(), &mut lemont)? == Some(Ok(Reply::Submitted(last))));
-    let packet = lemont.ship(site(0)?)?;
+    let packet = shipped_with_the_last_counter(rt.alloc(), last)?;
     let mut argonne = replica(rt.alloc(), 0)?;
     assert!(rt; grew(&mut argonne, &packet)?);
     assert!(rt; argonne.board().job(last).is_some());

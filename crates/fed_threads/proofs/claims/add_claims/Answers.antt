@@ -1,7 +1,7 @@
 use Rattle.std.proofs.Common.{◌≡◌, ◌+◌, ◌++◌, ◌∷◌, [], List, take, sym, ap, subst, ◌∙◌}
 use Rattle.std.proofs.lemmas.List.{take_more, take_all}
 use Rattle.fed_threads.specs.declared.journal.Claim.{Claim}
-use Rattle.fed_threads.specs.Claims.{AreClaimantsOf}
+use Rattle.fed_threads.specs.Claimants.{AreClaimantsOf}
 use Rattle.fed_threads.proofs.claims.add_claims.Goals as goal
 
 pub loop-claim-preserved : goal.loop-claim-preserved

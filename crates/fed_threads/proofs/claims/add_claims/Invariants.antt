@@ -1,6 +1,6 @@
 use Rattle.std.proofs.Common.{◌≡◌, ℕ, List, ◌++◌, ◌∷◌, [], take, length}
 use Rattle.fed_threads.specs.declared.journal.Claim.{Claim}
-use Rattle.fed_threads.specs.Claims.{AreClaimantsOf}
+use Rattle.fed_threads.specs.Claimants.{AreClaimantsOf}
 use Rattle.fed_threads.proofs.claims.add_claims.Given as goal
 
 abbrev pub invariant-loop-claim : goal.invariant-loop-claim

@@ -1,7 +1,7 @@
 use Rattle.std.proofs.Common.{sym, subst}
 use Rattle.fed_threads.specs.Claims.{OnceAtMost, OnceAtLeast, FailsFirst}
 use Rattle.fed_threads.specs.Placing.{entries_of, claims_of}
-use Rattle.fed_threads.specs.Claims.{rows_of}
+use Rattle.fed_threads.specs.Claimants.{rows_of}
 use Rattle.fed_threads.proofs.Tables.{once_at_most, once_at_least, first_twice, first_unclaimed}
 use Rattle.fed_threads.proofs.claims.check_claims.Goals as goal
 

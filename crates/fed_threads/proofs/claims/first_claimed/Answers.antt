@@ -1,4 +1,4 @@
-use Rattle.fed_threads.specs.Claims.{IsNot}
+use Rattle.fed_threads.specs.Claimants.{IsNot}
 use Rattle.fed_threads.proofs.Rows.{holds_more}
 use Rattle.fed_threads.proofs.claims.first_claimed.Goals as goal
 

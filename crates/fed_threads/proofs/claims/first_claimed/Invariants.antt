@@ -1,5 +1,5 @@
 use Rattle.std.proofs.Common.{◌<◌, ℕ}
-use Rattle.fed_threads.specs.Claims.{rows_of, IsNotThere}
+use Rattle.fed_threads.specs.Claimants.{rows_of, IsNotThere}
 use Rattle.fed_threads.proofs.claims.first_claimed.Given as goal
 
 abbrev pub invariant-loop-site : goal.invariant-loop-site

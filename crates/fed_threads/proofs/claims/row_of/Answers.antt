@@ -2,7 +2,7 @@ use Rattle.std.proofs.Common.{◌≡◌, ◌<◌, ◌+◌, ◌++◌, ◌∷◌, 
 use Rattle.std.proofs.lemmas.List.{take_more, length-map, length-take-le}
 use Rattle.std.specs.Global.{Vec}
 use Rattle.fed_threads.specs.declared.journal.Claim.{Claim}
-use Rattle.fed_threads.specs.Claims.{AreClaimantsOf}
+use Rattle.fed_threads.specs.Claimants.{AreClaimantsOf}
 use Rattle.fed_threads.specs.Placing.{claims_of}
 use Rattle.fed_threads.proofs.Rows.{items_are}
 use Rattle.fed_threads.proofs.claims.row_of.Goals as goal

@@ -1,6 +1,6 @@
 use Rattle.std.proofs.Common.{take}
 use Rattle.fed_threads.specs.Placing.{claims_of}
-use Rattle.fed_threads.specs.Claims.{AreClaimantsOf}
+use Rattle.fed_threads.specs.Claimants.{AreClaimantsOf}
 use Rattle.fed_threads.proofs.claims.row_of.Given as goal
 
 abbrev pub invariant-loop-seat : goal.invariant-loop-seat

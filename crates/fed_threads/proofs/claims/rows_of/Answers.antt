@@ -3,7 +3,7 @@ use Rattle.std.proofs.lemmas.List.{length-map}
 use Rattle.std.specs.Global.{Vec}
 use Rattle.fed_threads.specs.declared.claims.Claimant.{Claimant}
 use Rattle.fed_threads.specs.declared.journal.Entry.{Entry}
-use Rattle.fed_threads.specs.Claims.{AreClaimantsOf, rows_of}
+use Rattle.fed_threads.specs.Claimants.{AreClaimantsOf, rows_of}
 use Rattle.fed_threads.specs.Placing.{entries_of, claims_of}
 use Rattle.fed_threads.proofs.Rows.{items_are}
 use Rattle.fed_threads.proofs.Claimants.{with_row}

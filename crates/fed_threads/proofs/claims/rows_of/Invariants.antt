@@ -1,6 +1,6 @@
 use Rattle.std.proofs.Common.{take}
 use Rattle.fed_threads.specs.Placing.{entries_of, claims_of}
-use Rattle.fed_threads.specs.Claims.{AreClaimants, rows_of}
+use Rattle.fed_threads.specs.Claimants.{AreClaimants, rows_of}
 use Rattle.fed_threads.proofs.claims.rows_of.Given as goal
 
 abbrev pub invariant-loop-site : goal.invariant-loop-site

@@ -3,7 +3,8 @@ use Rattle.std.proofs.Math.ListN.{length-set}
 use Rattle.std.proofs.lemmas.List.{length-map}
 use Rattle.std.specs.Global.{Vec}
 use Rattle.fed_threads.specs.declared.journal.Claim.{Claim}
-use Rattle.fed_threads.specs.Placing.{entries_of, claims_of, IsLeastNext}
+use Rattle.fed_threads.specs.Placing.{entries_of, claims_of}
+use Rattle.fed_threads.specs.Cursors.{IsLeastNext}
 use Rattle.fed_threads.proofs.Cursors.{cursors_next, next_inside}
 use Rattle.fed_threads.proofs.Filling.{goes_on, falls, ends, item_is}
 use Rattle.fed_threads.proofs.Ready.{ready_inside}

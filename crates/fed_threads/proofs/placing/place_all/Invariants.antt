@@ -1,6 +1,7 @@
 use Rattle.std.proofs.Common.{◌≡◌, ◌-◌, map, length}
 use Rattle.std.specs.List.{sum}
-use Rattle.fed_threads.specs.Placing.{entries_of, claims_of, AreCursors}
+use Rattle.fed_threads.specs.Placing.{entries_of, claims_of}
+use Rattle.fed_threads.specs.Cursors.{AreCursors}
 use Rattle.fed_threads.proofs.Filling.{IsUnderWay}
 use Rattle.fed_threads.proofs.placing.place_all.Given as goal
 

@@ -2,7 +2,7 @@ use Rattle.std.proofs.Common.{◌≡◌, ◌<◌, ◌∙◌, [], length, get_or,
 use Rattle.std.proofs.lemmas.List.{length-map}
 use Rattle.std.specs.Global.{Vec}
 use Rattle.fed_threads.specs.declared.journal.Claim.{Claim}
-use Rattle.fed_threads.specs.Claims.{rows_of}
+use Rattle.fed_threads.specs.Claimants.{rows_of}
 use Rattle.fed_threads.specs.Placing.{claims_of, entries_of, take_allows}
 use Rattle.fed_threads.proofs.Nexts.{seat_inside, ready_by}
 use Rattle.fed_threads.proofs.Rows.{items_are}

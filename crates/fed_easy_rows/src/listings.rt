@@ -1,6 +1,6 @@
 //! The listings of a board of one job.
-use crate::{full, list};
 use fed_board::Board;
+use fed_qstat::{full, list};
 use fed_record::{Account, HoldKinds, JobValues, Limit, Nodes, Operation, Priority};
 use fed_stamp::{Roster, SiteId, SiteSet, Stamp, Word};
 use std::test::Fail;

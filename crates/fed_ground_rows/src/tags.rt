@@ -1,27 +1,12 @@
 //! Tag sets at work, alone and inside tables.
 ghost use Rattle.std.specs.Prelude.{◌≡◌, [], IfOk, IsOk};
 
-use crate::{TagChange, TagSet};
+use crate::lattices::join_both_ways;
 use fed_lattice::{Both, Causal, Flag, NoMemory, Table};
 use fed_stamp::{SiteId, Stamp, Version};
+use fed_tags::{TagChange, TagSet};
 use std::alloc::{AllocError, Global};
 use std::test::Fail;
-
-/// Three values joined in both orders.
-fn join_both_ways<V: Causal + Drop>(
-    a: &V,
-    b: &V,
-    c: &V,
-    u: &Version,
-    v: &Version,
-    w: &Version,
-) -> Result<(V, V), NoMemory>
-    ensures same { IfOk result (λ p. p.0 ≡ p.1) }
-{
-    let left = a.join(u, b, v)?.join(&u.join(v), c, w)?;
-    let right = a.join(u, &b.join(v, c, w)?, &v.join(w))?;
-    Ok((left, right))
-}
 
 type Row = Both<TagSet<u8>, Flag>;
 

@@ -1,5 +1,5 @@
 //! Examples of rosters, names, sets, stamps and versions.
-use crate::{
+use fed_stamp::{
     ClockFull, JobId, MAX_COUNTER, Roster, RosterFault, SiteId, SiteSet, Stamp, Version, Word,
     is_site_name,
 };
