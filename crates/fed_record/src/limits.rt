@@ -9,7 +9,7 @@ pub const MAX_LIMIT: u64 = 10_000_000;
 /// How long a job may run, from 1 to `MAX_LIMIT` whole seconds.
 #[derive(Clone, Copy, PartialEq, Eq, PartialOrd, Ord, Debug)]
 pub struct Limit {
-    number: u64,
+    number: u32,
 }
 
 impl Model for Limit {
@@ -31,6 +31,7 @@ impl Limit {
         ensures { result ≡ (if nat_le 1 number && nat_le number MAX_LIMIT then Some number else None) }
     {
         if 1 <= number && number <= MAX_LIMIT {
+            let number = number as u32;
             Some(Limit { number })
         } else {
             None
@@ -43,6 +44,6 @@ impl Limit {
         ensures at_least { 1 ≤ result }
         ensures at_most { result ≤ MAX_LIMIT }
     {
-        self.number
+        u64::from(self.number)
     }
 }

@@ -7,7 +7,7 @@ use std::marker::Model;
 /// How many nodes a job runs on, from 1 to `MAX_NODES`.
 #[derive(Clone, Copy, PartialEq, Eq, PartialOrd, Ord, Debug)]
 pub struct Nodes {
-    number: u64,
+    number: u32,
 }
 
 impl Model for Nodes {
@@ -29,6 +29,7 @@ impl Nodes {
         ensures { result ≡ (if nat_le 1 number && nat_le number MAX_NODES then Some number else None) }
     {
         if 1 <= number && number <= MAX_NODES {
+            let number = number as u32;
             Some(Nodes { number })
         } else {
             None
@@ -41,6 +42,6 @@ impl Nodes {
         ensures at_least { 1 ≤ result }
         ensures at_most { result ≤ MAX_NODES }
     {
-        self.number
+        u64::from(self.number)
     }
 }

@@ -10,7 +10,7 @@ pub const MAX_TERM: u64 = 1_000_000_000;
 /// back before the next.
 #[derive(Clone, Copy, PartialEq, Eq, PartialOrd, Ord, Debug)]
 pub struct Term {
-    number: u64,
+    number: u32,
 }
 
 impl Model for Term {
@@ -32,6 +32,7 @@ impl Term {
         ensures { result ≡ (if nat_le 1 number && nat_le number MAX_TERM then Some number else None) }
     {
         if 1 <= number && number <= MAX_TERM {
+            let number = number as u32;
             Some(Term { number })
         } else {
             None
@@ -44,6 +45,6 @@ impl Term {
         ensures at_least { 1 ≤ result }
         ensures at_most { result ≤ MAX_TERM }
     {
-        self.number
+        u64::from(self.number)
     }
 }

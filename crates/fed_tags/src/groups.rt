@@ -1,12 +1,12 @@
 //! Groups: elements, each with its tags, by element.
-ghost use Rattle.std.specs.Prelude.{◌≡◌, IfOk, IfErr, option_map};
+ghost use Rattle.std.specs.Prelude.{◌≡◌, ◌≤◌, IfOk, IfErr, OnOk, OnErr, insert, option_map, vec_len};
 ghost use Rattle.std.specs.BTreeMap.{is_at};
 ghost use Rattle.std.specs.List.Sorted.{IsStrictlySortedBy};
 ghost use Rattle.std.specs.Map.{keys_of, lookup};
 ghost use Rattle.fed_tags.specs.Groups.{IsGroupOf, IsGapFor};
 
 use crate::tags::Tags;
-use fed_lattice::Exact;
+use fed_lattice::{Exact, NoMemory};
 
 /// The place of an element's group, or the place where it would stand.
 pub(crate) fn find<T: Exact>(groups: &[(T, Tags)], element: &T) -> Result<usize, usize>
@@ -26,4 +26,22 @@ pub(crate) fn tags_of<'a, T: Exact>(groups: &'a [(T, Tags)], element: &T) -> Opt
         Ok(place) => Some(&groups[place].1),
         Err(_) => None,
     }
+}
+
+/// Puts a group at a place. The first group takes room for itself alone: most sets of a job have one element, and a
+/// vector that grows takes room for four. On an error the groups are as before.
+pub(crate) fn put<T: Exact>(
+    groups: &mut Vec<(T, Tags)>,
+    place: usize,
+    group: (T, Tags),
+) -> Result<(), NoMemory>
+    requires { place ≤ vec_len groups.old }
+    ensures ok { OnOk result (groups.new.items ≡ insert groups.old.items place group) }
+    ensures unchanged { OnErr result (groups.new.items ≡ groups.old.items) }
+{
+    if groups.is_empty() {
+        groups.try_reserve_exact(1)?;
+    }
+    groups.insert(place, group)?;
+    Ok(())
 }

@@ -7,7 +7,7 @@ ghost use Rattle.fed_lattice.specs.Sets.{Has};
 ghost use Rattle.fed_tags.specs.Tags.{pair_cmp, inserted, stamped, without, tags_of as stamps_of, IsElement, lacking, kept, joined_tags};
 
 use crate::elements::Elements;
-use crate::groups::{find, tags_of};
+use crate::groups::{find, put, tags_of};
 use crate::pairs::Pairs;
 use crate::tags::Tags;
 use fed_lattice::{Exact, ExactEq, NoMemory};
@@ -95,8 +95,7 @@ impl<T: Exact> TagSet<T> {
             Ok(place) => self.groups[place].1.insert(stamp),
             Err(place) => {
                 let tags = Tags::one(self.alloc, stamp);
-                self.groups.insert(place, (element, tags))?;
-                Ok(())
+                put(&mut self.groups, place, (element, tags))
             }
         }
     }

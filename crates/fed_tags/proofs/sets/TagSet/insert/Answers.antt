@@ -43,14 +43,18 @@ invariant_of-self-in-Err g c =
     let o = g.met.T.Ord.total in
     let exact = g.met.T.Exact.exact in
     let none = none_found cmp o exact _ _ c.deref.ensures.value c.args.element c.in-Err.place c.in-Err.ensures.absent in
-    inserted_table cmp o exact _ _ c.args.element c.args.stamp c.self.invariant
-    (absent_entries cmp o exact _ _ _ _ _ _ refl none (c.in_ok-insert-in-Err.ensures.items ∙ put_in cmp o exact _ _ c.deref.ensures.value c.args.element c.in-Err.place c.one-tags.result c.in-Err.ensures.absent) c.one-tags.ensures)
+    in_either c.put.result c.put.ensures.ok c.put.ensures.unchanged
+    (λ e. inserted_table cmp o exact _ _ c.args.element c.args.stamp c.self.invariant
+    (absent_entries cmp o exact _ _ _ _ _ _ refl none (e ∙ put_in cmp o exact _ _ c.deref.ensures.value c.args.element c.in-Err.place c.one-tags.result c.in-Err.ensures.absent) c.one-tags.ensures))
+    (λ e. subst (IsTable cmp IsGroup) (sym e) c.self.invariant)
 
-pub returns-in_ok-insert-in-Err-clause-ok : goal.returns-in_ok-insert-in-Err-clause-ok
-returns-in_ok-insert-in-Err-clause-ok g c =
+pub returns-in-Err-clause-ok : goal.returns-in-Err-clause-ok
+returns-in-Err-clause-ok g c =
     let cmp = g.T.Ord.cmp in
     let o = g.met.T.Ord.total in
     let exact = g.met.T.Exact.exact in
     let none = none_found cmp o exact _ _ c.deref.ensures.value c.args.element c.in-Err.place c.in-Err.ensures.absent in
-    inserted_view cmp o exact _ _ _ c.args.element c.args.stamp c.self.view_is c.self.invariant
-    (absent_entries cmp o exact _ _ _ _ _ _ refl none (c.in_ok-insert-in-Err.ensures.items ∙ put_in cmp o exact _ _ c.deref.ensures.value c.args.element c.in-Err.place c.one-tags.result c.in-Err.ensures.absent) c.one-tags.ensures)
+    on_ok_then c.put.result
+    (λ e. inserted_view cmp o exact _ _ _ c.args.element c.args.stamp c.self.view_is c.self.invariant
+    (absent_entries cmp o exact _ _ _ _ _ _ refl none (e ∙ put_in cmp o exact _ _ c.deref.ensures.value c.args.element c.in-Err.place c.one-tags.result c.in-Err.ensures.absent) c.one-tags.ensures))
+    c.put.ensures.ok
