@@ -1,5 +1,5 @@
 //! The jobs that operands name.
-ghost use Rattle.std.specs.Prelude.{◌≡◌};
+ghost use Rattle.std.specs.Prelude.{◌≡◌, ◌∷◌, []};
 ghost use Rattle.fed_words.specs.Fault.{Gives};
 ghost use Rattle.fed_words.specs.Item.{words_of};
 ghost use Rattle.fed_words.specs.Request.{jobs_in, named_jobs};
@@ -11,8 +11,21 @@ use fed_stamp::{JobId, Roster, SiteId};
 use indexmap::IndexSet;
 use std::alloc::Global;
 
-/// The jobs that operands name, each once, at its first place.
-fn read_named(
+/// The job that an operand names, where it is the only one.
+fn read_one(
+    alloc: Global,
+    roster: &Roster,
+    here: SiteId,
+    operand: &str,
+) -> Result<Vec<JobId>, UsageFault>
+    ensures { Gives (λ jobs. jobs.items) result (named_jobs roster.now here (operand.now ∷ [])) }
+{
+    let job = read_identifier(roster, here, operand)?;
+    Ok(vec![in alloc; job]?)
+}
+
+/// The jobs that operands name, each once, at its first place: one is looked up among those before it.
+fn read_all(
     alloc: Global,
     roster: &Roster,
     here: SiteId,
@@ -29,6 +42,21 @@ fn read_named(
         }
     }
     Ok(jobs)
+}
+
+/// The jobs that operands name, each once, at its first place.
+fn read_named(
+    alloc: Global,
+    roster: &Roster,
+    here: SiteId,
+    operands: &[&str],
+) -> Result<Vec<JobId>, UsageFault>
+    ensures { Gives (λ jobs. jobs.items) result (named_jobs roster.now here (words_of operands.now)) }
+{
+    match operands {
+        [operand] => read_one(alloc, roster, here, operand),
+        _ => read_all(alloc, roster, here, operands),
+    }
 }
 
 /// The jobs that the operands of a utility name.

@@ -6,7 +6,7 @@ use Rattle.fed_words.specs.Item.{words_of}
 use Rattle.fed_words.specs.Request.{once}
 use Rattle.fed_words.proofs.Each.{each_after}
 use Rattle.fed_words.proofs.Onces.{key}
-use Rattle.fed_words.proofs.jobs.read_named.Given as goal
+use Rattle.fed_words.proofs.jobs.read_all.Given as goal
 
 abbrev pub invariant-loop-operand : goal.invariant-loop-operand
 invariant-loop-operand l = (done : List StampValue) × (l.jobs.items ≡ once done) × (l.seen.keys ≡ map key (once done))

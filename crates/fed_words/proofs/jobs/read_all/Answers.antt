@@ -8,8 +8,8 @@ use Rattle.fed_stamp.specs.Stamp.{same_stamp}
 use Rattle.fed_words.proofs.Each.{each-more, each-fault, gives-fault}
 use Rattle.fed_words.proofs.Onces.{is_known, keys-once, not_false, not_true, once-known, once-new}
 use Rattle.fed_words.proofs.Spellings.{word_at}
-use Rattle.fed_words.proofs.jobs.read_named.Goals as goal
-use Rattle.fed_words.proofs.jobs.read_named.Goals.{then-branch+in_ok-push, else-branch}
+use Rattle.fed_words.proofs.jobs.read_all.Goals as goal
+use Rattle.fed_words.proofs.jobs.read_all.Goals.{then-branch+in_ok-push, else-branch}
 
 pub returns-in_err-job : goal.returns-in_err-job
 returns-in_err-job c =
