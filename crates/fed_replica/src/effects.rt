@@ -61,16 +61,19 @@ fn hold_pairs(
     )
 }
 
-/// The pairs of sites that a Set removes: where it names sites, each live one.
+/// The pairs of sites that a Set of the job removes: where it names sites, each live one. Where it names none, the job is
+/// not looked up.
 fn replaced(
     alloc: Global,
-    job: &JobRecord,
+    board: &Board,
+    job: JobId,
     sites: Option<SiteSet>,
 ) -> Result<Vec<(SiteId, Stamp)>, NoMemory>
-    ensures { IfOk result (λ v. has_site_pair v.items ≡ replaced_sites (reads_job job.now) sites) }
+    requires { IsTrue (is_submitted ((reads board.now).job job)) }
+    ensures { IfOk result (λ v. has_site_pair v.items ≡ replaced_sites ((reads board.now).job job) sites) }
 {
     match sites {
-        Some(_) => site_pairs(alloc, job),
+        Some(_) => site_pairs(alloc, known(board, job)),
         None => Ok(Vec::new(alloc)),
     }
 }
@@ -113,19 +116,15 @@ fn beginning(job: &JobRecord, moment: Moment) -> Beginning
 }
 
 /// The operation of an Alter.
-fn set(
-    alloc: Global,
-    job: &JobRecord,
-    name: JobId,
-    changes: &Changes,
-) -> Result<Operation, NoMemory>
+fn set(alloc: Global, board: &Board, job: JobId, changes: &Changes) -> Result<Operation, NoMemory>
+    requires { IsTrue (is_submitted ((reads board.now).job job)) }
     ensures { IfOk result (λ op. body_of op ≡
-        Set name changes.now (replaced_sites (reads_job job.now) changes.now.sites)) }
+        Set job changes.now (replaced_sites ((reads board.now).job job) changes.now.sites)) }
 {
     Ok(Operation::Set {
-        job: name,
+        job,
         changes: *changes,
-        removed: replaced(alloc, job, changes.sites)?,
+        removed: replaced(alloc, board, job, changes.sites)?,
     })
 }
 
@@ -174,7 +173,7 @@ pub(crate) fn operation(
             values: *values,
             held: *held,
         },
-        Command::Alter { job, changes } => set(alloc, known(board, *job), *job, changes)?,
+        Command::Alter { job, changes } => set(alloc, board, *job, changes)?,
         Command::Hold { job, kinds } => Operation::Hold {
             job: *job,
             kinds: *kinds,
