@@ -112,7 +112,7 @@ impl Federation {
     }
 
     /// Somebody asks a site for commands, one after another.
-    fn act(
+    fn ask_each(
         &mut self,
         alloc: Global,
         site: SiteId,
@@ -128,6 +128,23 @@ impl Federation {
             text.push_str(answer.as_str())?;
         }
         Ok(text)
+    }
+
+    /// Somebody asks a site for commands, one after another. Most lines ask for one, whose answer is not copied.
+    fn act(
+        &mut self,
+        alloc: Global,
+        site: SiteId,
+        who: &Who,
+        commands: &[Command],
+    ) -> Result<String, NoMemory>
+        ensures { IfOk result (λ text.
+            after_commands (reads self.old) site who.now commands.now ≡ says (reads self.new) (string_bytes text)) }
+    {
+        match commands {
+            [command] => self.ask(alloc, site, who, command),
+            _ => self.ask_each(alloc, site, who, commands),
+        }
     }
 
     /// A site lists jobs.

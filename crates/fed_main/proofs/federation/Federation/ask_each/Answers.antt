@@ -1,7 +1,7 @@
 use Rattle.std.proofs.Common.{◌≡◌, ◌++◌, string_bytes, ap, ◌∙◌}
 use Rattle.fed_main.specs.Federation.{reads}
 use Rattle.fed_main.proofs.Federations.{one_done}
-use Rattle.fed_main.proofs.federation.Federation.act.Goals as goal
+use Rattle.fed_main.proofs.federation.Federation.ask_each.Goals as goal
 
 pub loop-command-preserved : goal.loop-command-preserved
 loop-command-preserved c =
