@@ -4,8 +4,7 @@ use fed_board::Board;
 use fed_desk::{Decision, decide};
 use fed_record::{Beginning, Ending, HoldKinds, Moment, Nodes, Operation};
 use fed_stamp::Stamp;
-use std::alloc::Global;
-use std::test::Fail;
+use std::process::Abort;
 
 /// Whether argonne, site 0, grants its first job where this site asks.
 fn is_granted(board: &Board, asker: u8) -> bool {
@@ -38,42 +37,40 @@ fn grants(board: &Board) -> [bool; 2] {
     [is_granted(board, 0), is_granted(board, 1)]
 }
 
-fn beginning() -> Option<Beginning> {
-    Some(Beginning {
-        moment: Moment::new(0)?,
-        nodes: Nodes::new(1)?,
+fn beginning() -> Beginning {
+    Beginning {
+        moment: Moment::new(0).unwrap(),
+        nodes: Nodes::new(1).unwrap(),
         end: 60,
-    })
+    }
 }
 
-fn ending() -> Option<Ending> {
-    Some(Ending {
-        moment: Moment::new(50)?,
+fn ending() -> Ending {
+    Ending {
+        moment: Moment::new(50).unwrap(),
         status: 0,
-    })
+    }
 }
 
 /// The board with a Begin of the job at site 1, and then a Finish.
-fn finished(board: &Board, job: Stamp) -> Result<Board, Fail> {
-    let beginning = beginning().ok_or("beginning")?;
-    let ending = ending().ok_or("ending")?;
-    let begun = after(board, stamp(5, 1), &Operation::Begin { job, beginning })?;
-    after(&begun, stamp(6, 1), &Operation::Finish { job, ending })
+fn finished(rt: &impl Abort, board: &Board, job: Stamp) -> Board {
+    let beginning = beginning();
+    let ending = ending();
+    let begun = after(rt, board, stamp(5, 1), &Operation::Begin { job, beginning });
+    after(rt, &begun, stamp(6, 1), &Operation::Finish { job, ending })
 }
 
 #[test]
-fn queued_jobs_are_granted(rt: HostRuntime) -> Result<(), Fail> {
-    let board = submitted(rt.alloc(), stamp(1, 0), false)?;
+fn queued_jobs_are_granted(rt: HostRuntime) {
+    let board = submitted(&rt, stamp(1, 0), false);
     assert!(rt; grants(&board) == [true, true]);
-    Ok(())
 }
 
 #[test]
-fn jobs_are_granted_to_one_site(rt: HostRuntime) -> Result<(), Fail> {
-    let board = granted(rt.alloc(), stamp(1, 0), site(1))?;
+fn jobs_are_granted_to_one_site(rt: HostRuntime) {
+    let board = granted(&rt, stamp(1, 0), site(1));
     assert!(rt; refusals(&board, [0, 1]) == [8, 0]);
     assert!(rt; !is_granted(&board, 1));
-    Ok(())
 }
 
 /// The numbers of the refusals of argonne's first job where its sibling at site 1 decides, and of a job that isn't there.
@@ -84,66 +81,59 @@ fn refusals_elsewhere(board: &Board) -> [u8; 2] {
 }
 
 #[test]
-fn other_sites_decide_nothing(rt: HostRuntime) -> Result<(), Fail> {
-    let board = granted(rt.alloc(), stamp(1, 0), site(1))?;
+fn other_sites_decide_nothing(rt: HostRuntime) {
+    let board = granted(&rt, stamp(1, 0), site(1));
     assert!(rt; refusals_elsewhere(&board) == [5, 1]);
-    Ok(())
 }
 
 #[test]
-fn held_jobs_are_refused(rt: HostRuntime) -> Result<(), Fail> {
-    let board = submitted(rt.alloc(), stamp(1, 0), true)?;
+fn held_jobs_are_refused(rt: HostRuntime) {
+    let board = submitted(&rt, stamp(1, 0), true);
     assert!(rt; refusals(&board, [1, 2]) == [6, 6]);
-    Ok(())
 }
 
 #[test]
-fn sites_not_named_are_refused(rt: HostRuntime) -> Result<(), Fail> {
-    let board = submitted(rt.alloc(), stamp(1, 0), false)?;
+fn sites_not_named_are_refused(rt: HostRuntime) {
+    let board = submitted(&rt, stamp(1, 0), false);
     assert_eq!(rt; refusal(&board, 2), 7);
-    Ok(())
 }
 
 /// A board with one job, which is granted to site 1 and then held there.
-fn granted_and_held(alloc: Global, job: Stamp) -> Result<Board, Fail> {
+fn granted_and_held(rt: &(impl Abort + AllocGlobal), job: Stamp) -> Board {
     let kinds = HoldKinds::USER;
-    let board = granted(alloc, job, site(1))?;
-    after(&board, stamp(3, 1), &Operation::Hold { job, kinds })
+    let board = granted(rt, job, site(1));
+    after(rt, &board, stamp(3, 1), &Operation::Hold { job, kinds })
 }
 
 #[test]
-fn holds_of_granted_jobs_are_not_looked_at(rt: HostRuntime) -> Result<(), Fail> {
-    let board = granted_and_held(rt.alloc(), stamp(1, 0))?;
+fn holds_of_granted_jobs_are_not_looked_at(rt: HostRuntime) {
+    let board = granted_and_held(&rt, stamp(1, 0));
     assert!(rt; refusals(&board, [1, 2]) == [0, 8]);
-    Ok(())
 }
 
 #[test]
-fn jobs_handed_back_are_granted_anew(rt: HostRuntime) -> Result<(), Fail> {
+fn jobs_handed_back_are_granted_anew(rt: HostRuntime) {
     let job = stamp(1, 0);
-    let (both, _b) = handed_back(rt.alloc(), job, stamp(3, 1))?;
+    let (both, _b) = handed_back(&rt, job, stamp(3, 1));
     assert!(rt; is_granted(&both, 0));
     assert!(rt; is_granted(&both, 1));
-    Ok(())
 }
 
 #[test]
-fn finished_jobs_are_gone(rt: HostRuntime) -> Result<(), Fail> {
+fn finished_jobs_are_gone(rt: HostRuntime) {
     let job = stamp(1, 0);
-    let board = finished(&granted(rt.alloc(), job, site(1))?, job)?;
+    let board = finished(&rt, &granted(&rt, job, site(1)), job);
     assert_eq!(rt; refusal(&board, 1), 3);
-    Ok(())
 }
 
 /// A board with one job, which was held and is deleted.
-fn deleted(alloc: Global, job: Stamp) -> Result<Board, Fail> {
-    let board = submitted(alloc, job, true)?;
-    after(&board, stamp(2, 0), &Operation::Delete { job })
+fn deleted(rt: &(impl Abort + AllocGlobal), job: Stamp) -> Board {
+    let board = submitted(rt, job, true);
+    after(rt, &board, stamp(2, 0), &Operation::Delete { job })
 }
 
 #[test]
-fn deleted_jobs_are_gone(rt: HostRuntime) -> Result<(), Fail> {
-    let board = deleted(rt.alloc(), stamp(1, 0))?;
+fn deleted_jobs_are_gone(rt: HostRuntime) {
+    let board = deleted(&rt, stamp(1, 0));
     assert_eq!(rt; refusal(&board, 2), 3);
-    Ok(())
 }
