@@ -1,74 +1,60 @@
 //! The listings of a board of one job.
+use crate::sites::{act, site};
 use fed_board::Board;
 use fed_qstat::{full, list};
 use fed_record::{Account, HoldKinds, JobValues, Limit, Nodes, Operation, Priority};
-use fed_stamp::{Roster, SiteId, SiteSet, Stamp, Word};
-use std::test::Fail;
+use fed_stamp::{Roster, SiteSet, Stamp, Word};
+use std::process::Abort;
 
-fn stamp(counter: u64) -> Result<Stamp, Fail> {
-    let site = SiteId::new(0).ok_or("site")?;
-    Ok(Stamp::new(counter, site).ok_or("stamp")?)
+fn stamp(counter: u64) -> Stamp {
+    Stamp::new(counter, site(0)).unwrap_or_default()
 }
 
-fn submit() -> Result<Operation, Fail> {
-    let argonne = SiteId::new(0).ok_or("site")?;
+fn submit(rt: &impl Abort) -> Operation {
     let values = JobValues {
-        name: Word::new("STDIN").ok_or("name")?,
-        priority: Priority::new(0).ok_or("priority")?,
-        nodes: Nodes::new(1).ok_or("nodes")?,
-        limit: Limit::new(3600).ok_or("limit")?,
+        name: Word::new("STDIN").expect(rt, "a name"),
+        priority: Priority::new(0).unwrap(),
+        nodes: Nodes::new(1).unwrap(),
+        limit: Limit::new(3600).unwrap(),
         account: Account::EMPTY,
-        sites: SiteSet::new(&[argonne]).ok_or("sites")?,
+        sites: SiteSet::new(&[site(0)]).unwrap(),
     };
-    Ok(Operation::Submit {
-        owner: Word::new("ann").ok_or("owner")?,
+    Operation::Submit {
+        owner: Word::new("ann").expect(rt, "a name"),
         values,
         held: false,
-    })
-}
-
-fn act(board: &mut Board, at: Stamp, operation: &Operation) -> Result<(), Fail> {
-    let may_follow = !board.version().covers(at) && board.has_named(operation);
-    if may_follow {
-        board.apply(at, operation)?;
     }
-    may_follow
-        .then_some(())
-        .ok_or("the operation may not follow")?;
-    Ok(())
 }
 
 #[test]
-fn a_job_is_listed_once(rt: HostRuntime) -> Result<(), Fail> {
+fn a_job_is_listed_once(rt: HostRuntime) {
     let alloc = rt.alloc();
-    let roster = Roster::new(&[("argonne", 8)]).ok().ok_or("roster")?;
+    let roster = Roster::new(&[("argonne", 8)]).expect(&rt, "a roster");
     let mut board = Board::new(alloc);
-    let job = stamp(1)?;
-    act(&mut board, job, &submit()?)?;
+    let job = stamp(1);
+    act(&rt, &mut board, job, &submit(&rt));
     let line =
         "1.argonne          STDIN            ann              Q      0        1      3600 -\n";
-    let all = list(alloc, &board, &roster, &[])?;
-    assert_eq!(rt; all.as_str(), line);
-    let named = list(alloc, &board, &roster, &[job, job, stamp(9)?])?;
-    assert_eq!(rt; named.as_str(), line);
-    act(&mut board, stamp(2)?, &Operation::Delete { job })?;
-    let gone = list(alloc, &board, &roster, &[job])?;
-    assert_eq!(rt; gone.as_str(), "");
-    Ok(())
+    let all = list(alloc, &board, &roster, &[]).expect(&rt, "memory");
+    assert!(rt; all.as_str() == line);
+    let named = list(alloc, &board, &roster, &[job, job, stamp(9)]).expect(&rt, "memory");
+    assert!(rt; named.as_str() == line);
+    act(&rt, &mut board, stamp(2), &Operation::Delete { job });
+    let gone = list(alloc, &board, &roster, &[job]).expect(&rt, "memory");
+    assert!(rt; gone.as_str() == "");
 }
 
 #[test]
-fn a_job_is_listed_in_full(rt: HostRuntime) -> Result<(), Fail> {
+fn a_job_is_listed_in_full(rt: HostRuntime) {
     let alloc = rt.alloc();
-    let roster = Roster::new(&[("argonne", 8)]).ok().ok_or("roster")?;
+    let roster = Roster::new(&[("argonne", 8)]).expect(&rt, "a roster");
     let mut board = Board::new(alloc);
-    let job = stamp(1)?;
-    act(&mut board, job, &submit()?)?;
+    let job = stamp(1);
+    act(&rt, &mut board, job, &submit(&rt));
     let kinds = HoldKinds::made_of(true, true, true);
-    act(&mut board, stamp(2)?, &Operation::Hold { job, kinds })?;
-    let lines = full(alloc, &board, &roster, &[job])?;
+    act(&rt, &mut board, stamp(2), &Operation::Hold { job, kinds });
+    let lines = full(alloc, &board, &roster, &[job]).expect(&rt, "memory");
     let wanted =
         "Job Id: 1.argonne\n    Job_Name = STDIN\n    Job_Owner = ann\n    Account_Name = -\n    job_state = H\n    Priority = 0\n    Hold_Types = uos\n    Resource_List.nodes = 1\n    Resource_List.walltime = 3600\n    Resource_List.sites = argonne\n    granted = -\n    begun = -\n";
-    assert_eq!(rt; lines.as_str(), wanted);
-    Ok(())
+    assert!(rt; lines.as_str() == wanted);
 }

@@ -4,8 +4,7 @@ use fed_board::Board;
 use fed_easy::{Machine, Plan};
 use fed_record::{JobRecord, Letter, Reservation};
 use fed_stamp::JobId;
-use std::alloc::Global;
-use std::test::Fail;
+use std::alloc::{AllocError, Global};
 
 /// How many seconds from the moment on a shadow is looked for.
 const SEARCHED: u64 = 1000;
@@ -97,7 +96,7 @@ fn comes_before(a: &Job, b: &Job) -> bool {
 }
 
 /// Puts the job at its place in the queue.
-fn put(queue: &mut Vec<Job>, job: Job) -> Result<(), Fail> {
+fn put(queue: &mut Vec<Job>, job: Job) -> Result<(), AllocError> {
     for place in 0..queue.len() {
         if comes_before(&job, &queue[place]) {
             queue.insert(place, job)?;
@@ -108,7 +107,7 @@ fn put(queue: &mut Vec<Job>, job: Job) -> Result<(), Fail> {
     Ok(())
 }
 
-fn queue(alloc: Global, board: &Board, capacity: u64) -> Result<Vec<Job>, Fail> {
+fn queue(alloc: Global, board: &Board, capacity: u64) -> Result<Vec<Job>, AllocError> {
     let mut queue = Vec::new(alloc);
     for (id, record) in board.jobs() {
         if let Some(job) = job_of(*id, record) {
@@ -136,7 +135,7 @@ fn reserved_time(reservation: &Reservation) -> Option<Time> {
     })
 }
 
-fn add_reserved(times: &mut Vec<Time>, board: &Board) -> Result<(), Fail> {
+fn add_reserved(times: &mut Vec<Time>, board: &Board) -> Result<(), AllocError> {
     for (_, reservation) in board.reservations() {
         if let Some(time) = reserved_time(reservation) {
             times.push(time)?;
@@ -146,7 +145,7 @@ fn add_reserved(times: &mut Vec<Time>, board: &Board) -> Result<(), Fail> {
 }
 
 /// The times of what runs.
-fn running_times(alloc: Global, now: u64, machine: &Machine) -> Result<Vec<Time>, Fail> {
+fn running_times(alloc: Global, now: u64, machine: &Machine) -> Result<Vec<Time>, AllocError> {
     let mut times = Vec::new(alloc);
     for entry in machine.running() {
         times.push(Time {
@@ -165,7 +164,7 @@ pub(crate) fn is_plain_plan(
     now: u64,
     machine: &Machine,
     plan: &Plan,
-) -> Result<bool, Fail> {
+) -> Result<bool, AllocError> {
     let capacity = machine.nodes();
     let mut times = running_times(alloc, now, machine)?;
     add_reserved(&mut times, board)?;

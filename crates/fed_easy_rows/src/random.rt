@@ -5,8 +5,7 @@ use fed_board::Board;
 use fed_easy::{machine_of, plan};
 use fed_record::{HoldKinds, Operation};
 use fed_stamp::JobId;
-use std::alloc::Global;
-use std::test::Fail;
+use std::process::Abort;
 
 /// How many boards are planned.
 const BOARDS: u64 = 400;
@@ -47,80 +46,79 @@ impl Numbers {
 }
 
 /// Grants the job to site 0 and begins it there.
-fn run(board: &mut Board, counter: u64, job: JobId, ask: Ask, moment: u64) -> Result<(), Fail> {
-    grant(board, counter, job, 0)?;
-    begin(board, counter.saturating_add(1), job, ask, moment)
+fn run(rt: &impl Abort, board: &mut Board, counter: u64, job: JobId, ask: Ask, moment: u64) {
+    grant(rt, board, counter, job, 0);
+    begin(rt, board, counter.saturating_add(1), job, ask, moment)
 }
 
 /// Holds, deletes, grants or runs the job, or leaves it.
 fn change(
+    rt: &impl Abort,
     board: &mut Board,
     numbers: &mut Numbers,
     counter: u64,
     job: JobId,
     ask: Ask,
-) -> Result<(), Fail> {
+) {
     let at = stamp(counter, 0);
     let kinds = HoldKinds::USER;
     match numbers.below(10) {
-        0 => act(board, at, &Operation::Hold { job, kinds }),
-        1 => act(board, at, &Operation::Delete { job }),
-        2 => grant(board, counter, job, 1),
-        3 => grant(board, counter, job, 0),
-        4 | 5 => run(board, counter, job, ask, numbers.below(12)),
-        _ => Ok(()),
+        0 => act(rt, board, at, &Operation::Hold { job, kinds }),
+        1 => act(rt, board, at, &Operation::Delete { job }),
+        2 => grant(rt, board, counter, job, 1),
+        3 => grant(rt, board, counter, job, 0),
+        4 | 5 => run(rt, board, counter, job, ask, numbers.below(12)),
+        _ => {}
     }
 }
 
-fn add_jobs(board: &mut Board, numbers: &mut Numbers) -> Result<(), Fail> {
+fn add_jobs(rt: &impl Abort, board: &mut Board, numbers: &mut Numbers) {
     for number in 0..numbers.below(JOBS) {
         let counter = number.saturating_mul(3).saturating_add(1);
         let ask = numbers.ask();
         let place = numbers.site();
-        let job = submit_to(board, counter, ask, place)?;
-        change(board, numbers, counter.saturating_add(1), job, ask)?;
+        let job = submit_to(rt, board, counter, ask, place);
+        change(rt, board, numbers, counter.saturating_add(1), job, ask);
     }
-    Ok(())
 }
 
-fn add_reservations(board: &mut Board, numbers: &mut Numbers) -> Result<(), Fail> {
+fn add_reservations(rt: &impl Abort, board: &mut Board, numbers: &mut Numbers) {
     for number in 0..numbers.below(RESERVATIONS) {
         let at = stamp(number.saturating_mul(2).saturating_add(1), 1);
         let start = numbers.below(24);
         let end = start.saturating_add(numbers.below(9));
         let place = numbers.site();
-        reserve(board, at, place, start, end, numbers.below(8))?;
+        reserve(rt, board, at, place, start, end, numbers.below(8));
         if numbers.below(5) == 0 {
             let reservation = at;
             let later = stamp(number.saturating_mul(2).saturating_add(2), 1);
-            act(board, later, &Operation::Cancel { reservation })?;
+            act(rt, board, later, &Operation::Cancel { reservation });
         }
     }
-    Ok(())
 }
 
-/// Whether the plan of a board with this seed has a head, or `None` where it isn't that of the plain planner.
-fn planned(alloc: Global, seed: u64) -> Result<Option<bool>, Fail> {
+/// Whether the plan of a board with this seed has a head. It is that of the plain planner.
+fn has_head(rt: &(impl Abort + AllocGlobal), seed: u64) -> bool {
+    let alloc = rt.alloc();
     let mut numbers = Numbers { state: seed };
     let mut board = Board::new(alloc);
-    add_jobs(&mut board, &mut numbers)?;
-    add_reservations(&mut board, &mut numbers)?;
-    let machine = machine_of(alloc, &board, site(0), 6)?;
+    add_jobs(rt, &mut board, &mut numbers);
+    add_reservations(rt, &mut board, &mut numbers);
+    let machine = machine_of(alloc, &board, site(0), 6).expect(rt, "a machine");
     let moment = numbers.below(16);
-    let plan = plan(alloc, &board, site(0), moment, &machine)?;
-    let is_plain = is_plain_plan(alloc, &board, moment, &machine, &plan)?;
-    Ok(is_plain.then_some(plan.head.is_some()))
+    let plan = plan(alloc, &board, site(0), moment, &machine).expect(rt, "a plan");
+    let is_plain = is_plain_plan(alloc, &board, moment, &machine, &plan);
+    assert!(rt; is_plain == Ok(true));
+    plan.head.is_some()
 }
 
 #[test]
-fn random_boards_are_planned_plainly(rt: HostRuntime) -> Result<(), Fail> {
+fn random_boards_are_planned_plainly(rt: HostRuntime) {
     let mut heads: u64 = 0;
     for seed in 0..BOARDS {
-        let has_head = planned(rt.alloc(), seed)?.ok_or("the plans differ")?;
-        if has_head {
+        if has_head(&rt, seed) {
             heads = heads.saturating_add(1);
         }
     }
     assert!(rt; heads > BOARDS / 4);
-    Ok(())
 }

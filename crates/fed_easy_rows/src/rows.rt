@@ -4,22 +4,23 @@ use crate::sites::{Ask, act, begin, grant, reserve, site, stamp, submit};
 use fed_board::Board;
 use fed_easy::{Plan, machine_of, plan};
 use fed_record::Operation;
-use std::alloc::Global;
-use std::test::Fail;
+use std::process::Abort;
 
 /// Whether the plan of site 0 starts these jobs and has this head, each job named by its counter, and is that of the
 /// plain planner.
 fn plans(
-    alloc: Global,
+    rt: &(impl Abort + AllocGlobal),
     board: &Board,
     nodes: u64,
     moment: u64,
     starts: &[u64],
     head: Option<(u64, u64)>,
-) -> Result<bool, Fail> {
-    let machine = machine_of(alloc, board, site(0), nodes)?;
-    let plan = plan(alloc, board, site(0), moment, &machine)?;
-    Ok(shows(&plan, starts, head) && is_plain_plan(alloc, board, moment, &machine, &plan)?)
+) -> bool {
+    let alloc = rt.alloc();
+    let machine = machine_of(alloc, board, site(0), nodes).expect(rt, "a machine");
+    let plan = plan(alloc, board, site(0), moment, &machine).expect(rt, "a plan");
+    let is_plain = is_plain_plan(alloc, board, moment, &machine, &plan);
+    shows(&plan, starts, head) && is_plain == Ok(true)
 }
 
 /// Whether the plan starts these jobs and has this head.
@@ -32,79 +33,75 @@ fn shows(plan: &Plan, starts: &[u64], head: Option<(u64, u64)>) -> bool {
 }
 
 /// A board on which 6 nodes run until second 100, and a job of 7 nodes waits.
-fn busy(alloc: Global) -> Result<Board, Fail> {
+fn busy(rt: &(impl Abort + AllocGlobal)) -> Board {
     let ask = Ask {
         nodes: 6,
         limit: 100,
         priority: 0,
     };
-    let mut board = Board::new(alloc);
-    let job = submit(&mut board, 1, ask.nodes, ask.limit)?;
-    grant(&mut board, 2, job, 0)?;
-    begin(&mut board, 3, job, ask, 0)?;
-    submit(&mut board, 4, 7, 3600)?;
-    Ok(board)
+    let mut board = Board::new(rt.alloc());
+    let job = submit(rt, &mut board, 1, ask.nodes, ask.limit);
+    grant(rt, &mut board, 2, job, 0);
+    begin(rt, &mut board, 3, job, ask, 0);
+    submit(rt, &mut board, 4, 7, 3600);
+    board
 }
 
 #[test]
-fn jobs_are_backfilled(rt: HostRuntime) -> Result<(), Fail> {
-    let alloc = rt.alloc();
-    let mut board = busy(alloc)?;
-    submit(&mut board, 5, 2, 101)?;
-    submit(&mut board, 6, 2, 100)?;
-    submit(&mut board, 7, 1, 1_000_000)?;
-    assert!(rt; plans(alloc, &board, 8, 0, &[6], Some((4, 100)))?);
-    assert!(rt; plans(alloc, &board, 8, 99, &[7], Some((4, 100)))?);
-    assert!(rt; plans(alloc, &board, 8, 100, &[7], Some((4, 101)))?);
-    Ok(())
+fn jobs_are_backfilled(rt: HostRuntime) {
+    let mut board = busy(&rt);
+    submit(&rt, &mut board, 5, 2, 101);
+    submit(&rt, &mut board, 6, 2, 100);
+    submit(&rt, &mut board, 7, 1, 1_000_000);
+    assert!(rt; plans(&rt, &board, 8, 0, &[6], Some((4, 100))));
+    assert!(rt; plans(&rt, &board, 8, 99, &[7], Some((4, 100))));
+    assert!(rt; plans(&rt, &board, 8, 100, &[7], Some((4, 101))));
 }
 
 #[test]
-fn reservations_are_kept_free(rt: HostRuntime) -> Result<(), Fail> {
-    let alloc = rt.alloc();
-    let mut board = Board::new(alloc);
+fn reservations_are_kept_free(rt: HostRuntime) {
+    let mut board = Board::new(rt.alloc());
     let reservation = stamp(1, 0);
-    reserve(&mut board, reservation, 0, 50, 60, 8)?;
-    submit(&mut board, 2, 2, 50)?;
-    submit(&mut board, 3, 2, 51)?;
-    assert!(rt; plans(alloc, &board, 8, 0, &[2], Some((3, 60)))?);
-    act(&mut board, stamp(4, 0), &Operation::Cancel { reservation })?;
-    assert!(rt; plans(alloc, &board, 8, 0, &[2, 3], None)?);
-    Ok(())
+    reserve(&rt, &mut board, reservation, 0, 50, 60, 8);
+    submit(&rt, &mut board, 2, 2, 50);
+    submit(&rt, &mut board, 3, 2, 51);
+    assert!(rt; plans(&rt, &board, 8, 0, &[2], Some((3, 60))));
+    act(
+        &rt,
+        &mut board,
+        stamp(4, 0),
+        &Operation::Cancel { reservation },
+    );
+    assert!(rt; plans(&rt, &board, 8, 0, &[2, 3], None));
 }
 
 #[test]
-fn reservations_made_apart_both_stand(rt: HostRuntime) -> Result<(), Fail> {
+fn reservations_made_apart_both_stand(rt: HostRuntime) {
+    let mut board = Board::new(rt.alloc());
+    reserve(&rt, &mut board, stamp(1, 0), 0, 50, 60, 8);
+    reserve(&rt, &mut board, stamp(1, 1), 0, 50, 60, 8);
+    submit(&rt, &mut board, 2, 1, 10);
+    assert!(rt; plans(&rt, &board, 8, 40, &[2], None));
+    assert!(rt; plans(&rt, &board, 8, 41, &[], Some((2, 60))));
+}
+
+#[test]
+fn extra_nodes_are_used(rt: HostRuntime) {
+    let mut board = busy(&rt);
+    submit(&rt, &mut board, 5, 3, 1000);
+    submit(&rt, &mut board, 6, 1, 101);
+    submit(&rt, &mut board, 7, 1, 100);
+    assert!(rt; plans(&rt, &board, 10, 0, &[5, 7], Some((4, 100))));
+}
+
+#[test]
+fn ends_of_the_ranges(rt: HostRuntime) {
     let alloc = rt.alloc();
     let mut board = Board::new(alloc);
-    reserve(&mut board, stamp(1, 0), 0, 50, 60, 8)?;
-    reserve(&mut board, stamp(1, 1), 0, 50, 60, 8)?;
-    submit(&mut board, 2, 1, 10)?;
-    assert!(rt; plans(alloc, &board, 8, 40, &[2], None)?);
-    assert!(rt; plans(alloc, &board, 8, 41, &[], Some((2, 60)))?);
-    Ok(())
-}
-
-#[test]
-fn extra_nodes_are_used(rt: HostRuntime) -> Result<(), Fail> {
-    let alloc = rt.alloc();
-    let mut board = busy(alloc)?;
-    submit(&mut board, 5, 3, 1000)?;
-    submit(&mut board, 6, 1, 101)?;
-    submit(&mut board, 7, 1, 100)?;
-    assert!(rt; plans(alloc, &board, 10, 0, &[5, 7], Some((4, 100)))?);
-    Ok(())
-}
-
-#[test]
-fn ends_of_the_ranges(rt: HostRuntime) -> Result<(), Fail> {
-    let alloc = rt.alloc();
-    let mut board = Board::new(alloc);
-    submit(&mut board, 1, 1_000_000, 10_000_000)?;
-    submit(&mut board, 2, 1_000_000, 10_000_000)?;
-    submit(&mut board, 3, 1, 1)?;
-    let machine = machine_of(alloc, &board, site(0), 1_000_000)?;
-    let plan = plan(alloc, &board, site(0), 1_000_000_000_000, &machine)?;
+    submit(&rt, &mut board, 1, 1_000_000, 10_000_000);
+    submit(&rt, &mut board, 2, 1_000_000, 10_000_000);
+    submit(&rt, &mut board, 3, 1, 1);
+    let machine = machine_of(alloc, &board, site(0), 1_000_000).expect(&rt, "a machine");
+    let plan = plan(alloc, &board, site(0), 1_000_000_000_000, &machine).expect(&rt, "a plan");
     assert!(rt; shows(&plan, &[1], Some((2, 1_000_010_000_000))));
-    Ok(())
 }

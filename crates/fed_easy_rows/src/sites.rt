@@ -4,7 +4,7 @@ use fed_record::{
     Account, Beginning, JobValues, Limit, Moment, Nodes, Operation, Priority, Term, Window,
 };
 use fed_stamp::{JobId, SiteId, SiteSet, Stamp, Word};
-use std::test::Fail;
+use std::process::Abort;
 
 /// What a job asks for.
 #[derive(Clone, Copy)]
@@ -22,116 +22,102 @@ pub(crate) fn stamp(counter: u64, number: u8) -> Stamp {
     Stamp::new(counter, site(number)).unwrap_or_default()
 }
 
-fn values(ask: Ask, number: u8) -> Option<JobValues> {
-    Some(JobValues {
-        name: Word::new("sort")?,
-        priority: Priority::new(ask.priority)?,
-        nodes: Nodes::new(ask.nodes)?,
-        limit: Limit::new(ask.limit)?,
+fn values(rt: &impl Abort, ask: Ask, number: u8) -> JobValues {
+    JobValues {
+        name: Word::new("sort").expect(rt, "a name"),
+        priority: Priority::new(ask.priority).expect(rt, "a priority"),
+        nodes: Nodes::new(ask.nodes).expect(rt, "a number of nodes"),
+        limit: Limit::new(ask.limit).expect(rt, "a limit"),
         account: Account::EMPTY,
-        sites: SiteSet::new(&[site(number)])?,
-    })
+        sites: SiteSet::new(&[site(number)]).unwrap(),
+    }
 }
 
-fn beginning(ask: Ask, moment: u64) -> Option<Beginning> {
-    Some(Beginning::new(
-        Moment::new(moment)?,
-        Nodes::new(ask.nodes)?,
-        Limit::new(ask.limit)?,
-    ))
+fn beginning(rt: &impl Abort, ask: Ask, moment: u64) -> Beginning {
+    Beginning::new(
+        Moment::new(moment).expect(rt, "a moment"),
+        Nodes::new(ask.nodes).expect(rt, "a number of nodes"),
+        Limit::new(ask.limit).expect(rt, "a limit"),
+    )
 }
 
 /// Adds an operation whose stamp is new and whose job or reservation is there.
-pub(crate) fn act(board: &mut Board, at: Stamp, operation: &Operation) -> Result<(), Fail> {
-    let may_follow = !board.version().covers(at) && board.has_named(operation);
-    if may_follow {
-        board.apply(at, operation)?;
-    }
-    may_follow
-        .then_some(())
-        .ok_or("the operation may not follow")?;
-    Ok(())
+pub(crate) fn act(rt: &impl Abort, board: &mut Board, at: Stamp, operation: &Operation) {
+    assert!(rt; !board.version().covers(at) && board.has_named(operation));
+    board.apply(at, operation).expect(rt, "memory");
 }
 
 /// Submits a job that may run at the site of this number.
 pub(crate) fn submit_to(
+    rt: &impl Abort,
     board: &mut Board,
     counter: u64,
     ask: Ask,
     number: u8,
-) -> Result<JobId, Fail> {
-    let owner = Word::new("ann").ok_or("owner")?;
-    let values = values(ask, number).ok_or("values")?;
-    let held = false;
+) -> JobId {
     let job = stamp(counter, 0);
-    act(
-        board,
-        job,
-        &Operation::Submit {
-            owner,
-            values,
-            held,
-        },
-    )?;
-    Ok(job)
+    let submission = Operation::Submit {
+        owner: Word::new("ann").expect(rt, "a name"),
+        values: values(rt, ask, number),
+        held: false,
+    };
+    act(rt, board, job, &submission);
+    job
 }
 
 /// Submits a job of priority 0 that may run at site 0.
 pub(crate) fn submit(
+    rt: &impl Abort,
     board: &mut Board,
     counter: u64,
     nodes: u64,
     limit: u64,
-) -> Result<JobId, Fail> {
+) -> JobId {
     let ask = Ask {
         nodes,
         limit,
         priority: 0,
     };
-    submit_to(board, counter, ask, 0)
+    submit_to(rt, board, counter, ask, 0)
 }
 
 /// Grants the job to the site of this number.
-pub(crate) fn grant(board: &mut Board, counter: u64, job: JobId, number: u8) -> Result<(), Fail> {
-    let term = Term::new(1).ok_or("term")?;
+pub(crate) fn grant(rt: &impl Abort, board: &mut Board, counter: u64, job: JobId, number: u8) {
+    let term = Term::new(1).unwrap();
     let site = site(number);
-    act(
-        board,
-        stamp(counter, 0),
-        &Operation::Grant { job, site, term },
-    )
+    let at = stamp(counter, 0);
+    act(rt, board, at, &Operation::Grant { job, site, term });
 }
 
 /// Begins a job that asked for this, at site 0.
 pub(crate) fn begin(
+    rt: &impl Abort,
     board: &mut Board,
     counter: u64,
     job: JobId,
     ask: Ask,
     moment: u64,
-) -> Result<(), Fail> {
-    let beginning = beginning(ask, moment).ok_or("beginning")?;
-    act(
-        board,
-        stamp(counter, 0),
-        &Operation::Begin { job, beginning },
-    )
+) {
+    let beginning = beginning(rt, ask, moment);
+    let at = stamp(counter, 0);
+    act(rt, board, at, &Operation::Begin { job, beginning });
 }
 
 /// Reserves nodes of the site of this number.
 pub(crate) fn reserve(
+    rt: &impl Abort,
     board: &mut Board,
     at: Stamp,
     number: u8,
     start: u64,
     end: u64,
     nodes: u64,
-) -> Result<(), Fail> {
+) {
     let window = Window {
         site: site(number),
         start,
         end,
         nodes,
     };
-    act(board, at, &Operation::Reserve { window })
+    act(rt, board, at, &Operation::Reserve { window });
 }

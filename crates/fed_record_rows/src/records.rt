@@ -3,14 +3,14 @@ ghost use Rattle.std.specs.Prelude.{◌≡◌, IsTrue, IfOk};
 ghost use Rattle.fed_record.specs.JobRecord.{reads};
 ghost use Rattle.fed_record.specs.Letter.{is_submitted as is_job_submitted};
 
-use fed_lattice::Causal;
+use fed_lattice::{Causal, NoMemory};
 use fed_record::{
     Account, Beginning, Changes, Ending, GrantStage, HoldKind, HoldKinds, JobParts, JobRecord,
     JobValues, Letter, Limit, Moment, Nodes, Operation, Priority, Progress, Record, Term,
 };
 use fed_stamp::{JobId, SiteId, SiteSet, Stamp, Version, Word};
 use std::alloc::Global;
-use std::test::Fail;
+use std::process::Abort;
 
 const UNCHANGED: Changes = Changes {
     name: None,
@@ -39,142 +39,142 @@ fn job() -> JobId {
     stamp(5, 2)
 }
 
-fn owner() -> Result<Word, Fail> {
-    Ok(Word::new("ann").ok_or("owner")?)
+fn owner(rt: &impl Abort) -> Word {
+    Word::new("ann").expect(rt, "a name")
 }
 
 /// The values of a submission to the sites 1 and 4.
-fn values() -> Option<JobValues> {
-    Some(JobValues {
-        name: Word::new("STDIN")?,
-        priority: Priority::new(0)?,
-        nodes: Nodes::new(1)?,
-        limit: Limit::new(3600)?,
+fn values(rt: &impl Abort) -> JobValues {
+    JobValues {
+        name: Word::new("STDIN").expect(rt, "a name"),
+        priority: Priority::new(0).unwrap(),
+        nodes: Nodes::new(1).unwrap(),
+        limit: Limit::new(3600).unwrap(),
         account: Account::EMPTY,
-        sites: SiteSet::new(&[site(4), site(1)])?,
-    })
+        sites: SiteSet::new(&[site(4), site(1)]).unwrap(),
+    }
 }
 
 /// The record with one operation more.
-fn after(record: JobRecord, at: Stamp, operation: Operation) -> Result<JobRecord, Fail> {
+fn after(rt: &impl Abort, record: JobRecord, at: Stamp, operation: Operation) -> JobRecord {
     let mut changed = record;
-    changed.apply(at, &operation)?;
-    Ok(changed)
+    changed.apply(at, &operation).expect(rt, "memory");
+    changed
 }
 
 /// The record of the job where nothing but its Submit is seen.
-fn submitted(alloc: Global, held: bool) -> Result<JobRecord, Fail> {
+fn submitted(rt: &(impl Abort + AllocGlobal), held: bool) -> JobRecord {
     let submit = Operation::Submit {
-        owner: owner()?,
-        values: values().ok_or("values")?,
+        owner: owner(rt),
+        values: values(rt),
         held,
     };
-    after(Record::bottom(alloc), job(), submit)
+    after(rt, Record::bottom(rt.alloc()), job(), submit)
 }
 
 /// A Set that removes these pairs of sites.
-fn set(alloc: Global, changes: Changes, pairs: &[(SiteId, Stamp)]) -> Result<Operation, Fail> {
-    Ok(Operation::Set {
+fn set(rt: &(impl Abort + AllocGlobal), changes: Changes, pairs: &[(SiteId, Stamp)]) -> Operation {
+    Operation::Set {
         job: job(),
         changes,
-        removed: Vec::from_slice(alloc, pairs)?,
-    })
+        removed: Vec::from_slice(rt.alloc(), pairs).expect(rt, "memory"),
+    }
 }
 
 /// A Begin at second 100, on 1 node and for an hour at most.
-fn beginning() -> Result<Beginning, Fail> {
-    let moment = Moment::new(100).ok_or("moment")?;
-    let nodes = Nodes::new(1).ok_or("nodes")?;
-    let limit = Limit::new(3600).ok_or("limit")?;
-    Ok(Beginning::new(moment, nodes, limit))
+fn beginning() -> Beginning {
+    let moment = Moment::new(100).unwrap();
+    let nodes = Nodes::new(1).unwrap();
+    let limit = Limit::new(3600).unwrap();
+    Beginning::new(moment, nodes, limit)
 }
 
 /// The record of the held job once it has begun at site 4.
-fn begun(alloc: Global) -> Result<JobRecord, Fail> {
+fn begun(rt: &(impl Abort + AllocGlobal)) -> JobRecord {
     let begin = Operation::Begin {
         job: job(),
-        beginning: beginning()?,
+        beginning: beginning(),
     };
-    after(submitted(alloc, true)?, stamp(7, 4), begin)
+    after(rt, submitted(rt, true), stamp(7, 4), begin)
 }
 
 /// The record of the job once it has begun and is deleted.
-fn exiting(alloc: Global) -> Result<JobRecord, Fail> {
-    after(begun(alloc)?, stamp(8, 3), Operation::Delete { job: job() })
+fn exiting(rt: &(impl Abort + AllocGlobal)) -> JobRecord {
+    after(rt, begun(rt), stamp(8, 3), Operation::Delete { job: job() })
 }
 
 /// The record of the job once its first term is granted to site 4.
-fn granted(alloc: Global) -> Result<JobRecord, Fail> {
-    let term = Term::new(1).ok_or("first")?;
+fn granted(rt: &(impl Abort + AllocGlobal)) -> JobRecord {
     let grant = Operation::Grant {
         job: job(),
         site: site(4),
-        term,
+        term: Term::new(1).unwrap(),
     };
-    after(submitted(alloc, false)?, stamp(6, 2), grant)
+    after(rt, submitted(rt, false), stamp(6, 2), grant)
 }
 
 /// The record of the job once site 4 has handed the grant back.
-fn handed_back(alloc: Global) -> Result<JobRecord, Fail> {
-    let term = Term::new(1).ok_or("first")?;
-    let hand_back = Operation::HandBack { job: job(), term };
-    after(granted(alloc)?, stamp(7, 4), hand_back)
+fn handed_back(rt: &(impl Abort + AllocGlobal)) -> JobRecord {
+    let hand_back = Operation::HandBack {
+        job: job(),
+        term: Term::new(1).unwrap(),
+    };
+    after(rt, granted(rt), stamp(7, 4), hand_back)
 }
 
 /// The record with its User hold released.
-fn released(alloc: Global, held: JobRecord) -> Result<JobRecord, Fail> {
-    let removed = Vec::from_slice(alloc, &[(HoldKind::User, job())])?;
+fn released(rt: &(impl Abort + AllocGlobal), held: JobRecord) -> JobRecord {
     let release = Operation::Release {
         job: job(),
-        removed,
+        removed: Vec::from_slice(rt.alloc(), &[(HoldKind::User, job())]).expect(rt, "memory"),
     };
-    after(held, stamp(6, 2), release)
+    after(rt, held, stamp(6, 2), release)
 }
 
 /// The record with two holds set at site 3.
-fn held_again(held: JobRecord) -> Result<JobRecord, Fail> {
+fn held_again(rt: &impl Abort, held: JobRecord) -> JobRecord {
     let hold = Operation::Hold {
         job: job(),
         kinds: HoldKinds::USER | HoldKinds::SYSTEM,
     };
-    after(held, stamp(6, 3), hold)
+    after(rt, held, stamp(6, 3), hold)
 }
 
 /// The record of a released job joined with that of the job held again.
-fn joined_holds(alloc: Global) -> Result<JobRecord, Fail> {
-    let held = submitted(alloc, true)?;
-    let there = held_again(held.copy()?)?;
-    let here = released(alloc, held)?;
+fn joined_holds(rt: &(impl Abort + AllocGlobal)) -> JobRecord {
+    let held = submitted(rt, true);
+    let there = held_again(rt, held.copy().expect(rt, "memory"));
+    let here = released(rt, held);
     let mine = Version::default().with(stamp(6, 2));
     let theirs = Version::default().with(job()).with(stamp(6, 3));
-    Ok(here.join(&mine, &there, &theirs)?)
+    here.join(&mine, &there, &theirs).expect(rt, "memory")
 }
 
 /// The record with a priority and an account set.
-fn set_late(alloc: Global, record: JobRecord) -> Result<JobRecord, Fail> {
+fn set_late(rt: &(impl Abort + AllocGlobal), record: JobRecord) -> JobRecord {
     let mut changes = UNCHANGED;
     changes.priority = Priority::new(-7);
     changes.account = Account::new("physics");
-    after(record, stamp(9, 2), set(alloc, changes, &[])?)
+    after(rt, record, stamp(9, 2), set(rt, changes, &[]))
 }
 
 /// The record with a priority, an account and a limit set, under a lesser stamp.
-fn set_early(alloc: Global, record: JobRecord) -> Result<JobRecord, Fail> {
+fn set_early(rt: &(impl Abort + AllocGlobal), record: JobRecord) -> JobRecord {
     let mut changes = UNCHANGED;
     changes.priority = Priority::new(100);
     changes.account = Account::new("zoology");
     changes.limit = Limit::new(60);
-    after(record, stamp(8, 3), set(alloc, changes, &[])?)
+    after(rt, record, stamp(8, 3), set(rt, changes, &[]))
 }
 
 /// The record with the lesser stamp joined with that of the greater.
-fn joined_values(alloc: Global) -> Result<JobRecord, Fail> {
-    let seen = submitted(alloc, false)?;
-    let there = set_early(alloc, seen.copy()?)?;
-    let here = set_late(alloc, seen)?;
+fn joined_values(rt: &(impl Abort + AllocGlobal)) -> JobRecord {
+    let seen = submitted(rt, false);
+    let there = set_early(rt, seen.copy().expect(rt, "memory"));
+    let here = set_late(rt, seen);
     let mine = Version::default().with(stamp(9, 2));
     let theirs = Version::default().with(job()).with(stamp(8, 3));
-    Ok(there.join(&theirs, &here, &mine)?)
+    there.join(&theirs, &here, &mine).expect(rt, "memory")
 }
 
 /// Whether the readers answer the parts.
@@ -229,20 +229,17 @@ fn is_read_as_submitted(
 }
 
 #[test]
-fn a_submitted_job_is_read(rt: HostRuntime) -> Result<(), Fail> {
+fn a_submitted_job_is_read(rt: HostRuntime) {
     let empty: JobRecord = Record::bottom(rt.alloc());
     assert!(rt; !empty.is_submitted());
-    let values = values().ok_or("values")?;
-    let touched = Version::new([0, 0, 5, 0, 0, 0, 0, 0, 0, 0, 0, 0, 0, 0, 0, 0]).ok_or("touched")?;
-    let owner = owner()?;
-    let seen = submitted(rt.alloc(), true)?;
-    assert!(rt; is_read_as_submitted(&seen, owner, values, touched));
-    Ok(())
+    let touched = Version::new([0, 0, 5, 0, 0, 0, 0, 0, 0, 0, 0, 0, 0, 0, 0, 0]).unwrap();
+    let seen = submitted(&rt, true);
+    assert!(rt; is_read_as_submitted(&seen, owner(&rt), values(&rt), touched));
 }
 
 #[test]
-fn a_submitted_job_has_its_hold_and_sites(rt: HostRuntime) -> Result<(), Fail> {
-    let seen = submitted(rt.alloc(), true)?;
+fn a_submitted_job_has_its_hold_and_sites(rt: HostRuntime) {
+    let seen = submitted(&rt, true);
     let here = presence(&seen);
     assert!(rt;
         here == (
@@ -252,20 +249,17 @@ fn a_submitted_job_has_its_hold_and_sites(rt: HostRuntime) -> Result<(), Fail> {
         )
     );
     assert!(rt; seen.letter() == Some(Letter::Held));
-    Ok(())
 }
 
 #[test]
-fn a_released_job_is_queued(rt: HostRuntime) -> Result<(), Fail> {
-    let held = submitted(rt.alloc(), true)?;
-    let here = released(rt.alloc(), held)?;
+fn a_released_job_is_queued(rt: HostRuntime) {
+    let here = released(&rt, submitted(&rt, true));
     assert!(rt; here.letter() == Some(Letter::Queued));
-    Ok(())
 }
 
 #[test]
-fn a_hold_that_a_release_has_not_seen_stays(rt: HostRuntime) -> Result<(), Fail> {
-    let joined = joined_holds(rt.alloc())?;
+fn a_hold_that_a_release_has_not_seen_stays(rt: HostRuntime) {
+    let joined = joined_holds(&rt);
     let left = [
         (HoldKind::User, stamp(6, 3)),
         (HoldKind::System, stamp(6, 3)),
@@ -274,41 +268,36 @@ fn a_hold_that_a_release_has_not_seen_stays(rt: HostRuntime) -> Result<(), Fail>
     assert!(rt; joined.hold_tags().eq(left));
     assert!(rt; joined.letter() == Some(Letter::Held));
     assert!(rt; joined.touched() == touched);
-    Ok(())
 }
 
 #[test]
-fn a_grant_is_open(rt: HostRuntime) -> Result<(), Fail> {
-    let term = Term::new(1).ok_or("first")?;
+fn a_grant_is_open(rt: HostRuntime) {
     let open = GrantStage::Open {
-        term,
+        term: Term::new(1).unwrap(),
         stamp: stamp(6, 2),
         site: site(4),
     };
-    let seen = granted(rt.alloc())?;
+    let seen = granted(&rt);
     assert!(rt; seen.grant() == Some(open));
     assert!(rt; seen.letter() == Some(Letter::Granted) && seen.holder() == Some(site(4)));
     assert!(rt; seen.is_granted_to(site(4)) && !seen.is_granted_to(site(2)));
-    Ok(())
 }
 
 #[test]
-fn a_grant_is_handed_back(rt: HostRuntime) -> Result<(), Fail> {
-    let term = Term::new(1).ok_or("first")?;
+fn a_grant_is_handed_back(rt: HostRuntime) {
     let returned = GrantStage::Returned {
-        term,
+        term: Term::new(1).unwrap(),
         stamp: stamp(7, 4),
     };
-    let seen = handed_back(rt.alloc())?;
+    let seen = handed_back(&rt);
     assert!(rt; seen.grant() == Some(returned));
     assert!(rt; seen.letter() == Some(Letter::Queued) && seen.holder().is_none());
     assert!(rt; !seen.is_granted_to(site(4)));
-    Ok(())
 }
 
 #[test]
-fn a_grant_handed_back_is_made_anew(rt: HostRuntime) -> Result<(), Fail> {
-    let term = Term::new(2).ok_or("second")?;
+fn a_grant_handed_back_is_made_anew(rt: HostRuntime) {
+    let term = Term::new(2).unwrap();
     let anew = Operation::Grant {
         job: job(),
         site: site(1),
@@ -319,43 +308,39 @@ fn a_grant_handed_back_is_made_anew(rt: HostRuntime) -> Result<(), Fail> {
         stamp: stamp(8, 2),
         site: site(1),
     };
-    let seen = after(handed_back(rt.alloc())?, stamp(8, 2), anew)?;
+    let seen = after(&rt, handed_back(&rt), stamp(8, 2), anew);
     assert!(rt; seen.grant() == Some(opened) && seen.letter() == Some(Letter::Granted));
-    Ok(())
 }
 
 #[test]
-fn a_deleted_job_is_gone(rt: HostRuntime) -> Result<(), Fail> {
-    let seen = submitted(rt.alloc(), true)?;
-    let gone = after(seen, stamp(6, 3), Operation::Delete { job: job() })?;
+fn a_deleted_job_is_gone(rt: HostRuntime) {
+    let seen = submitted(&rt, true);
+    let gone = after(&rt, seen, stamp(6, 3), Operation::Delete { job: job() });
     assert!(rt; gone.deleted() && gone.is_gone() && gone.letter().is_none());
-    Ok(())
 }
 
 #[test]
-fn a_deleted_job_exits_where_it_has_begun(rt: HostRuntime) -> Result<(), Fail> {
-    let running = begun(rt.alloc())?;
-    assert!(rt; running.letter() == Some(Letter::Running) && beginning()?.end == 3700);
-    let seen = exiting(rt.alloc())?;
+fn a_deleted_job_exits_where_it_has_begun(rt: HostRuntime) {
+    let running = begun(&rt);
+    assert!(rt; running.letter() == Some(Letter::Running) && beginning().end == 3700);
+    let seen = exiting(&rt);
     assert!(rt; seen.letter() == Some(Letter::Exiting) && !seen.is_gone());
-    Ok(())
 }
 
 #[test]
-fn a_finished_job_is_gone(rt: HostRuntime) -> Result<(), Fail> {
+fn a_finished_job_is_gone(rt: HostRuntime) {
     let ending = Ending {
-        moment: Moment::new(200).ok_or("moment")?,
+        moment: Moment::new(200).unwrap(),
         status: 7,
     };
     let progress = Progress {
-        begun: Some((stamp(7, 4), beginning()?)),
+        begun: Some((stamp(7, 4), beginning())),
         finished: Some((stamp(9, 4), ending)),
     };
     let finish = Operation::Finish { job: job(), ending };
-    let seen = after(exiting(rt.alloc())?, stamp(9, 4), finish)?;
+    let seen = after(&rt, exiting(&rt), stamp(9, 4), finish);
     assert!(rt; seen.is_gone() && seen.letter().is_none());
     assert!(rt; seen.progress() == progress);
-    Ok(())
 }
 
 /// Whether the priority and the account are those of the stamp (9, 2), and the limit that of the stamp (8, 3).
@@ -372,31 +357,26 @@ fn has_latest_values(seen: &JobRecord) -> bool {
 }
 
 #[test]
-fn the_values_of_the_greatest_stamp_count(rt: HostRuntime) -> Result<(), Fail> {
-    let joined = joined_values(rt.alloc())?;
+fn the_values_of_the_greatest_stamp_count(rt: HostRuntime) {
+    let joined = joined_values(&rt);
     assert!(rt; has_latest_values(&joined));
-    let both = set_early(
-        rt.alloc(),
-        set_late(rt.alloc(), submitted(rt.alloc(), false)?)?,
-    )?;
+    let both = set_early(&rt, set_late(&rt, submitted(&rt, false)));
     assert!(rt; has_latest_values(&both));
-    Ok(())
 }
 
 #[test]
-fn sites_that_a_set_has_seen_are_replaced(rt: HostRuntime) -> Result<(), Fail> {
+fn sites_that_a_set_has_seen_are_replaced(rt: HostRuntime) {
     let mut changes = UNCHANGED;
     changes.sites = SiteSet::new(&[site(3)]);
     let pairs = [(site(1), job()), (site(4), job())];
-    let operation = set(rt.alloc(), changes, &pairs)?;
-    let seen = after(submitted(rt.alloc(), false)?, stamp(6, 2), operation)?;
+    let operation = set(&rt, changes, &pairs);
+    let seen = after(&rt, submitted(&rt, false), stamp(6, 2), operation);
     assert!(rt; seen.site_tags().eq([(site(3), stamp(6, 2))]));
     assert!(rt; presence(&seen) == ([false; 3], false, [false, false, false, true, false]));
-    Ok(())
 }
 
 /// The record that is made of what this one reads as is equal to it. Its readers alone show that.
-fn made_again(alloc: Global, seen: &JobRecord) -> Result<JobRecord, Fail>
+fn made_again(alloc: Global, seen: &JobRecord) -> Result<JobRecord, NoMemory>
     requires { IsTrue (is_job_submitted (reads seen.now)) }
     ensures { IfOk result (λ made. made ≡ seen.now) }
 {
@@ -416,16 +396,15 @@ fn made_again(alloc: Global, seen: &JobRecord) -> Result<JobRecord, Fail>
         progress: seen.progress(),
         touched: seen.touched(),
     };
-    Ok(Record::from_parts(alloc, &parts)?)
+    Record::from_parts(alloc, &parts)
 }
 
 #[test]
-fn a_record_is_made_of_what_it_reads_as(rt: HostRuntime) -> Result<(), Fail> {
-    let seen = begun(rt.alloc())?;
+fn a_record_is_made_of_what_it_reads_as(rt: HostRuntime) {
+    let seen = begun(&rt);
     assert!(rt; seen.is_submitted());
-    let again = made_again(rt.alloc(), &seen)?;
+    let again = made_again(rt.alloc(), &seen).expect(&rt, "memory");
     assert!(rt; again == seen);
-    let further = after(seen, stamp(8, 2), Operation::Delete { job: job() })?;
+    let further = after(&rt, seen, stamp(8, 2), Operation::Delete { job: job() });
     assert!(rt; again != further);
-    Ok(())
 }

@@ -6,10 +6,9 @@ use fed_record::{
     Refusal, Term,
 };
 use fed_stamp::{ClockFull, SiteId, Stamp};
-use std::test::Fail;
 
 #[test]
-fn ends_of_ranges(rt: HostRuntime) -> Result<(), Fail> {
+fn ends_of_ranges(rt: HostRuntime) {
     assert!(rt; Priority::new(-1024).is_some() && Priority::new(-1025).is_none());
     assert!(rt; Priority::new(1023).is_some() && Priority::new(1024).is_none());
     assert!(rt; Nodes::new(0).is_none() && Nodes::new(1).is_some());
@@ -23,36 +22,33 @@ fn ends_of_ranges(rt: HostRuntime) -> Result<(), Fail> {
     assert_eq!(rt; MAX_END, 1_000_010_000_000);
     assert!(rt; Term::new(0).is_none() && Term::new(1).is_some());
     assert!(rt; Term::new(1_000_000_000).is_some() && Term::new(1_000_000_001).is_none());
-    Ok(())
 }
 
 #[test]
-fn accounts(rt: HostRuntime) -> Result<(), Fail> {
-    let empty = Account::new("").ok_or("empty")?;
-    let physics = Account::new("physics").ok_or("physics")?;
+fn accounts(rt: HostRuntime) {
+    let empty = Account::new("").expect(&rt, "an account");
+    let physics = Account::new("physics").expect(&rt, "an account");
     assert_eq!(rt; empty.as_str(), "");
     assert_eq!(rt; empty, Account::EMPTY);
     assert_eq!(rt; physics.as_str(), "physics");
     assert!(rt; empty < physics);
     assert!(rt; Account::new("9x").is_none() && Account::new("sixteen-letters-").is_none());
-    Ok(())
 }
 
 #[test]
-fn kinds_of_holds(rt: HostRuntime) -> Result<(), Fail> {
+fn kinds_of_holds(rt: HostRuntime) {
     let kinds = HoldKinds::USER | HoldKinds::SYSTEM;
     assert!(rt; kinds.has(HoldKind::User) && kinds.has(HoldKind::System));
     assert!(rt; !kinds.has(HoldKind::Operator));
     assert!(rt; !HoldKinds::empty().has(HoldKind::User));
-    Ok(())
 }
 
 #[test]
-fn stages_of_grants(rt: HostRuntime) -> Result<(), Fail> {
-    let site = SiteId::new(1).ok_or("site")?;
-    let first = Term::new(1).ok_or("first")?;
-    let second = Term::new(2).ok_or("second")?;
-    let stamp = Stamp::new(9, site).ok_or("stamp")?;
+fn stages_of_grants(rt: HostRuntime) {
+    let site = SiteId::new(1).unwrap();
+    let first = Term::new(1).unwrap();
+    let second = Term::new(2).unwrap();
+    let stamp = Stamp::new(9, site).unwrap();
     let open = GrantStage::Open {
         term: first,
         stamp,
@@ -67,32 +63,28 @@ fn stages_of_grants(rt: HostRuntime) -> Result<(), Fail> {
     assert!(rt; open < returned && returned < anew);
     assert!(rt; open.holder() == Some(site) && returned.holder().is_none());
     assert!(rt; anew.term() == second && anew.stamp() == stamp);
-    Ok(())
 }
 
 #[test]
-fn numbers_of_refusals(rt: HostRuntime) -> Result<(), Fail> {
-    let site = SiteId::new(3).ok_or("site")?;
+fn numbers_of_refusals(rt: HostRuntime) {
+    let site = SiteId::new(3).unwrap();
     assert_eq!(rt; Refusal::UnknownJob.number(), 1);
     assert_eq!(rt; Refusal::TakenBy(site).number(), 8);
     assert_eq!(rt; Refusal::NoMemory.number(), 16);
     assert!(rt; Refusal::from(NoMemory) == Refusal::NoMemory);
     assert!(rt; Refusal::from(ClockFull) == Refusal::ClockFull);
-    Ok(())
 }
 
 #[test]
-fn what_operations_are_of(rt: HostRuntime) -> Result<(), Fail> {
-    let site = SiteId::new(0).ok_or("site")?;
-    let job = Stamp::new(1, site).ok_or("job")?;
-    let at = Stamp::new(2, site).ok_or("at")?;
-    let mut removed = Vec::new(rt.alloc());
-    removed.push((HoldKind::User, job))?;
+fn what_operations_are_of(rt: HostRuntime) {
+    let site = SiteId::new(0).unwrap();
+    let job = Stamp::new(1, site).unwrap();
+    let at = Stamp::new(2, site).unwrap();
+    let removed = Vec::from_slice(rt.alloc(), &[(HoldKind::User, job)]).expect(&rt, "memory");
     let release = Operation::Release { job, removed };
     assert_eq!(rt; release.job(at), Some(job));
     assert!(rt; release.reservation(at).is_none());
     let cancel = Operation::Cancel { reservation: job };
     assert_eq!(rt; cancel.reservation(at), Some(job));
     assert!(rt; cancel.job(at).is_none());
-    Ok(())
 }

@@ -1,8 +1,7 @@
 //! Scripts in all forms that can be read: white space, comments, numbers at the ends of their ranges, values and
 //! reservations.
-use crate::memory::{answers, stops_at};
+use crate::memory::{is_answered, stops_at};
 use fed_main::RunFault;
-use std::test::Fail;
 
 // Blanks, comments, tabs, carriage returns, leading zeros, a job named twice, a user named as a utility, and a last
 // line with no line feed.
@@ -140,39 +139,30 @@ refused 12
 ";
 
 #[test]
-fn white_space_and_comments(rt: HostRuntime) -> Result<(), Fail> {
-    let written = answers(rt.alloc(), FORMS)?;
-    assert_eq!(rt; written.as_str(), FORM_ANSWERS);
-    Ok(())
+fn white_space_and_comments(rt: HostRuntime) {
+    assert!(rt; is_answered(rt.alloc(), FORMS, FORM_ANSWERS));
 }
 
 #[test]
-fn values_are_set(rt: HostRuntime) -> Result<(), Fail> {
-    let written = answers(rt.alloc(), VALUES)?;
-    assert_eq!(rt; written.as_str(), VALUE_ANSWERS);
-    Ok(())
+fn values_are_set(rt: HostRuntime) {
+    assert!(rt; is_answered(rt.alloc(), VALUES, VALUE_ANSWERS));
 }
 
 #[test]
-fn a_job_is_run(rt: HostRuntime) -> Result<(), Fail> {
-    let written = answers(rt.alloc(), PROGRESS)?;
-    assert_eq!(rt; written.as_str(), PROGRESS_ANSWERS);
-    Ok(())
+fn a_job_is_run(rt: HostRuntime) {
+    assert!(rt; is_answered(rt.alloc(), PROGRESS, PROGRESS_ANSWERS));
 }
 
 #[test]
-fn reservations_are_made(rt: HostRuntime) -> Result<(), Fail> {
-    let written = answers(rt.alloc(), RESERVATIONS)?;
-    assert_eq!(rt; written.as_str(), RESERVATION_ANSWERS);
-    Ok(())
+fn reservations_are_made(rt: HostRuntime) {
+    assert!(rt; is_answered(rt.alloc(), RESERVATIONS, RESERVATION_ANSWERS));
 }
 
 #[test]
-fn scripts_that_say_nothing(rt: HostRuntime) -> Result<(), Fail> {
+fn scripts_that_say_nothing(rt: HostRuntime) {
     for script in ["", "\n", "# nothing\n\n \t\r\n#", "roster a:1"] {
-        assert_eq!(rt; answers(rt.alloc(), script)?.len(), 0, "{script}");
+        assert!(rt; is_answered(rt.alloc(), script, ""), "{script}");
     }
-    Ok(())
 }
 
 #[test]

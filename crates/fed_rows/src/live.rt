@@ -7,7 +7,6 @@ use std::alloc::Global;
 use std::hint;
 use std::sync::Wait;
 use std::sync::atomic::{AtomicBool, Ordering};
-use std::test::Fail;
 use std::thread::Threads;
 
 /// How many turns a gate waits at most.
@@ -65,12 +64,12 @@ argonne ann qsub
 lemont bob qsub
 ";
 
-/// What a script is answered by that runs live.
-fn answers<R: Threads + Wait + Sync>(rt: &R, alloc: Global, script: &str) -> Result<String, Fail> {
+/// Whether a script runs live to its end, and is answered by this text.
+fn is_answered<R: Threads + Wait + Sync>(rt: &R, alloc: Global, script: &str, text: &str) -> bool {
     let mut reader = script.as_bytes();
     let mut written = Vec::new(alloc);
-    live(rt, alloc, &mut reader, &mut written)?;
-    Ok(String::from_utf8(written)?)
+    let ended = live(rt, alloc, &mut reader, &mut written);
+    ended == Ok(()) && written.as_slice() == text.as_bytes()
 }
 
 /// Whether nothing is written, since line `number` can't be read.
@@ -106,8 +105,8 @@ impl Gate for MeetingGate<'_> {
     }
 }
 
-/// What two sites answer whose calls meet.
-fn met<R: Threads + Wait + Sync>(rt: &R, alloc: Global) -> Result<String, Fail> {
+/// Whether the calls of two sites meet, and are answered by this text.
+fn is_met<R: Threads + Wait + Sync>(rt: &R, alloc: Global, text: &str) -> bool {
     let (first, second) = (AtomicBool::new(false), AtomicBool::new(false));
     let ran_out = AtomicBool::new(false);
     let gate = MeetingGate {
@@ -117,65 +116,44 @@ fn met<R: Threads + Wait + Sync>(rt: &R, alloc: Global) -> Result<String, Fail> 
     };
     let mut reader = BOTH.as_bytes();
     let mut written = Vec::new(alloc);
-    live_with(rt, alloc, &mut reader, &mut written, gate)?;
-    if ran_out.load(Ordering::SeqCst) {
-        return Err("the calls did not meet".into());
-    }
-    Ok(String::from_utf8(written)?)
+    let ended = live_with(rt, alloc, &mut reader, &mut written, gate);
+    let has_met = !ran_out.load(Ordering::SeqCst);
+    has_met && ended == Ok(()) && written.as_slice() == text.as_bytes()
 }
 
 #[test]
-fn a_site_runs_alone(rt: HostRuntime) -> Result<(), Fail> {
-    let alloc = rt.alloc();
-    let text = answers(&rt, alloc, ALONE)?;
-    assert_eq!(rt; text.as_str(), ALONE_ANSWERED);
-    Ok(())
+fn a_site_runs_alone(rt: HostRuntime) {
+    assert!(rt; is_answered(&rt, rt.alloc(), ALONE, ALONE_ANSWERED));
 }
 
 #[test]
-fn a_packet_is_taken(rt: HostRuntime) -> Result<(), Fail> {
-    let alloc = rt.alloc();
-    let text = answers(&rt, alloc, SHIPPED)?;
-    assert_eq!(rt; text.as_str(), "1.argonne\nshipped\nevents 3\n");
-    Ok(())
+fn a_packet_is_taken(rt: HostRuntime) {
+    let text = "1.argonne\nshipped\nevents 3\n";
+    assert!(rt; is_answered(&rt, rt.alloc(), SHIPPED, text));
 }
 
 #[test]
-fn calls_of_two_sites_meet(rt: HostRuntime) -> Result<(), Fail> {
-    let alloc = rt.alloc();
-    let text = met(&rt, alloc)?;
-    assert_eq!(rt; text.as_str(), "1.argonne\n1.lemont\nevents 2\n");
-    Ok(())
+fn calls_of_two_sites_meet(rt: HostRuntime) {
+    assert!(rt; is_met(&rt, rt.alloc(), "1.argonne\n1.lemont\nevents 2\n"));
 }
 
 #[test]
-fn answers_stand_in_the_order_of_the_sites(rt: HostRuntime) -> Result<(), Fail> {
-    let alloc = rt.alloc();
-    let text = answers(&rt, alloc, MIXED)?;
-    assert_eq!(rt; text.as_str(), MIXED_ANSWERED);
-    Ok(())
+fn answers_stand_in_the_order_of_the_sites(rt: HostRuntime) {
+    assert!(rt; is_answered(&rt, rt.alloc(), MIXED, MIXED_ANSWERED));
 }
 
 #[test]
-fn skipped_lines_are_answered_by_nothing(rt: HostRuntime) -> Result<(), Fail> {
-    let alloc = rt.alloc();
+fn skipped_lines_are_answered_by_nothing(rt: HostRuntime) {
     for script in ["", "\n# nothing\n"] {
-        assert_eq!(rt; answers(&rt, alloc, script)?.as_str(), "");
+        assert!(rt; is_answered(&rt, rt.alloc(), script, ""));
     }
-    assert_eq!(rt;
-        answers(&rt, alloc, "roster argonne:8\n")?.as_str(),
-        "events 0\n"
-    );
-    Ok(())
+    assert!(rt; is_answered(&rt, rt.alloc(), "roster argonne:8\n", "events 0\n"));
 }
 
 #[test]
-fn packets_are_not_taken_by_their_numbers_and_boards_not_compared(
-    rt: HostRuntime,
-) -> Result<(), Fail> {
+fn packets_are_not_taken_by_their_numbers_and_boards_not_compared(rt: HostRuntime) {
     let alloc = rt.alloc();
     assert!(rt; stops_at(&rt, alloc, EXCHANGE, 6));
     assert!(rt; stops_at(&rt, alloc, "roster a:1 b:1\na ann qsub\nequal a b\n", 3));
     assert!(rt; stops_at(&rt, alloc, "a ann qsub\n", 1));
-    Ok(())
 }

@@ -1,20 +1,22 @@
 //! Lines that are answered by `usage N`.
-use crate::memory::answers;
-use std::alloc::Global;
-use std::test::Fail;
+use crate::memory::is_answered;
+use std::alloc::{AllocError, Global};
 
 // Whether the words of a user are answered by the usage fault of this number, and do nothing.
-fn is_misused(alloc: Global, words: &str, number: u8) -> Result<bool, Fail> {
+fn is_misused(alloc: Global, words: &str, number: u8) -> Result<bool, AllocError> {
     let script = format!(in alloc;
         "roster argonne:8 lemont:4\nargonne ann {words}\nargonne ann qsub\n"
     )?;
     let text = format!(in alloc; "usage {number}\n1.argonne\n")?;
-    let written = answers(alloc, &script)?;
-    Ok(written.as_str() == text.as_str())
+    Ok(is_answered(alloc, &script, &text))
 }
 
 // The first of some lines of words that is answered otherwise than by the usage fault of this number.
-fn first_other<'a>(alloc: Global, number: u8, lines: &'a str) -> Result<Option<&'a str>, Fail> {
+fn first_other<'a>(
+    alloc: Global,
+    number: u8,
+    lines: &'a str,
+) -> Result<Option<&'a str>, AllocError> {
     for words in lines.split('\n') {
         if !is_misused(alloc, words, number)? {
             return Ok(Some(words));
@@ -113,23 +115,20 @@ qrls --
 qdel";
 
 #[test]
-fn utilities_and_options(rt: HostRuntime) -> Result<(), Fail> {
-    assert_eq!(rt; first_other(rt.alloc(), 1, NO_UTILITIES)?, None);
-    assert_eq!(rt; first_other(rt.alloc(), 2, UNKNOWN_OPTIONS)?, None);
-    assert_eq!(rt; first_other(rt.alloc(), 3, MISSING_ARGUMENTS)?, None);
-    Ok(())
+fn utilities_and_options(rt: HostRuntime) {
+    assert!(rt; first_other(rt.alloc(), 1, NO_UTILITIES) == Ok(None));
+    assert!(rt; first_other(rt.alloc(), 2, UNKNOWN_OPTIONS) == Ok(None));
+    assert!(rt; first_other(rt.alloc(), 3, MISSING_ARGUMENTS) == Ok(None));
 }
 
 #[test]
-fn values(rt: HostRuntime) -> Result<(), Fail> {
-    assert_eq!(rt; first_other(rt.alloc(), 4, BAD_VALUES)?, None);
-    Ok(())
+fn values(rt: HostRuntime) {
+    assert!(rt; first_other(rt.alloc(), 4, BAD_VALUES) == Ok(None));
 }
 
 #[test]
-fn operands(rt: HostRuntime) -> Result<(), Fail> {
-    assert_eq!(rt; first_other(rt.alloc(), 5, BAD_IDENTIFIERS)?, None);
-    assert_eq!(rt; first_other(rt.alloc(), 6, UNKNOWN_SITES)?, None);
-    assert_eq!(rt; first_other(rt.alloc(), 7, MISSING_OPERANDS)?, None);
-    Ok(())
+fn operands(rt: HostRuntime) {
+    assert!(rt; first_other(rt.alloc(), 5, BAD_IDENTIFIERS) == Ok(None));
+    assert!(rt; first_other(rt.alloc(), 6, UNKNOWN_SITES) == Ok(None));
+    assert!(rt; first_other(rt.alloc(), 7, MISSING_OPERANDS) == Ok(None));
 }

@@ -1,6 +1,5 @@
 //! Worked scripts with plans, each as a whole.
-use crate::memory::answers;
-use std::test::Fail;
+use crate::memory::is_answered;
 
 // EASY backfill beside a head that waits for a running job.
 const BACKFILL: &str = "\
@@ -127,36 +126,26 @@ head 2.argonne 1000010000000
 ";
 
 #[test]
-fn a_job_is_backfilled_beside_the_head(rt: HostRuntime) -> Result<(), Fail> {
-    let written = answers(rt.alloc(), BACKFILL)?;
-    assert_eq!(rt; written.as_str(), BACKFILLED);
-    Ok(())
+fn a_job_is_backfilled_beside_the_head(rt: HostRuntime) {
+    assert!(rt; is_answered(rt.alloc(), BACKFILL, BACKFILLED));
 }
 
 #[test]
-fn a_reservation_keeps_nodes_free(rt: HostRuntime) -> Result<(), Fail> {
-    let written = answers(rt.alloc(), RESERVATION)?;
-    assert_eq!(rt; written.as_str(), RESERVED);
-    Ok(())
+fn a_reservation_keeps_nodes_free(rt: HostRuntime) {
+    assert!(rt; is_answered(rt.alloc(), RESERVATION, RESERVED));
 }
 
 #[test]
-fn reservations_made_apart_both_stand(rt: HostRuntime) -> Result<(), Fail> {
-    let written = answers(rt.alloc(), TWO_RESERVATIONS)?;
-    assert_eq!(rt; written.as_str(), BOTH_RESERVED);
-    Ok(())
+fn reservations_made_apart_both_stand(rt: HostRuntime) {
+    assert!(rt; is_answered(rt.alloc(), TWO_RESERVATIONS, BOTH_RESERVED));
 }
 
 #[test]
-fn a_job_runs_on_in_the_extra_nodes(rt: HostRuntime) -> Result<(), Fail> {
-    let written = answers(rt.alloc(), EXTRA)?;
-    assert_eq!(rt; written.as_str(), EXTRA_ANSWERS);
-    Ok(())
+fn a_job_runs_on_in_the_extra_nodes(rt: HostRuntime) {
+    assert!(rt; is_answered(rt.alloc(), EXTRA, EXTRA_ANSWERS));
 }
 
 #[test]
-fn the_greatest_numbers_are_planned(rt: HostRuntime) -> Result<(), Fail> {
-    let written = answers(rt.alloc(), GREATEST)?;
-    assert_eq!(rt; written.as_str(), GREATEST_ANSWERS);
-    Ok(())
+fn the_greatest_numbers_are_planned(rt: HostRuntime) {
+    assert!(rt; is_answered(rt.alloc(), GREATEST, GREATEST_ANSWERS));
 }

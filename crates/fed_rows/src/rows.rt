@@ -1,6 +1,5 @@
 //! Worked scripts with their answers, each as a whole.
-use crate::memory::answers;
-use std::test::Fail;
+use crate::memory::is_answered;
 
 // Two sites submit a job each at one counter, and exchange.
 pub const EXCHANGE: &str = "\
@@ -439,85 +438,61 @@ Job Id: 2.argonne
 ";
 
 #[test]
-fn jobs_of_one_counter(rt: HostRuntime) -> Result<(), Fail> {
-    let written = answers(rt.alloc(), EXCHANGE)?;
-    assert_eq!(rt; written.as_str(), EXCHANGED);
-    Ok(())
+fn jobs_of_one_counter(rt: HostRuntime) {
+    assert!(rt; is_answered(rt.alloc(), EXCHANGE, EXCHANGED));
 }
 
 #[test]
-fn a_listing_of_no_job(rt: HostRuntime) -> Result<(), Fail> {
-    let written = answers(rt.alloc(), EMPTY)?;
-    assert_eq!(rt; written.as_str(), "");
-    Ok(())
+fn a_listing_of_no_job(rt: HostRuntime) {
+    assert!(rt; is_answered(rt.alloc(), EMPTY, ""));
 }
 
 #[test]
-fn the_site_breaks_a_tie(rt: HostRuntime) -> Result<(), Fail> {
-    let written = answers(rt.alloc(), ALTERATIONS)?;
-    assert_eq!(rt; written.as_str(), ALTERED);
-    Ok(())
+fn the_site_breaks_a_tie(rt: HostRuntime) {
+    assert!(rt; is_answered(rt.alloc(), ALTERATIONS, ALTERED));
 }
 
 #[test]
-fn a_hold_that_a_release_has_not_seen(rt: HostRuntime) -> Result<(), Fail> {
-    let written = answers(rt.alloc(), HOLDS)?;
-    assert_eq!(rt; written.as_str(), HELD);
-    Ok(())
+fn a_hold_that_a_release_has_not_seen(rt: HostRuntime) {
+    assert!(rt; is_answered(rt.alloc(), HOLDS, HELD));
 }
 
 #[test]
-fn packets_that_repeat(rt: HostRuntime) -> Result<(), Fail> {
-    let written = answers(rt.alloc(), REPEATS)?;
-    assert_eq!(rt; written.as_str(), REPEATED);
-    Ok(())
+fn packets_that_repeat(rt: HostRuntime) {
+    assert!(rt; is_answered(rt.alloc(), REPEATS, REPEATED));
 }
 
 #[test]
-fn a_late_packet_with_a_hold(rt: HostRuntime) -> Result<(), Fail> {
-    let written = answers(rt.alloc(), LATE)?;
-    assert_eq!(rt; written.as_str(), LATE_ANSWERS);
-    Ok(())
+fn a_late_packet_with_a_hold(rt: HostRuntime) {
+    assert!(rt; is_answered(rt.alloc(), LATE, LATE_ANSWERS));
 }
 
 #[test]
-fn a_packet_made_for_another_site(rt: HostRuntime) -> Result<(), Fail> {
-    let written = answers(rt.alloc(), ANOTHER)?;
-    assert_eq!(rt; written.as_str(), ANOTHER_ANSWERS);
-    Ok(())
+fn a_packet_made_for_another_site(rt: HostRuntime) {
+    assert!(rt; is_answered(rt.alloc(), ANOTHER, ANOTHER_ANSWERS));
 }
 
 #[test]
-fn a_job_begins_where_it_is_granted(rt: HostRuntime) -> Result<(), Fail> {
-    let written = answers(rt.alloc(), GRANTS)?;
-    assert_eq!(rt; written.as_str(), GRANTED);
-    Ok(())
+fn a_job_begins_where_it_is_granted(rt: HostRuntime) {
+    assert!(rt; is_answered(rt.alloc(), GRANTS, GRANTED));
 }
 
 #[test]
-fn a_job_deleted_and_begun_at_once(rt: HostRuntime) -> Result<(), Fail> {
-    let written = answers(rt.alloc(), DELETION)?;
-    assert_eq!(rt; written.as_str(), DELETED);
-    Ok(())
+fn a_job_deleted_and_begun_at_once(rt: HostRuntime) {
+    assert!(rt; is_answered(rt.alloc(), DELETION, DELETED));
 }
 
 #[test]
-fn roles_and_kinds_of_holds(rt: HostRuntime) -> Result<(), Fail> {
-    let written = answers(rt.alloc(), ROLES)?;
-    assert_eq!(rt; written.as_str(), ROLE_ANSWERS);
-    Ok(())
+fn roles_and_kinds_of_holds(rt: HostRuntime) {
+    assert!(rt; is_answered(rt.alloc(), ROLES, ROLE_ANSWERS));
 }
 
 #[test]
-fn a_grant_handed_back(rt: HostRuntime) -> Result<(), Fail> {
-    let written = answers(rt.alloc(), RETURN)?;
-    assert_eq!(rt; written.as_str(), RETURNED);
-    Ok(())
+fn a_grant_handed_back(rt: HostRuntime) {
+    assert!(rt; is_answered(rt.alloc(), RETURN, RETURNED));
 }
 
 #[test]
-fn accounts_in_full(rt: HostRuntime) -> Result<(), Fail> {
-    let written = answers(rt.alloc(), ACCOUNTS)?;
-    assert_eq!(rt; written.as_str(), ACCOUNT_ANSWERS);
-    Ok(())
+fn accounts_in_full(rt: HostRuntime) {
+    assert!(rt; is_answered(rt.alloc(), ACCOUNTS, ACCOUNT_ANSWERS));
 }

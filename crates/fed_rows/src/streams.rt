@@ -5,7 +5,6 @@ use crate::rows::{EXCHANGE, EXCHANGED};
 use fed_main::{RunFault, replay};
 use std::alloc::{AllocError, Global};
 use std::io::{self, ErrorKind, Read, Write};
-use std::test::Fail;
 
 // A reader that gives a byte at a time, and is interrupted before each.
 #[derive(Drop)]
@@ -189,25 +188,25 @@ fn with_bytes(alloc: Global, script: &[u8]) -> (Result<(), RunFault>, usize) {
 #[test]
 fn each_read_that_fails_is_told(rt: HostRuntime) {
     let whole = with_reads(rt.alloc(), u32::MAX);
-    assert_eq!(rt; whole.ended, Ok(()));
-    assert_eq!(rt; whole.written.as_slice(), EXCHANGED.as_bytes());
+    assert!(rt; whole.ended == Ok(()));
+    assert!(rt; whole.written.as_slice() == EXCHANGED.as_bytes());
     assert!(rt; whole.calls > 1, "one call");
     for calls in 0..whole.calls {
         let run = with_reads(rt.alloc(), calls);
-        assert_eq!(rt; run.ended, Err(RunFault::Read), "after {calls} calls");
-        assert_eq!(rt; run.written.len(), 0, "after {calls} calls");
+        assert!(rt; run.ended == Err(RunFault::Read), "after {calls} calls");
+        assert!(rt; run.written.is_empty(), "after {calls} calls");
     }
 }
 
 #[test]
 fn each_write_that_fails_is_told(rt: HostRuntime) {
     let whole = with_writes(rt.alloc(), u32::MAX);
-    assert_eq!(rt; whole.ended, Ok(()));
-    assert_eq!(rt; whole.written.as_slice(), EXCHANGED.as_bytes());
+    assert!(rt; whole.ended == Ok(()));
+    assert!(rt; whole.written.as_slice() == EXCHANGED.as_bytes());
     assert!(rt; whole.calls > 0, "no call");
     for calls in 0..whole.calls {
         let run = with_writes(rt.alloc(), calls);
-        assert_eq!(rt; run.ended, Err(RunFault::Write), "after {calls} calls");
+        assert!(rt; run.ended == Err(RunFault::Write), "after {calls} calls");
         assert!(rt;
             EXCHANGED.as_bytes().starts_with(&run.written),
             "after {calls} calls"
@@ -222,7 +221,7 @@ fn a_flush_that_fails_is_told(rt: HostRuntime) {
         written: Vec::new(rt.alloc()),
     };
     let ended = replay(rt.alloc(), &mut reader, &mut writer);
-    assert_eq!(rt; ended, Err(RunFault::Write));
+    assert!(rt; ended == Err(RunFault::Write));
 }
 
 #[test]
@@ -235,8 +234,8 @@ fn a_script_comes_byte_by_byte(rt: HostRuntime) {
         written: Vec::new(rt.alloc()),
     };
     let ended = replay(rt.alloc(), &mut reader, &mut writer);
-    assert_eq!(rt; ended, Ok(()));
-    assert_eq!(rt; writer.written.as_slice(), EXCHANGED.as_bytes());
+    assert!(rt; ended == Ok(()));
+    assert!(rt; writer.written.as_slice() == EXCHANGED.as_bytes());
 }
 
 #[test]
@@ -244,23 +243,21 @@ fn an_endless_interruption_is_told(rt: HostRuntime) {
     let mut reader = Interrupted { calls: 0 };
     let mut written = Vec::new(rt.alloc());
     let ended = replay(rt.alloc(), &mut reader, &mut written);
-    assert_eq!(rt; ended, Err(RunFault::Read));
-    assert_eq!(rt; reader.calls, 20_000_000);
-    assert_eq!(rt; written.len(), 0);
+    assert!(rt; ended == Err(RunFault::Read));
+    assert!(rt; reader.calls == 20_000_000);
+    assert!(rt; written.len() == 0);
 }
 
 #[test]
-fn the_longest_script_is_run(rt: HostRuntime) -> Result<(), Fail> {
-    let script = comments(rt.alloc(), 16_777_216)?;
-    assert_eq!(rt; script.len(), 16_777_216);
-    assert_eq!(rt; with_bytes(rt.alloc(), &script), (Ok(()), 0));
-    Ok(())
+fn the_longest_script_is_run(rt: HostRuntime) {
+    let script = comments(rt.alloc(), 16_777_216).expect(&rt, "memory");
+    assert!(rt; script.len() == 16_777_216);
+    assert!(rt; with_bytes(rt.alloc(), &script) == (Ok(()), 0));
 }
 
 #[test]
-fn a_longer_script_is_not_read(rt: HostRuntime) -> Result<(), Fail> {
-    let script = comments(rt.alloc(), 16_777_217)?;
-    assert_eq!(rt; script.len(), 16_777_217);
-    assert_eq!(rt; with_bytes(rt.alloc(), &script), (Err(RunFault::Read), 0));
-    Ok(())
+fn a_longer_script_is_not_read(rt: HostRuntime) {
+    let script = comments(rt.alloc(), 16_777_217).expect(&rt, "memory");
+    assert!(rt; script.len() == 16_777_217);
+    assert!(rt; with_bytes(rt.alloc(), &script) == (Err(RunFault::Read), 0));
 }

@@ -6,8 +6,8 @@ use fed_stamp::{JobId, Roster, SiteId};
 use fed_threads::{CallFault, Dropped, Federation, Next, OpenGate, Run, Seat};
 use fed_world::{Event, Outcome, run};
 use std::alloc::{AllocError, Global};
+use std::process::Abort;
 use std::sync::Wait;
-use std::test::Fail;
 use std::thread;
 use std::thread::{JoinHandle, Threads};
 
@@ -224,59 +224,57 @@ fn is_same(kept: Outcome, said: Outcome) -> bool {
 }
 
 /// Whether a world that runs the events comes to the same outcomes and boards.
-fn runs_again(alloc: Global, roster: &Roster, closed: &Run) -> Result<bool, Fail> {
-    let (world, outcomes) = run(alloc, roster, closed.order())?;
+fn runs_again(rt: &impl Abort, alloc: Global, roster: &Roster, closed: &Run) -> bool {
+    let (world, outcomes) = run(alloc, roster, closed.order()).expect(rt, "a world");
     let mut next = [0usize; 16];
     for (event, said) in closed.order().iter().zip(&outcomes) {
         let here = site_of(event);
         let place = &mut next[here.get() as usize];
-        let journal = closed.journal(here).ok_or("journal")?;
-        if !is_same(journal.get(*place).ok_or("entry")?.outcome, *said) {
-            return Ok(false);
+        let journal = closed.journal(here).expect(rt, "a journal");
+        if !is_same(journal.get(*place).expect(rt, "an entry").outcome, *said) {
+            return false;
         }
         *place = place.saturating_add(1);
     }
     for number in 0..COUNT {
-        if closed.board(site(number)?) != world.board(site(number)?) {
-            return Ok(false);
+        if closed.board(site(number)) != world.board(site(number)) {
+            return false;
         }
     }
-    Ok(true)
+    true
 }
 
-fn all_questions() -> Result<Questions, Fail> {
+fn all_questions(rt: &impl Abort) -> Questions {
     let mut changes = no_changes();
     changes.priority = Priority::new(9);
-    Ok(Questions {
-        who: user("ann")?,
-        submission: submission()?,
+    Questions {
+        who: user(rt, "ann"),
+        submission: submission(rt),
         changes,
-    })
+    }
 }
 
 /// One federation, its threads, its end, and its list of events run again.
-fn is_settled<R: Threads + Wait + Sync>(rt: &R, alloc: Global) -> Result<bool, Fail> {
-    let questions = all_questions()?;
-    let roster = Roster::new(&[("argonne", 8), ("lemont", 4), ("fermi", 2), ("ames", 1)])?;
-    let federation = Federation::open(alloc, &roster, OpenGate)?;
+fn is_settled<R: Abort + Threads + Wait + Sync>(rt: &R, alloc: Global) -> bool {
+    let questions = all_questions(rt);
+    let sites = [("argonne", 8), ("lemont", 4), ("fermi", 2), ("ames", 1)];
+    let roster = Roster::new(&sites).expect(rt, "a roster");
+    let federation = Federation::open(alloc, &roster, OpenGate).expect(rt, "memory");
     let mut seats = Vec::new(alloc);
-    for report in run_all(rt, alloc, &federation, &questions)? {
-        if !report.is_well {
-            return Ok(false);
-        }
-        seats.push(report.seat)?;
+    for report in run_all(rt, alloc, &federation, &questions).expect(rt, "memory") {
+        assert!(rt; report.is_well);
+        seats.push(report.seat).expect(rt, "memory");
     }
-    let closed = federation.close(seats)?;
+    let closed = federation.close(seats).expect(rt, "a run");
     // three commands and a shipment for each job at least
     let least = 4 * usize::from(COUNT) * usize::from(USERS) * usize::from(JOBS);
-    Ok(closed.order().len() >= least && runs_again(alloc, &roster, &closed)?)
+    closed.order().len() >= least && runs_again(rt, alloc, &roster, &closed)
 }
 
 #[test]
-fn many_threads_are_settled(rt: HostRuntime) -> Result<(), Fail> {
+fn many_threads_are_settled(rt: HostRuntime) {
     let alloc = rt.alloc();
     for _ in 0..10 {
-        assert!(rt; is_settled(&rt, alloc)?);
+        assert!(rt; is_settled(&rt, alloc));
     }
-    Ok(())
 }

@@ -14,8 +14,8 @@ use fed_threads::{
 };
 use fed_wire::Packet;
 use std::alloc::{AllocError, Global};
+use std::process::Abort;
 use std::sync::Wait;
-use std::test::Fail;
 
 /// A list with room for so many items.
 fn room<T>(alloc: Global, count: usize) -> Result<Vec<T>, AllocError> {
@@ -51,189 +51,171 @@ fn known_by(seat: &Seat, site: SiteId) -> Known {
 }
 
 /// Fails where a call was not answered for anything but want of memory, or left the seat other than before.
-fn see_refused(fault: CallFault, before: Known, after: Known) -> Result<(), Fail> {
-    if fault.number() == 3 && before == after {
-        Ok(())
-    } else {
-        Err("a fault, or a seat, that no want of memory explains".into())
-    }
+fn see_refused(rt: &impl Abort, fault: CallFault, before: Known, after: Known) {
+    assert!(rt; fault.number() == 3 && before == after);
 }
 
-fn called<R: Wait>(
+fn called<R: Abort + Wait>(
     rt: &R,
     federation: &Federation<OpenGate>,
     site: SiteId,
     command: &Command,
     seat: &mut Seat,
-) -> Result<Option<Reply>, Fail> {
-    let who = user("ann")?;
+) -> Option<Reply> {
+    let who = user(rt, "ann");
     let before = known_by(seat, site);
     match federation.call(rt, site, &who, command, seat) {
-        Ok(said) => Ok(said.ok()),
+        Ok(said) => said.ok(),
         Err(fault) => {
-            see_refused(fault, before, known_by(seat, site))?;
-            Ok(federation.call(rt, site, &who, command, seat)?.ok())
+            see_refused(rt, fault, before, known_by(seat, site));
+            let again = federation.call(rt, site, &who, command, seat);
+            again.expect(rt, "an answer").ok()
         }
     }
 }
 
-fn looked<R: Wait>(
+fn looked<R: Abort + Wait>(
     rt: &R,
     federation: &Federation<OpenGate>,
     site: SiteId,
     seat: &mut Seat,
-) -> Result<Board, Fail> {
+) -> Board {
     let before = known_by(seat, site);
     match federation.look(rt, site, seat) {
-        Ok(board) => Ok(board),
+        Ok(board) => board,
         Err(fault) => {
-            see_refused(fault, before, known_by(seat, site))?;
-            Ok(federation.look(rt, site, seat)?)
+            see_refused(rt, fault, before, known_by(seat, site));
+            federation.look(rt, site, seat).expect(rt, "a board")
         }
     }
 }
 
 /// Ships from argonne to lemont.
-fn shipped<R: Wait>(
-    rt: &R,
-    federation: &Federation<OpenGate>,
-    seat: &mut Seat,
-) -> Result<Sent, Fail> {
-    let (argonne, lemont) = (site(0)?, site(1)?);
+fn shipped<R: Abort + Wait>(rt: &R, federation: &Federation<OpenGate>, seat: &mut Seat) -> Sent {
+    let (argonne, lemont) = (site(0), site(1));
     let before = known_by(seat, argonne);
     match federation.ship(rt, argonne, lemont, seat) {
-        Ok(sent) => Ok(sent),
+        Ok(sent) => sent,
         Err(fault) => {
-            see_refused(fault, before, known_by(seat, argonne))?;
-            Ok(federation.ship(rt, argonne, lemont, seat)?)
+            see_refused(rt, fault, before, known_by(seat, argonne));
+            federation
+                .ship(rt, argonne, lemont, seat)
+                .expect(rt, "a shipment")
         }
     }
 }
 
 /// What lemont takes next, and how many parcels left its queue: that of a refused take is dropped.
-fn taken_next<R: Wait>(
+fn taken_next<R: Abort + Wait>(
     rt: &R,
     federation: &Federation<OpenGate>,
     seat: &mut Seat,
-) -> Result<(Next, usize), Fail> {
-    let lemont = site(1)?;
+) -> (Next, usize) {
+    let lemont = site(1);
     let before = known_by(seat, lemont);
     match federation.take_next(rt, lemont, seat) {
-        Ok(next) => Ok((next, 1)),
+        Ok(next) => (next, 1),
         Err(fault) => {
-            see_refused(fault, before, known_by(seat, lemont))?;
-            Ok((federation.take_next(rt, lemont, seat)?, 2))
+            see_refused(rt, fault, before, known_by(seat, lemont));
+            let next = federation.take_next(rt, lemont, seat);
+            (next.expect(rt, "a parcel"), 2)
         }
     }
 }
 
 /// Ends the queue of a site and empties it. How many parcels were in it.
-fn emptied<R: Wait>(
-    rt: &R,
-    federation: &Federation<OpenGate>,
-    site: SiteId,
-) -> Result<usize, Fail> {
+fn emptied<R: Abort + Wait>(rt: &R, federation: &Federation<OpenGate>, site: SiteId) -> usize {
     if let Err(fault) = federation.end(rt, site) {
-        if fault.number() != 3 {
-            return Err("end".into());
-        }
-        federation.end(rt, site)?;
+        assert!(rt; fault.number() == 3);
+        federation.end(rt, site).expect(rt, "an end mark");
     }
     for count in 0..4 {
-        if federation.drop_next(rt, site)? == Dropped::Ended {
-            return Ok(count);
+        if federation.drop_next(rt, site) == Ok(Dropped::Ended) {
+            return count;
         }
     }
-    Err("no end mark".into())
+    panic!(rt; "no end mark")
 }
 
-/// Submits a job at argonne, ships it to lemont three times, takes one parcel and drops the others. How many entries the
-/// journals have by the answers, where all of these were as with ample memory.
-fn answered<R: Wait>(
-    rt: &R,
-    federation: &Federation<OpenGate>,
-    seat: &mut Seat,
-) -> Result<Option<usize>, Fail> {
-    let job = stamp(1, 0)?;
-    let said = called(rt, federation, site(0)?, &submission()?, seat)?;
-    let board = looked(rt, federation, site(0)?, seat)?;
+/// Submits a job at argonne, ships it to lemont three times, takes one parcel and drops the others; all is answered as
+/// with ample memory. The journals have five entries then.
+fn answered<R: Abort + Wait>(rt: &R, federation: &Federation<OpenGate>, seat: &mut Seat) {
+    let (argonne, lemont, job) = (site(0), site(1), stamp(1, 0));
+    let said = called(rt, federation, argonne, &submission(rt), seat);
+    assert!(rt; said == Some(Reply::Submitted(job)));
+    let board = looked(rt, federation, argonne, seat);
+    assert!(rt; board.job(job).is_some());
     let mut queued = 0usize;
     for place in 1..4 {
         // where the queue alone is refused memory, the shipment stands and only its parcel is missing
-        let sent = shipped(rt, federation, seat)?;
-        if sent.place != place || seat.claims().len() as u64 != place + 1 {
-            return Ok(None);
-        }
+        let sent = shipped(rt, federation, seat);
+        assert!(rt; sent.place == place && seat.claims().len() as u64 == place + 1);
         queued = queued.saturating_add(usize::from(sent.queued));
     }
-    let (next, gone) = taken_next(rt, federation, seat)?;
-    let left = emptied(rt, federation, site(1)?)?;
-    let is_well = said == Some(Reply::Submitted(job))
-        && board.job(job).is_some()
-        && queued >= 2
-        && next == Next::Taken(Taken { grew: true })
-        && left.saturating_add(gone) == queued
-        && emptied(rt, federation, site(0)?)? == 0;
-    Ok(is_well.then_some(5))
+    let (next, gone) = taken_next(rt, federation, seat);
+    assert!(rt; queued >= 2 && next == Next::Taken(Taken { grew: true }));
+    assert!(rt; emptied(rt, federation, lemont).saturating_add(gone) == queued);
+    assert!(rt; emptied(rt, federation, argonne) == 0);
 }
 
 /// The number of the fault with which the federation is closed, or 0 where it has so many events.
-fn closed(federation: Federation<OpenGate>, seats: Vec<Seat>, count: usize) -> Result<u8, Fail> {
+fn closed(rt: &impl Abort, federation: Federation<OpenGate>, seats: Vec<Seat>, count: usize) -> u8 {
     match federation.close(seats) {
-        Ok(run) if run.order().len() == count => Ok(0),
-        Ok(_) => Err("events".into()),
-        Err(fault) => Ok(fault.number()),
+        Ok(run) => {
+            assert!(rt; run.order().len() == count);
+            0
+        }
+        Err(fault) => fault.number(),
     }
 }
 
 #[test]
-fn refused_growths_of_calls(rt: HostRuntime) -> Result<(), Fail> {
+fn refused_growths_of_calls(rt: HostRuntime) {
     let alloc = rt.alloc();
-    let federation = opened(alloc, &two_sites()?)?;
+    let federation = opened(alloc, &two_sites(&rt)).expect(&rt, "memory");
     let mut seat = federation.seat();
-    assert_eq!(rt; answered(&rt, &federation, &mut seat)?, Some(5));
-    let mut seats = room(alloc, 1)?;
-    seats.push(seat)?;
-    let number = closed(federation, seats, 5)?;
-    assert!(rt; number == 0 || number == 6, "{number}");
-    Ok(())
+    answered(&rt, &federation, &mut seat);
+    let mut seats = room(alloc, 1).expect(&rt, "memory");
+    seats.push(seat).expect(&rt, "memory");
+    let number = closed(&rt, federation, seats, 5);
+    assert!(rt; number == 0 || number == 6);
 }
 
 #[test]
-fn refused_growths_of_a_fault(rt: HostRuntime) -> Result<(), Fail> {
+fn refused_growths_of_a_fault(rt: HostRuntime) {
     let alloc = rt.alloc();
-    let federation = opened(alloc, &two_sites()?)?;
+    let federation = opened(alloc, &two_sites(&rt)).expect(&rt, "memory");
     let mut seat = federation.seat();
-    assert_eq!(rt; answered(&rt, &federation, &mut seat)?, Some(5));
+    answered(&rt, &federation, &mut seat);
     // no seat claims the entries
-    let number = closed(federation, room(alloc, 0)?, 5)?;
-    assert!(rt; number == 3 || number == 6, "{number}");
-    Ok(())
+    let number = closed(&rt, federation, room(alloc, 0).expect(&rt, "memory"), 5);
+    assert!(rt; number == 3 || number == 6);
 }
 
 /// What argonne ships to lemont once it was asked this, unless memory is refused.
 fn shipped_after(alloc: Global, entry: &Entry) -> Option<Packet> {
-    let mut argonne = Replica::new(alloc, SiteId::new(0)?);
+    let mut argonne = Replica::new(alloc, site(0));
     if let Asked::Do { who, command, .. } = &entry.asked {
         argonne.act(who, command).ok()?;
     }
-    argonne.ship(SiteId::new(1)?).ok()
+    argonne.ship(site(1)).ok()
 }
 
-fn packet_after(alloc: Global, entry: &Entry) -> Result<Packet, Fail> {
+fn packet_after(rt: &impl Abort, alloc: Global, entry: &Entry) -> Packet {
     match shipped_after(alloc, entry) {
-        Some(packet) => Ok(packet),
-        None => Ok(shipped_after(alloc, entry).ok_or("packet")?),
+        Some(packet) => packet,
+        None => shipped_after(alloc, entry).expect(rt, "a packet"),
     }
 }
 
 /// The journals of a job that is submitted, shipped and taken.
-fn journals(alloc: Global) -> Result<Vec<Vec<Entry>>, Fail> {
+fn journals(rt: &impl Abort, alloc: Global) -> Result<Vec<Vec<Entry>>, AllocError> {
+    let packet = packet_after(rt, alloc, &submitted(rt));
     let mut argonne = room(alloc, 2)?;
-    argonne.push(submitted()?)?;
-    argonne.push(ship_at(1)?)?;
+    argonne.push(submitted(rt))?;
+    argonne.push(ship_at(1))?;
     let mut lemont = room(alloc, 1)?;
-    lemont.push(taken(1, packet_after(alloc, &submitted()?)?)?)?;
+    lemont.push(taken(1, packet))?;
     let mut journals = room(alloc, 2)?;
     journals.push(argonne)?;
     journals.push(lemont)?;
@@ -241,12 +223,12 @@ fn journals(alloc: Global) -> Result<Vec<Vec<Entry>>, Fail> {
 }
 
 /// The claims of the one seat that did it all.
-fn claims(alloc: Global, journals: &[Vec<Entry>]) -> Result<Vec<Vec<Claim>>, Fail> {
+fn claims(alloc: Global, journals: &[Vec<Entry>]) -> Result<Vec<Vec<Claim>>, AllocError> {
     let mut claims = room(alloc, 3)?;
     let mut number = 0u8;
     for journal in journals {
         for (index, entry) in journal.iter().enumerate() {
-            claims.push(claim(number, index as u64, entry)?)?;
+            claims.push(claim(number, index as u64, entry))?;
         }
         number = number.saturating_add(1);
     }
@@ -256,18 +238,18 @@ fn claims(alloc: Global, journals: &[Vec<Entry>]) -> Result<Vec<Vec<Claim>>, Fai
 }
 
 #[test]
-fn refused_growths_of_settling(rt: HostRuntime) -> Result<(), Fail> {
+fn refused_growths_of_settling(rt: HostRuntime) {
     let alloc = rt.alloc();
-    let roster = two_sites()?;
-    let journals = journals(alloc)?;
-    let seats = claims(alloc, &journals)?;
+    let roster = two_sites(&rt);
+    let journals = journals(&rt, alloc).expect(&rt, "memory");
+    let seats = claims(alloc, &journals).expect(&rt, "memory");
     assert!(rt; journals.len() == roster.len());
     match settle(alloc, &roster, &journals, &seats) {
-        Ok(events) => assert_eq!(rt; events.len(), 3),
+        Ok(events) => assert!(rt; events.len() == 3),
         Err(fault) => {
-            assert_eq!(rt; fault.number(), 6);
-            assert_eq!(rt; settle(alloc, &roster, &journals, &seats)?.len(), 3);
+            assert!(rt; fault.number() == 6);
+            let again = settle(alloc, &roster, &journals, &seats);
+            assert!(rt; again.expect(&rt, "events").len() == 3);
         }
     }
-    Ok(())
 }

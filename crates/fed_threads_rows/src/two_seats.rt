@@ -4,10 +4,9 @@ use fed_record::{Command, Reply, Who};
 use fed_replica::Taken;
 use fed_stamp::{SiteId, Stamp, Version};
 use fed_threads::{CallFault, CloseFault, Federation, Gate, Next, OpenGate, Seat};
-use std::alloc::Global;
+use std::process::Abort;
 use std::sync::Wait;
 use std::sync::atomic::{AtomicBool, Ordering};
-use std::test::Fail;
 use std::thread::Threads;
 use std::{hint, thread};
 
@@ -81,24 +80,23 @@ fn at_lemont<G: Gate, R: Wait>(
 }
 
 /// Whether the seat sees that the job has the priority.
-fn sees_priority<G: Gate, R: Wait>(
+fn sees_priority<G: Gate, R: Abort + Wait>(
     rt: &R,
     federation: &Federation<G>,
     seat: &mut Seat,
     priority: i16,
-) -> Result<bool, Fail> {
-    let board = federation.look(rt, site(0)?, seat)?;
-    let job = board.job(stamp(1, 0)?).ok_or("job")?;
-    Ok(job.priority().1.get() == priority)
+) -> bool {
+    let board = federation.look(rt, site(0), seat).expect(rt, "a board");
+    let job = board.job(stamp(1, 0)).expect(rt, "the job");
+    job.priority().1.get() == priority
 }
 
-/// Both seats, of which the first is held until the second is through, which begins once the first is held; then a change that both see. How many events the
-/// federation of these seats has, or the fault with which it is closed.
-fn run_both<R: Threads + Wait + Sync>(
+/// Both seats, of which the first is held until the second is through, which begins once the first is held; then a change
+/// that both see. How many events the federation of these seats has, or the fault with which it is closed.
+fn run_both<R: Abort + AllocGlobal + Threads + Wait + Sync>(
     rt: &R,
-    alloc: Global,
     with_second: bool,
-) -> Result<Result<usize, CloseFault>, Fail> {
+) -> Result<usize, CloseFault> {
     let (arrived, let_go) = (AtomicBool::new(false), AtomicBool::new(false));
     let ran_out = AtomicBool::new(false);
     let gate = HeldGate {
@@ -106,10 +104,10 @@ fn run_both<R: Threads + Wait + Sync>(
         let_go: &let_go,
         ran_out: &ran_out,
     };
-    let federation = Federation::open(alloc, &two_sites()?, gate)?;
+    let federation = Federation::open(rt.alloc(), &two_sites(rt), gate).expect(rt, "memory");
     let mut first = federation.seat();
     let mut second = federation.seat();
-    let (ann, bob, submission) = (user("ann")?, user("bob")?, submission()?);
+    let (ann, bob, submission) = (user(rt, "ann"), user(rt, "bob"), submission(rt));
     let (held, through) = thread::join(
         rt,
         || at_argonne(rt, &federation, &ann, &submission, &mut first),
@@ -120,79 +118,57 @@ fn run_both<R: Threads + Wait + Sync>(
             through.filter(|()| is_held)
         },
     );
-    if held.is_none() || through.is_none() || ran_out.load(Ordering::SeqCst) {
-        return Err("the calls did not meet".into());
-    }
-    let command = new_priority(stamp(1, 0)?, 9)?;
-    let said = federation.call(rt, site(0)?, &ann, &command, &mut first)?;
-    if said != Ok(Reply::Done)
-        || !sees_priority(rt, &federation, &mut first, 9)?
-        || !sees_priority(rt, &federation, &mut second, 9)?
-    {
-        return Err("the change is not seen".into());
-    }
-    let mut seats = Vec::new(alloc);
-    seats.push(first)?;
+    assert!(rt; held.is_some() && through.is_some() && !ran_out.load(Ordering::SeqCst));
+    let command = new_priority(rt, stamp(1, 0), 9);
+    let said = federation.call(rt, site(0), &ann, &command, &mut first);
+    assert!(rt; said == Ok(Ok(Reply::Done)));
+    assert!(rt; sees_priority(rt, &federation, &mut first, 9));
+    assert!(rt; sees_priority(rt, &federation, &mut second, 9));
+    let mut seats = vec![in rt.alloc(); first].expect(rt, "memory");
     if with_second {
-        seats.push(second)?;
+        seats.push(second).expect(rt, "memory");
     }
-    Ok(federation.close(seats).map(|run| run.order().len()))
+    federation.close(seats).map(|run| run.order().len())
 }
 
 #[test]
-fn sites_have_locks_of_their_own(rt: HostRuntime) -> Result<(), Fail> {
-    let alloc = rt.alloc();
-    assert_eq!(rt; run_both(&rt, alloc, true)?, Ok(5));
-    Ok(())
+fn sites_have_locks_of_their_own(rt: HostRuntime) {
+    assert!(rt; run_both(&rt, true) == Ok(5));
 }
 
 #[test]
-fn a_seat_is_left_out(rt: HostRuntime) -> Result<(), Fail> {
-    let alloc = rt.alloc();
-    let site = site(1)?;
-    let index = 0;
-    assert_eq!(rt;
-        run_both(&rt, alloc, false)?,
-        Err(CloseFault::Unclaimed { site, index })
-    );
-    Ok(())
+fn a_seat_is_left_out(rt: HostRuntime) {
+    let (site, index) = (site(1), 0);
+    assert!(rt; run_both(&rt, false) == Err(CloseFault::Unclaimed { site, index }));
 }
 
-/// Whether a job is submitted.
-fn is_submitted<R: Wait>(
-    rt: &R,
-    federation: &Federation<OpenGate>,
-    seat: &mut Seat,
-) -> Result<bool, Fail> {
-    Ok(at_argonne(rt, federation, &user("ann")?, &submission()?, seat).is_some())
-}
-
-/// Whether the federation is behind a seat that has seen one entry at argonne, where it has none.
-fn is_behind<R: Wait>(
-    rt: &R,
-    federation: &Federation<OpenGate>,
-    seat: &mut Seat,
-) -> Result<bool, Fail> {
+/// The federation is behind a seat that has seen one entry at argonne, where it has none.
+fn see_behind<R: Abort + Wait>(rt: &R, federation: &Federation<OpenGate>, seat: &mut Seat) {
     let behind = CallFault::Behind {
         seen: 1,
         found: 0,
         version: Version::default(),
     };
-    let said = federation.call(rt, site(0)?, &user("ann")?, &submission()?, seat);
-    Ok(said == Err(behind))
+    let said = federation.call(rt, site(0), &user(rt, "ann"), &submission(rt), seat);
+    assert!(rt; said == Err(behind));
 }
 
 #[test]
-fn a_seat_of_another_federation(rt: HostRuntime) -> Result<(), Fail> {
+fn a_seat_of_another_federation(rt: HostRuntime) {
     let alloc = rt.alloc();
-    let federation = Federation::open(alloc, &two_sites()?, OpenGate)?;
+    let federation = Federation::open(alloc, &two_sites(&rt), OpenGate).expect(&rt, "memory");
     let mut seat = federation.seat();
-    assert!(rt; is_submitted(&rt, &federation, &mut seat)?);
-    let other = Federation::open(alloc, &two_sites()?, OpenGate)?;
-    assert!(rt; is_behind(&rt, &other, &mut seat)?);
-    let mut seats = Vec::new(alloc);
-    seats.push(seat)?;
+    let done = at_argonne(
+        &rt,
+        &federation,
+        &user(&rt, "ann"),
+        &submission(&rt),
+        &mut seat,
+    );
+    assert!(rt; done.is_some());
+    let other = Federation::open(alloc, &two_sites(&rt), OpenGate).expect(&rt, "memory");
+    see_behind(&rt, &other, &mut seat);
+    let seats = vec![in alloc; seat].expect(&rt, "memory");
     let closed = other.close(seats).map(|run| run.order().len());
-    assert_eq!(rt; closed, Err(CloseFault::Strange { seat: 0, place: 0 }));
-    Ok(())
+    assert!(rt; closed == Err(CloseFault::Strange { seat: 0, place: 0 }));
 }

@@ -1,40 +1,40 @@
 //! Rosters, sites, users and commands of the examples.
 use fed_record::{Account, Changes, Command, JobValues, Limit, Nodes, Priority, Role, Who};
 use fed_stamp::{JobId, Roster, SiteId, SiteSet, Stamp, Word};
-use std::test::Fail;
+use std::process::Abort;
 
 /// Two sites: argonne, which is site 0, and lemont.
-pub(crate) fn two_sites() -> Result<Roster, Fail> {
-    Ok(Roster::new(&[("argonne", 8), ("lemont", 4)])?)
+pub(crate) fn two_sites(rt: &impl Abort) -> Roster {
+    Roster::new(&[("argonne", 8), ("lemont", 4)]).expect(rt, "a roster")
 }
 
-pub(crate) fn site(number: u8) -> Result<SiteId, Fail> {
-    Ok(SiteId::new(number).ok_or("site")?)
+pub(crate) fn site(number: u8) -> SiteId {
+    SiteId::new(number).unwrap_or_default()
 }
 
-pub(crate) fn stamp(counter: u64, number: u8) -> Result<Stamp, Fail> {
-    Ok(Stamp::new(counter, site(number)?).ok_or("stamp")?)
+pub(crate) fn stamp(counter: u64, number: u8) -> Stamp {
+    Stamp::new(counter, site(number)).unwrap_or_default()
 }
 
 /// A user without a role.
-pub(crate) fn user(name: &str) -> Result<Who, Fail> {
-    let user = Word::new(name).ok_or("user")?;
+pub(crate) fn user(rt: &impl Abort, name: &str) -> Who {
+    let user = Word::new(name).expect(rt, "a name");
     let role = Role::User;
-    Ok(Who { user, role })
+    Who { user, role }
 }
 
 /// Submits a job that may run at the first two sites.
-pub(crate) fn submission() -> Result<Command, Fail> {
+pub(crate) fn submission(rt: &impl Abort) -> Command {
     let values = JobValues {
-        name: Word::new("STDIN").ok_or("name")?,
-        priority: Priority::new(0).ok_or("priority")?,
-        nodes: Nodes::new(1).ok_or("nodes")?,
-        limit: Limit::new(3600).ok_or("limit")?,
+        name: Word::new("STDIN").expect(rt, "a name"),
+        priority: Priority::new(0).unwrap(),
+        nodes: Nodes::new(1).unwrap(),
+        limit: Limit::new(3600).unwrap(),
         account: Account::EMPTY,
-        sites: SiteSet::new(&[site(0)?, site(1)?]).ok_or("sites")?,
+        sites: SiteSet::new(&[site(0), site(1)]).unwrap(),
     };
     let held = false;
-    Ok(Command::Submit { values, held })
+    Command::Submit { values, held }
 }
 
 /// Sets nothing.
@@ -50,8 +50,8 @@ pub(crate) fn no_changes() -> Changes {
 }
 
 /// Gives a job another priority.
-pub(crate) fn new_priority(job: JobId, priority: i16) -> Result<Command, Fail> {
+pub(crate) fn new_priority(rt: &impl Abort, job: JobId, priority: i16) -> Command {
     let mut changes = no_changes();
-    changes.priority = Some(Priority::new(priority).ok_or("priority")?);
-    Ok(Command::Alter { job, changes })
+    changes.priority = Some(Priority::new(priority).expect(rt, "a priority"));
+    Command::Alter { job, changes }
 }

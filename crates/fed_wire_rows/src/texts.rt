@@ -1,8 +1,7 @@
 //! Texts of packets, read and written.
 use fed_stamp::{SiteId, Version};
 use fed_wire::{Packet, Part, Place, WireFault, read, write};
-use std::alloc::Global;
-use std::test::Fail;
+use std::process::Abort;
 
 /// The empty packet of site 0, in format 1.
 pub(crate) const EMPTY: &str =
@@ -15,30 +14,25 @@ const JOB: &str =
 const REACHED: &str = "\"reached\":[1,0,0,0,0,0,0,0,0,0,0,0,0,0,0,0]";
 
 // The text in which the first of the old parts is the new one.
-pub(crate) fn with(alloc: Global, text: &str, old: &str, new: &str) -> Result<String, Fail> {
-    match text.split_once(old) {
-        Some((before, after)) => Ok(format!(in alloc; "{before}{new}{after}")?),
-        None => Ok(String::new(alloc)),
-    }
+pub(crate) fn with(rt: &(impl Abort + AllocGlobal), text: &str, old: &str, new: &str) -> String {
+    let (before, after) = text.split_once(old).expect(rt, old);
+    format!(in rt.alloc(); "{before}{new}{after}").expect(rt, "memory")
 }
 
 // The text of one job in format 1.
-pub(crate) fn one_job(alloc: Global) -> Result<String, Fail> {
-    let jobs = format!(in alloc; "\"jobs\":[{JOB}]")?;
-    let text = with(alloc, EMPTY, "\"jobs\":[]", &jobs)?;
+pub(crate) fn one_job(rt: &(impl Abort + AllocGlobal)) -> String {
+    let jobs = format!(in rt.alloc(); "\"jobs\":[{JOB}]").expect(rt, "memory");
+    let text = with(rt, EMPTY, "\"jobs\":[]", &jobs);
     with(
-        alloc,
+        rt,
         &text,
         "\"reached\":[0,0,0,0,0,0,0,0,0,0,0,0,0,0,0,0]",
         REACHED,
     )
 }
 
-pub(crate) fn fault(alloc: Global, text: &str) -> Option<WireFault> {
-    match read(alloc, text.as_bytes()) {
-        Ok(_packet) => None,
-        Err(fault) => Some(fault),
-    }
+pub(crate) fn fault(rt: &impl AllocGlobal, text: &str) -> Option<WireFault> {
+    read(rt.alloc(), text.as_bytes()).err()
 }
 
 pub(crate) fn shape(part: Part, index: usize) -> Option<WireFault> {
@@ -54,31 +48,27 @@ pub(crate) fn range(part: Part, index: usize) -> Option<WireFault> {
 }
 
 #[test]
-fn empty_packets_are_read(rt: HostRuntime) -> Result<(), Fail> {
+fn empty_packets_are_read(rt: HostRuntime) {
     let alloc = rt.alloc();
-    assert_eq!(rt; EMPTY.len(), 136);
-    let packet = read(alloc, EMPTY.as_bytes())?;
+    assert!(rt; EMPTY.len() == 136);
+    let packet = read(alloc, EMPTY.as_bytes()).expect(&rt, "a packet");
     assert!(rt; packet.sender() == SiteId::default());
     assert!(rt; packet.delta().need() == Version::default());
     assert!(rt; packet.delta().reached() == Version::default());
     assert!(rt; packet.delta().jobs().next().is_none());
     assert!(rt; packet.delta().reservations().next().is_none());
-    Ok(())
 }
 
 #[test]
-fn empty_packets_are_written(rt: HostRuntime) -> Result<(), Fail> {
-    let alloc = rt.alloc();
-    let two = with(alloc, EMPTY, "\"format\":1", "\"format\":2")?;
-    assert!(rt; is_written(alloc, EMPTY, &two)?);
-    let spaced = with(alloc, EMPTY, ",\"jobs\"", ", \"jobs\"")?;
-    assert!(rt; is_written(alloc, &spaced, &two)?);
-    Ok(())
+fn empty_packets_are_written(rt: HostRuntime) {
+    let two = with(&rt, EMPTY, "\"format\":1", "\"format\":2");
+    assert!(rt; is_written(&rt, EMPTY, &two));
+    let spaced = with(&rt, EMPTY, ",\"jobs\"", ", \"jobs\"");
+    assert!(rt; is_written(&rt, &spaced, &two));
 }
 
 #[test]
-fn faults_of_empty_packets(rt: HostRuntime) -> Result<(), Fail> {
-    let alloc = rt.alloc();
+fn faults_of_empty_packets(rt: HostRuntime) {
     let cases = [
         ("\"format\":1", "\"format\":7", Some(WireFault::Version(7))),
         ("\"format\":1", "\"format\":3", Some(WireFault::Version(3))),
@@ -106,17 +96,16 @@ fn faults_of_empty_packets(rt: HostRuntime) -> Result<(), Fail> {
         ),
     ];
     for (old, new, wanted) in cases.iter() {
-        let text = with(alloc, EMPTY, old, new)?;
-        assert!(rt; fault(alloc, &text) == *wanted, "{new}");
+        let text = with(&rt, EMPTY, old, new);
+        assert!(rt; fault(&rt, &text) == *wanted, "{new}");
     }
-    assert!(rt; fault(alloc, "") == Some(WireFault::NotJson));
-    Ok(())
+    assert!(rt; fault(&rt, "") == Some(WireFault::NotJson));
 }
 
 #[test]
-fn prefixes_are_no_packets(rt: HostRuntime) -> Result<(), Fail> {
+fn prefixes_are_no_packets(rt: HostRuntime) {
     let alloc = rt.alloc();
-    let job = one_job(alloc)?;
+    let job = one_job(&rt);
     for text in [EMPTY.as_bytes(), job.as_bytes()] {
         for length in 0..text.len() {
             let refused = match read(alloc, &text[..length]) {
@@ -126,64 +115,53 @@ fn prefixes_are_no_packets(rt: HostRuntime) -> Result<(), Fail> {
             assert!(rt; refused == Some(WireFault::NotJson), "{length}");
         }
     }
-    Ok(())
 }
 
 // The format 2 text of one job.
-pub(crate) fn one_job_in_two(alloc: Global) -> Result<String, Fail> {
-    let text = with(alloc, &one_job(alloc)?, "\"format\":1", "\"format\":2")?;
+pub(crate) fn one_job_in_two(rt: &(impl Abort + AllocGlobal)) -> String {
+    let text = with(rt, &one_job(rt), "\"format\":1", "\"format\":2");
     let account = "\"account\":[\"\",[1,0]],\"deleted\"";
-    with(alloc, &text, "\"deleted\"", account)
+    with(rt, &text, "\"deleted\"", account)
 }
 
 // Whether the packet of the text is written so.
-pub(crate) fn is_written(alloc: Global, text: &str, wanted: &str) -> Result<bool, Fail> {
-    let packet = read(alloc, text.as_bytes())?;
-    let written = write(alloc, &packet)?;
-    Ok(written.as_slice() == wanted.as_bytes())
+pub(crate) fn is_written(rt: &(impl Abort + AllocGlobal), text: &str, wanted: &str) -> bool {
+    let packet = read(rt.alloc(), text.as_bytes()).expect(rt, "a packet");
+    let written = write(rt.alloc(), &packet).expect(rt, "memory");
+    written.as_slice() == wanted.as_bytes()
 }
 
 #[test]
-fn jobs_are_written_in_format_two(rt: HostRuntime) -> Result<(), Fail> {
-    let alloc = rt.alloc();
-    let one = one_job(alloc)?;
-    let two = one_job_in_two(alloc)?;
-    assert!(rt; is_written(alloc, &one, &two)?);
-    assert!(rt; is_written(alloc, &two, &two)?);
-    Ok(())
+fn jobs_are_written_in_format_two(rt: HostRuntime) {
+    let one = one_job(&rt);
+    let two = one_job_in_two(&rt);
+    assert!(rt; is_written(&rt, &one, &two));
+    assert!(rt; is_written(&rt, &two, &two));
 }
 
 #[test]
-fn grants_are_written_in_format_two(rt: HostRuntime) -> Result<(), Fail> {
-    let alloc = rt.alloc();
-    let two = one_job_in_two(alloc)?;
+fn grants_are_written_in_format_two(rt: HostRuntime) {
+    let two = one_job_in_two(&rt);
     let open = with(
-        alloc,
+        &rt,
         &two,
         "null,\"holds\"",
         "[\"open\",1,[1,0],1],\"holds\"",
-    )?;
-    let one = with(
-        alloc,
-        &one_job(alloc)?,
-        "null,\"holds\"",
-        "[[1,0],1],\"holds\"",
-    )?;
-    assert!(rt; is_written(alloc, &one, &open)?);
+    );
+    let one = with(&rt, &one_job(&rt), "null,\"holds\"", "[[1,0],1],\"holds\"");
+    assert!(rt; is_written(&rt, &one, &open));
     let back = with(
-        alloc,
+        &rt,
         &two,
         "null,\"holds\"",
         "[\"returned\",1,[1,0]],\"holds\"",
-    )?;
-    assert!(rt; is_written(alloc, &back, &back)?);
-    Ok(())
+    );
+    assert!(rt; is_written(&rt, &back, &back));
 }
 
 #[test]
-fn faults_of_jobs(rt: HostRuntime) -> Result<(), Fail> {
-    let alloc = rt.alloc();
-    let text = one_job(alloc)?;
+fn faults_of_jobs(rt: HostRuntime) {
+    let text = one_job(&rt);
     let cases = [
         ("\"format\":1", "\"format\":2", shape(Part::Jobs, 0)),
         (
@@ -194,134 +172,113 @@ fn faults_of_jobs(rt: HostRuntime) -> Result<(), Fail> {
         ("\"touched\":[1", "\"touched\":[0", range(Part::Jobs, 0)),
     ];
     for (old, new, wanted) in cases.iter() {
-        let changed = with(alloc, &text, old, new)?;
-        assert!(rt; fault(alloc, &changed) == *wanted, "{new}");
+        let changed = with(&rt, &text, old, new);
+        assert!(rt; fault(&rt, &changed) == *wanted, "{new}");
     }
-    Ok(())
 }
 
 #[test]
-fn terms_begin_at_one(rt: HostRuntime) -> Result<(), Fail> {
-    let alloc = rt.alloc();
-    let two = one_job_in_two(alloc)?;
+fn terms_begin_at_one(rt: HostRuntime) {
+    let two = one_job_in_two(&rt);
     let none = with(
-        alloc,
+        &rt,
         &two,
         "null,\"holds\"",
         "[\"open\",0,[1,0],1],\"holds\"",
-    )?;
-    assert!(rt; fault(alloc, &none) == range(Part::Jobs, 0));
-    Ok(())
+    );
+    assert!(rt; fault(&rt, &none) == range(Part::Jobs, 0));
 }
 
 #[test]
-fn jobs_stand_once(rt: HostRuntime) -> Result<(), Fail> {
+fn jobs_stand_once(rt: HostRuntime) {
     let alloc = rt.alloc();
-    let both = format!(in alloc; "\"jobs\":[{JOB},{JOB}]")?;
-    let text = with(alloc, EMPTY, "\"jobs\":[]", &both)?;
+    let both = format!(in alloc; "\"jobs\":[{JOB},{JOB}]").expect(&rt, "memory");
+    let text = with(&rt, EMPTY, "\"jobs\":[]", &both);
     let zeros = "\"reached\":[0,0,0,0,0,0,0,0,0,0,0,0,0,0,0,0]";
-    let twice = with(alloc, &text, zeros, REACHED)?;
-    assert!(rt; fault(alloc, &twice) == range(Part::Jobs, 1));
-    Ok(())
+    let twice = with(&rt, &text, zeros, REACHED);
+    assert!(rt; fault(&rt, &twice) == range(Part::Jobs, 1));
 }
 
 // Whether a packet or a fault is read of the text, with the byte put at the place.
-fn is_answered(alloc: Global, text: &str, place: usize, byte: u8) -> Result<bool, Fail> {
-    let mut bytes = Vec::from_slice(alloc, text.as_bytes())?;
+fn is_answered(rt: &(impl Abort + AllocGlobal), text: &str, place: usize, byte: u8) -> bool {
+    let mut bytes = Vec::from_slice(rt.alloc(), text.as_bytes()).expect(rt, "memory");
     if let Some(changed) = bytes.get_mut(place) {
         *changed = byte;
     }
-    match read(alloc, &bytes) {
-        Ok(_packet) => Ok(true),
-        Err(fault) => Ok(fault != WireFault::NoMemory),
-    }
+    read(rt.alloc(), &bytes).err() != Some(WireFault::NoMemory)
 }
 
-// The first place and byte at which the text is not answered, of every eighth place from `part` on. A test has a minute,
-// and all places take longer on a machine that is busy.
-fn unanswered(alloc: Global, part: usize) -> Result<Option<(usize, u8)>, Fail> {
-    let text = one_job(alloc)?;
+// The text is answered whatever byte stands at every eighth place from `part` on. A test has a minute, and all places take
+// longer on a machine that is busy.
+fn see_answered(rt: &(impl Abort + AllocGlobal), part: usize) {
+    let text = one_job(rt);
     for place in (0..text.len()).skip(part).step_by(8) {
         for byte in 0..=255 {
-            if !is_answered(alloc, &text, place, byte)? {
-                return Ok(Some((place, byte)));
-            }
+            assert!(rt; is_answered(rt, &text, place, byte), "{place} {byte}");
         }
     }
-    Ok(None)
 }
 
 #[test]
-fn any_byte_is_answered_first(rt: HostRuntime) -> Result<(), Fail> {
-    assert_eq!(rt; unanswered(rt.alloc(), 0)?, None);
-    Ok(())
+fn any_byte_is_answered_first(rt: HostRuntime) {
+    see_answered(&rt, 0);
 }
 
 #[test]
-fn any_byte_is_answered_second(rt: HostRuntime) -> Result<(), Fail> {
-    assert_eq!(rt; unanswered(rt.alloc(), 1)?, None);
-    Ok(())
+fn any_byte_is_answered_second(rt: HostRuntime) {
+    see_answered(&rt, 1);
 }
 
 #[test]
-fn any_byte_is_answered_third(rt: HostRuntime) -> Result<(), Fail> {
-    assert_eq!(rt; unanswered(rt.alloc(), 2)?, None);
-    Ok(())
+fn any_byte_is_answered_third(rt: HostRuntime) {
+    see_answered(&rt, 2);
 }
 
 #[test]
-fn any_byte_is_answered_fourth(rt: HostRuntime) -> Result<(), Fail> {
-    assert_eq!(rt; unanswered(rt.alloc(), 3)?, None);
-    Ok(())
+fn any_byte_is_answered_fourth(rt: HostRuntime) {
+    see_answered(&rt, 3);
 }
 
 #[test]
-fn any_byte_is_answered_fifth(rt: HostRuntime) -> Result<(), Fail> {
-    assert_eq!(rt; unanswered(rt.alloc(), 4)?, None);
-    Ok(())
+fn any_byte_is_answered_fifth(rt: HostRuntime) {
+    see_answered(&rt, 4);
 }
 
 #[test]
-fn any_byte_is_answered_sixth(rt: HostRuntime) -> Result<(), Fail> {
-    assert_eq!(rt; unanswered(rt.alloc(), 5)?, None);
-    Ok(())
+fn any_byte_is_answered_sixth(rt: HostRuntime) {
+    see_answered(&rt, 5);
 }
 
 #[test]
-fn any_byte_is_answered_seventh(rt: HostRuntime) -> Result<(), Fail> {
-    assert_eq!(rt; unanswered(rt.alloc(), 6)?, None);
-    Ok(())
+fn any_byte_is_answered_seventh(rt: HostRuntime) {
+    see_answered(&rt, 6);
 }
 
 #[test]
-fn any_byte_is_answered_eighth(rt: HostRuntime) -> Result<(), Fail> {
-    assert_eq!(rt; unanswered(rt.alloc(), 7)?, None);
-    Ok(())
+fn any_byte_is_answered_eighth(rt: HostRuntime) {
+    see_answered(&rt, 7);
 }
 
 // The format 2 text of a reservation.
-fn one_reservation(alloc: Global) -> Result<String, Fail> {
+fn one_reservation(rt: &(impl Abort + AllocGlobal)) -> String {
     let reserved = "\"reservations\":[{\"id\":[1,0],\"window\":[[0,50,60,8],[1,0]]}]";
-    let text = with(alloc, EMPTY, "\"reservations\":[]", reserved)?;
+    let text = with(rt, EMPTY, "\"reservations\":[]", reserved);
     let zeros = "\"reached\":[0,0,0,0,0,0,0,0,0,0,0,0,0,0,0,0]";
-    let reached = with(alloc, &text, zeros, REACHED)?;
-    with(alloc, &reached, "\"format\":1", "\"format\":2")
+    let reached = with(rt, &text, zeros, REACHED);
+    with(rt, &reached, "\"format\":1", "\"format\":2")
 }
 
 #[test]
-fn reservations_are_read_and_written(rt: HostRuntime) -> Result<(), Fail> {
-    let alloc = rt.alloc();
-    let two = one_reservation(alloc)?;
-    assert!(rt; is_written(alloc, &two, &two)?);
-    let cancelled = with(alloc, &two, "[0,50,60,8]", "null")?;
-    assert!(rt; is_written(alloc, &cancelled, &cancelled)?);
-    Ok(())
+fn reservations_are_read_and_written(rt: HostRuntime) {
+    let two = one_reservation(&rt);
+    assert!(rt; is_written(&rt, &two, &two));
+    let cancelled = with(&rt, &two, "[0,50,60,8]", "null");
+    assert!(rt; is_written(&rt, &cancelled, &cancelled));
 }
 
 #[test]
-fn faults_of_reservations(rt: HostRuntime) -> Result<(), Fail> {
-    let alloc = rt.alloc();
-    let two = one_reservation(alloc)?;
+fn faults_of_reservations(rt: HostRuntime) {
+    let two = one_reservation(&rt);
     let cases = [
         ("[0,50,60,8]", "[0,60,60,8]", range(Part::Reservations, 0)),
         ("[0,50,60,8]", "[0,50,60]", shape(Part::Reservations, 0)),
@@ -329,20 +286,18 @@ fn faults_of_reservations(rt: HostRuntime) -> Result<(), Fail> {
         ("[1,0]]}", "[2,0]]}", range(Part::Reservations, 0)),
     ];
     for (old, new, wanted) in cases.iter() {
-        let text = with(alloc, &two, old, new)?;
-        assert!(rt; fault(alloc, &text) == *wanted, "{new}");
+        let text = with(&rt, &two, old, new);
+        assert!(rt; fault(&rt, &text) == *wanted, "{new}");
     }
-    Ok(())
 }
 
 #[test]
-fn equal_packets_tell_the_same(rt: HostRuntime) -> Result<(), Fail> {
+fn equal_packets_tell_the_same(rt: HostRuntime) {
     let alloc = rt.alloc();
-    let packet = read(alloc, EMPTY.as_bytes())?;
-    let other = with(alloc, EMPTY, "\"sender\":0", "\"sender\":1")?;
-    let other = read(alloc, other.as_bytes())?;
+    let packet = read(alloc, EMPTY.as_bytes()).expect(&rt, "a packet");
+    let other = with(&rt, EMPTY, "\"sender\":0", "\"sender\":1");
+    let other = read(alloc, other.as_bytes()).expect(&rt, "a packet");
     assert!(rt; packet != other);
-    let delta = read(alloc, EMPTY.as_bytes())?;
+    let delta = read(alloc, EMPTY.as_bytes()).expect(&rt, "a packet");
     assert!(rt; delta == packet);
-    Ok(())
 }

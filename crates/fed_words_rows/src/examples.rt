@@ -2,53 +2,54 @@
 use fed_record::{Account, Changes, Command, HoldKinds, JobValues, Limit, Nodes, Priority};
 use fed_stamp::{JobId, Roster, SiteId, SiteSet, Stamp, Word};
 use fed_words::{Request, UsageFault, read_identifier, read_number, read_priority, read_words};
-use std::alloc::Global;
-use std::test::Fail;
+use std::process::Abort;
 
-fn roster() -> Result<Roster, Fail> {
-    let roster = Roster::new(&[("argonne", 8), ("lemont", 4)]).ok();
-    Ok(roster.ok_or("a fault of the roster")?)
+fn roster(rt: &impl Abort) -> Roster {
+    Roster::new(&[("argonne", 8), ("lemont", 4)]).expect(rt, "a roster")
 }
 
-fn site(number: u8) -> Result<SiteId, Fail> {
-    Ok(SiteId::new(number).ok_or("site")?)
+fn site(number: u8) -> SiteId {
+    SiteId::new(number).unwrap_or_default()
 }
 
-fn job(counter: u64, number: u8) -> Result<JobId, Fail> {
-    Ok(Stamp::new(counter, site(number)?).ok_or("stamp")?)
+fn job(counter: u64, number: u8) -> JobId {
+    Stamp::new(counter, site(number)).unwrap_or_default()
 }
 
 /// What a line asks that is read at argonne.
-fn read(alloc: Global, line: &str) -> Result<Result<Request, UsageFault>, Fail> {
-    let words: Vec<&str> = line.split(' ').collect(alloc)?;
-    Ok(read_words(alloc, &words, &roster()?, site(0)?))
+fn read(rt: &(impl Abort + AllocGlobal), line: &str) -> Result<Request, UsageFault> {
+    let words: Vec<&str> = line.split(' ').collect(rt.alloc()).expect(rt, "memory");
+    read_words(rt.alloc(), &words, &roster(rt), site(0))
 }
 
-/// The commands that a line asks for.
-fn commands(alloc: Global, line: &str) -> Result<Vec<Command>, Fail> {
-    match read(alloc, line)? {
-        Ok(Request::Acts(commands)) => Ok(commands),
-        Ok(Request::List { .. }) => Err("a listing".into()),
-        Err(fault) => Err(Fail::new(format_args!("{line}: {fault}"))),
-    }
+/// The number of the fault of a line that is read at argonne.
+fn fault(rt: &(impl Abort + AllocGlobal), line: &str) -> u8 {
+    read(rt, line).err().expect(rt, line).number()
 }
 
 /// Whether a line asks for exactly these commands.
-fn asks(alloc: Global, line: &str, expected: &[Command]) -> Result<bool, Fail> {
-    let asked = commands(alloc, line)?;
-    Ok(asked.as_slice() == expected)
+fn asks(rt: &(impl Abort + AllocGlobal), line: &str, expected: &[Command]) -> bool {
+    match read(rt, line) {
+        Ok(Request::Acts(commands)) => commands.as_slice() == expected,
+        _ => false,
+    }
+}
+
+/// Whether a line submits just one job, with these values.
+fn submits(rt: &(impl Abort + AllocGlobal), line: &str, values: JobValues, held: bool) -> bool {
+    asks(rt, line, &[Command::Submit { values, held }])
 }
 
 /// What a job is submitted with where nothing is set.
-fn defaults() -> Result<JobValues, Fail> {
-    Ok(JobValues {
-        name: Word::new("STDIN").ok_or("name")?,
-        priority: Priority::new(0).ok_or("priority")?,
-        nodes: Nodes::new(1).ok_or("nodes")?,
-        limit: Limit::new(3600).ok_or("limit")?,
+fn defaults(rt: &impl Abort) -> JobValues {
+    JobValues {
+        name: Word::new("STDIN").expect(rt, "a name"),
+        priority: Priority::new(0).unwrap(),
+        nodes: Nodes::new(1).unwrap(),
+        limit: Limit::new(3600).unwrap(),
         account: Account::EMPTY,
-        sites: SiteSet::new(&[site(0)?, site(1)?]).ok_or("sites")?,
-    })
+        sites: SiteSet::new(&[site(0), site(1)]).unwrap(),
+    }
 }
 
 fn nothing_set() -> Changes {
@@ -63,7 +64,7 @@ fn nothing_set() -> Changes {
 }
 
 #[test]
-fn faults(rt: HostRuntime) -> Result<(), Fail> {
+fn faults(rt: HostRuntime) {
     let cases: [(&str, u8); 25] = [
         ("qmove 1", 1),
         ("", 1),
@@ -92,16 +93,14 @@ fn faults(rt: HostRuntime) -> Result<(), Fail> {
         ("qalter -p 1", 7),
     ];
     for (line, number) in &cases {
-        let fault = read(rt.alloc(), line)?.err().ok_or("no fault")?;
-        assert_eq!(rt; fault.number(), *number, "{line}");
+        assert!(rt; fault(&rt, line) == *number, "{line}");
     }
-    let none = read_words(rt.alloc(), &[], &roster()?, site(0)?).err();
-    assert_eq!(rt; none, Some(UsageFault::UnknownUtility));
-    Ok(())
+    let none = read_words(rt.alloc(), &[], &roster(&rt), site(0)).err();
+    assert!(rt; none == Some(UsageFault::UnknownUtility));
 }
 
 #[test]
-fn earlier_faults_come_first(rt: HostRuntime) -> Result<(), Fail> {
+fn earlier_faults_come_first(rt: HostRuntime) {
     let cases: [(&str, u8); 8] = [
         ("qsub -p 1024 -z", 4),
         ("qsub -z -p 1024", 2),
@@ -113,14 +112,12 @@ fn earlier_faults_come_first(rt: HostRuntime) -> Result<(), Fail> {
         ("qsub -l nodes=0 -l nodes=1", 4),
     ];
     for (line, number) in &cases {
-        let fault = read(rt.alloc(), line)?.err().ok_or("no fault")?;
-        assert_eq!(rt; fault.number(), *number, "{line}");
+        assert!(rt; fault(&rt, line) == *number, "{line}");
     }
-    Ok(())
 }
 
 #[test]
-fn priorities(rt: HostRuntime) -> Result<(), Fail> {
+fn priorities(rt: HostRuntime) {
     let cases: [(&str, i16); 8] = [
         ("qsub -p -1024", -1024),
         ("qsub -p 1023", 1023),
@@ -133,101 +130,84 @@ fn priorities(rt: HostRuntime) -> Result<(), Fail> {
     ];
     for (line, number) in &cases {
         let values = JobValues {
-            priority: Priority::new(*number).ok_or("priority")?,
-            ..defaults()?
+            priority: Priority::new(*number).expect(&rt, "a priority"),
+            ..defaults(&rt)
         };
-        let held = false;
-        assert!(rt;
-            asks(rt.alloc(), line, &[Command::Submit { values, held }])?,
-            "{line}"
-        );
+        assert!(rt; submits(&rt, line, values, false), "{line}");
     }
-    Ok(())
 }
 
 #[test]
-fn submissions(rt: HostRuntime) -> Result<(), Fail> {
+fn submissions(rt: HostRuntime) {
+    let defaults = defaults(&rt);
     let values = JobValues {
-        priority: Priority::new(3).ok_or("priority")?,
-        ..defaults()?
+        priority: Priority::new(3).unwrap(),
+        ..defaults
     };
-    let held = true;
-    assert!(rt;
-        asks(
-            rt.alloc(),
-            "qsub -hp 3",
-            &[Command::Submit { values, held }]
-        )?
-    );
+    assert!(rt; submits(&rt, "qsub -hp 3", values, true));
     let values = JobValues {
-        nodes: Nodes::new(2).ok_or("nodes")?,
-        limit: Limit::new(60).ok_or("limit")?,
-        sites: SiteSet::new(&[site(1)?]).ok_or("sites")?,
-        ..defaults()?
+        nodes: Nodes::new(2).unwrap(),
+        limit: Limit::new(60).unwrap(),
+        sites: SiteSet::new(&[site(1)]).unwrap(),
+        ..defaults
     };
-    let held = false;
     let line = "qsub -l nodes=2,walltime=60,sites=lemont+lemont run.sh";
-    assert!(rt; asks(rt.alloc(), line, &[Command::Submit { values, held }])?);
+    assert!(rt; submits(&rt, line, values, false));
     let values = JobValues {
-        nodes: Nodes::new(4).ok_or("nodes")?,
-        ..defaults()?
-    };
-    let line = "qsub -l walltime=60 -l nodes=3,nodes=4 -";
-    assert!(rt; asks(rt.alloc(), line, &[Command::Submit { values, held }])?);
-    let values = JobValues {
-        name: Word::new("a-h").ok_or("name")?,
-        ..defaults()?
+        nodes: Nodes::new(4).unwrap(),
+        ..defaults
     };
     assert!(rt;
-        asks(
-            rt.alloc(),
-            "qsub -Na-h -- -z",
-            &[Command::Submit { values, held }]
-        )?
+        submits(
+            &rt,
+            "qsub -l walltime=60 -l nodes=3,nodes=4 -",
+            values,
+            false
+        )
     );
-    Ok(())
+    let values = JobValues {
+        name: Word::new("a-h").expect(&rt, "a name"),
+        ..defaults
+    };
+    assert!(rt; submits(&rt, "qsub -Na-h -- -z", values, false));
 }
 
 #[test]
-fn accounts(rt: HostRuntime) -> Result<(), Fail> {
-    let values = JobValues {
-        account: Account::new("chem").ok_or("account")?,
-        ..defaults()?
-    };
+fn accounts(rt: HostRuntime) {
     for (line, held) in [
         ("qsub -A chem", false),
         ("qsub -hA chem", true),
         ("qsub -hAchem", true),
     ] {
-        assert!(rt;
-            asks(rt.alloc(), line, &[Command::Submit { values, held }])?,
-            "{line}"
-        );
+        let account = Account::new("chem").expect(&rt, "an account");
+        let values = JobValues {
+            account,
+            ..defaults(&rt)
+        };
+        assert!(rt; submits(&rt, line, values, held), "{line}");
     }
-    Ok(())
 }
 
 #[test]
-fn operands_in_order_and_once(rt: HostRuntime) -> Result<(), Fail> {
-    let job = job(1, 0)?;
+fn operands_in_order_and_once(rt: HostRuntime) {
+    let job = job(1, 0);
     let changes = Changes {
         priority: Priority::new(1),
         ..nothing_set()
     };
     let line = "qalter -p 1 -- 1 1.argonne";
-    assert!(rt; asks(rt.alloc(), line, &[Command::Alter { job, changes }])?);
-    let second = self::job(2, 1)?;
+    assert!(rt; asks(&rt, line, &[Command::Alter { job, changes }]));
+    let second = self::job(2, 1);
     let line = "qdel 2.lemont 0000000001 1.argonne 02.lemont";
     let deletions = [Command::Delete { job: second }, Command::Delete { job }];
-    assert!(rt; asks(rt.alloc(), line, &deletions)?);
+    assert!(rt; asks(&rt, line, &deletions));
     let changes = nothing_set();
-    assert!(rt; asks(rt.alloc(), "qalter 1", &[Command::Alter { job, changes }])?);
-    Ok(())
+    assert!(rt; asks(&rt, "qalter 1", &[Command::Alter { job, changes }]));
 }
 
 #[test]
-fn holds(rt: HostRuntime) -> Result<(), Fail> {
-    let job = job(1, 0)?;
+fn holds(rt: HostRuntime) {
+    let job = job(1, 0);
     let cases: [(&str, HoldKinds); 4] = [
         ("qhold 1", HoldKinds::USER),
         ("qhold -h uuo 1", HoldKinds::USER | HoldKinds::OPERATOR),
@@ -235,24 +215,14 @@ fn holds(rt: HostRuntime) -> Result<(), Fail> {
         ("qhold -h s -- 1", HoldKinds::SYSTEM),
     ];
     for (line, kinds) in cases {
-        assert!(rt;
-            asks(rt.alloc(), line, &[Command::Hold { job, kinds }])?,
-            "{line}"
-        );
+        assert!(rt; asks(&rt, line, &[Command::Hold { job, kinds }]), "{line}");
     }
     let kinds = HoldKinds::SYSTEM | HoldKinds::OPERATOR;
-    assert!(rt;
-        asks(
-            rt.alloc(),
-            "qrls -h so 1",
-            &[Command::Release { job, kinds }]
-        )?
-    );
-    Ok(())
+    assert!(rt; asks(&rt, "qrls -h so 1", &[Command::Release { job, kinds }]));
 }
 
 #[test]
-fn listings(rt: HostRuntime) -> Result<(), Fail> {
+fn listings(rt: HostRuntime) {
     let cases: [(&str, bool, usize); 4] = [
         ("qstat", false, 0),
         ("qstat -ff", true, 0),
@@ -260,35 +230,28 @@ fn listings(rt: HostRuntime) -> Result<(), Fail> {
         ("qstat 3 4 3.lemont", false, 3),
     ];
     for (line, is_full, count) in &cases {
-        match read(rt.alloc(), line)? {
+        match read(&rt, line) {
             Ok(Request::List { full, jobs }) => {
-                assert_eq!(rt; full, *is_full, "{line}");
-                assert_eq!(rt; jobs.len(), *count, "{line}");
+                assert!(rt; full == *is_full && jobs.len() == *count, "{line}");
             }
-            _ => return Err("no listing".into()),
+            _ => panic!(rt; "{line}"),
         }
     }
-    Ok(())
 }
 
 #[test]
-fn readers_of_one_word(rt: HostRuntime) -> Result<(), Fail> {
-    assert_eq!(rt; read_number("18446744073709551615"), Some(u64::MAX));
-    assert_eq!(rt; read_number("18446744073709551616"), None);
-    assert_eq!(rt;
-        read_number("0000000000000000000000000000000000007"),
-        Some(7)
-    );
+fn readers_of_one_word(rt: HostRuntime) {
+    assert!(rt; read_number("18446744073709551615") == Some(u64::MAX));
+    assert!(rt; read_number("18446744073709551616").is_none());
+    assert!(rt; read_number("0000000000000000000000000000000000007") == Some(7));
     for word in ["", "+1", "-1", "1.", " 1"] {
-        assert_eq!(rt; read_number(word), None, "{word}");
+        assert!(rt; read_number(word).is_none(), "{word}");
     }
-    assert_eq!(rt; read_priority("-0"), Priority::new(0));
+    assert!(rt; read_priority("-0") == Priority::new(0));
     for word in ["", "+", "-", "+-1", "1024", "99999999999999999999999"] {
-        assert_eq!(rt; read_priority(word), None, "{word}");
+        assert!(rt; read_priority(word).is_none(), "{word}");
     }
-    let job = read_identifier(&roster()?, site(1)?, "7").ok();
-    assert_eq!(rt; job, Some(self::job(7, 1)?));
-    let job = read_identifier(&roster()?, site(1)?, "0000000007.argonne").ok();
-    assert_eq!(rt; job, Some(self::job(7, 0)?));
-    Ok(())
+    let roster = roster(&rt);
+    assert!(rt; read_identifier(&roster, site(1), "7") == Ok(job(7, 1)));
+    assert!(rt; read_identifier(&roster, site(1), "0000000007.argonne") == Ok(job(7, 0)));
 }

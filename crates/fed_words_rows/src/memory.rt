@@ -2,7 +2,6 @@
 //! so by 8: the test passes whichever growth is refused, which `rt try --test --fail-alloc N` does for the Nth.
 use fed_stamp::{Roster, SiteId};
 use fed_words::read_words;
-use std::test::Fail;
 
 /// Words for which the options, the sites, the operands and the commands each need memory, and the number of the fault
 /// that they are answered by, or 0 where they ask something.
@@ -33,10 +32,9 @@ const LINES: [(&[&str], u8); 8] = [
 ];
 
 #[test]
-fn refused_growths(rt: HostRuntime) -> Result<(), Fail> {
-    let roster = Roster::new(&[("argonne", 8), ("lemont", 4)]).ok();
-    let roster = roster.ok_or("roster")?;
-    let here = SiteId::new(0).ok_or("site")?;
+fn refused_growths(rt: HostRuntime) {
+    let roster = Roster::new(&[("argonne", 8), ("lemont", 4)]).expect(&rt, "a roster");
+    let here = SiteId::new(0).unwrap();
     for (words, number) in &LINES {
         let answered = match read_words(rt.alloc(), words, &roster, here) {
             Ok(_request) => 0,
@@ -47,5 +45,4 @@ fn refused_growths(rt: HostRuntime) -> Result<(), Fail> {
             "{words:?} {answered}"
         );
     }
-    Ok(())
 }

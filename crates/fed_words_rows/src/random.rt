@@ -175,10 +175,9 @@ fn kind(plain: &Result<Asked, u8>) -> u8 {
 
 #[test]
 fn random_words(rt: HostRuntime) -> Result<(), Fail> {
-    let roster = Roster::new(&[(SITES[0], 8), (SITES[1], 4), (SITES[2], 2)])
-        .ok()
-        .ok_or("roster")?;
-    let here = SiteId::new(1).ok_or("site")?;
+    let sites = [(SITES[0], 8), (SITES[1], 4), (SITES[2], 2)];
+    let roster = Roster::new(&sites).expect(&rt, "a roster");
+    let here = SiteId::new(1).unwrap();
     let mut numbers = Numbers { state: 2026 };
     let mut met = [0u32; 9];
     for _ in 0..30_000 {
