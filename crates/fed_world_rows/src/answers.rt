@@ -4,39 +4,38 @@ use fed_record::{HoldKind, JobRecord, Letter, Reply};
 use fed_replica::Taken;
 use fed_stamp::{JobId, Roster, SiteId, Stamp, Word};
 use fed_world::Outcome;
-use std::alloc::Global;
-use std::test::Fail;
+use std::process::Abort;
 
-fn name(roster: &Roster, site: SiteId) -> Result<&str, Fail> {
-    Ok(roster.name(site).ok_or("a site's name")?)
+fn name<'a>(rt: &impl Abort, roster: &'a Roster, site: SiteId) -> &'a str {
+    roster.name(site).expect(rt, "a site's name")
 }
 
-fn identifier(alloc: Global, roster: &Roster, id: Stamp) -> Result<String, Fail> {
+fn identifier(rt: &(impl Abort + AllocGlobal), roster: &Roster, id: Stamp) -> String {
     let counter = id.counter();
-    let site = name(roster, id.site())?;
-    Ok(format!(in alloc; "{counter}.{site}")?)
+    let site = name(rt, roster, id.site());
+    format!(in rt.alloc(); "{counter}.{site}").expect(rt, "memory")
 }
 
-fn text(alloc: Global, word: &str) -> Result<String, Fail> {
-    Ok(String::from_str(alloc, word)?)
+fn text(rt: &(impl Abort + AllocGlobal), word: &str) -> String {
+    String::from_str(rt.alloc(), word).expect(rt, "memory")
 }
 
-fn reply_text(alloc: Global, roster: &Roster, reply: Reply) -> Result<String, Fail> {
+fn reply_text(rt: &(impl Abort + AllocGlobal), roster: &Roster, reply: Reply) -> String {
     match reply {
-        Reply::Submitted(id) | Reply::Reserved(id) => identifier(alloc, roster, id),
-        Reply::Done => text(alloc, "done"),
-        Reply::Granted => text(alloc, "granted"),
-        Reply::Yours => text(alloc, "yours"),
+        Reply::Submitted(id) | Reply::Reserved(id) => identifier(rt, roster, id),
+        Reply::Done => text(rt, "done"),
+        Reply::Granted => text(rt, "granted"),
+        Reply::Yours => text(rt, "yours"),
     }
 }
 
-fn numbered(alloc: Global, word: &str, number: u64) -> Result<String, Fail> {
-    Ok(format!(in alloc; "{word} {number}")?)
+fn numbered(rt: &(impl Abort + AllocGlobal), word: &str, number: u64) -> String {
+    format!(in rt.alloc(); "{word} {number}").expect(rt, "memory")
 }
 
-fn gap(alloc: Global, roster: &Roster, missing: SiteId) -> Result<String, Fail> {
-    let site = name(roster, missing)?;
-    Ok(format!(in alloc; "gap {site}")?)
+fn gap(rt: &(impl Abort + AllocGlobal), roster: &Roster, missing: SiteId) -> String {
+    let site = name(rt, roster, missing);
+    format!(in rt.alloc(); "gap {site}").expect(rt, "memory")
 }
 
 fn taken_word(taken: Taken) -> &'static str {
@@ -45,24 +44,24 @@ fn taken_word(taken: Taken) -> &'static str {
 
 /// The line that answers an event.
 pub(crate) fn outcome_line(
-    alloc: Global,
+    rt: &(impl Abort + AllocGlobal),
     roster: &Roster,
     outcome: &Outcome,
-) -> Result<String, Fail> {
+) -> String {
     match *outcome {
-        Outcome::Replied(reply) => reply_text(alloc, roster, reply),
-        Outcome::Refused(refusal) => numbered(alloc, "refused", refusal.number() as u64),
-        Outcome::Packet(packet) => numbered(alloc, "packet", packet),
-        Outcome::Taken(taken) => text(alloc, taken_word(taken)),
-        Outcome::Gap(missing) => gap(alloc, roster, missing),
-        Outcome::NoPacket => text(alloc, "no packet"),
-        Outcome::NoSite => text(alloc, "no site"),
+        Outcome::Replied(reply) => reply_text(rt, roster, reply),
+        Outcome::Refused(refusal) => numbered(rt, "refused", refusal.number() as u64),
+        Outcome::Packet(packet) => numbered(rt, "packet", packet),
+        Outcome::Taken(taken) => text(rt, taken_word(taken)),
+        Outcome::Gap(missing) => gap(rt, roster, missing),
+        Outcome::NoPacket => text(rt, "no packet"),
+        Outcome::NoSite => text(rt, "no site"),
     }
 }
 
 /// The line that answers words by the number of their fault.
-pub(crate) fn usage_line(alloc: Global, number: u8) -> Result<String, Fail> {
-    numbered(alloc, "usage", number as u64)
+pub(crate) fn usage_line(rt: &(impl Abort + AllocGlobal), number: u8) -> String {
+    numbered(rt, "usage", number as u64)
 }
 
 fn letter_sign(letter: Letter) -> char {
@@ -75,10 +74,10 @@ fn letter_sign(letter: Letter) -> char {
     }
 }
 
-fn granted<'a>(roster: &'a Roster, held: &JobRecord) -> Result<&'a str, Fail> {
+fn granted<'a>(rt: &impl Abort, roster: &'a Roster, held: &JobRecord) -> &'a str {
     match held.holder() {
-        Some(site) => name(roster, site),
-        None => Ok("-"),
+        Some(site) => name(rt, roster, site),
+        None => "-",
     }
 }
 
@@ -87,36 +86,33 @@ fn hold_sign(held: &JobRecord, kind: HoldKind, sign: &'static str) -> &'static s
 }
 
 /// The kinds of holds that are present, with a space before them.
-fn holds(alloc: Global, held: &JobRecord) -> Result<String, Fail> {
+fn holds(rt: &(impl Abort + AllocGlobal), held: &JobRecord) -> String {
     let user = hold_sign(held, HoldKind::User, "u");
     let operator = hold_sign(held, HoldKind::Operator, "o");
     let system = hold_sign(held, HoldKind::System, "s");
-    Ok(format!(in alloc; " {user}{operator}{system}")?)
+    format!(in rt.alloc(); " {user}{operator}{system}").expect(rt, "memory")
 }
 
 /// The owner and the priority of a job.
-fn fields(held: &JobRecord) -> Result<(Word, i16), Fail> {
-    if held.is_submitted() {
-        Ok((held.owner().1, held.priority().1.get()))
-    } else {
-        Err("a job that is not submitted".into())
-    }
+fn fields(rt: &impl Abort, held: &JobRecord) -> (Word, i16) {
+    assert!(rt; held.is_submitted());
+    (held.owner().1, held.priority().1.get())
 }
 
 /// What a listing shows of a job with a letter: its identifier, owner, letter, priority and the site that it is granted
 /// to.
 fn job_line(
-    alloc: Global,
+    rt: &(impl Abort + AllocGlobal),
     roster: &Roster,
     id: JobId,
     letter: char,
     held: &JobRecord,
-) -> Result<String, Fail> {
-    let id = identifier(alloc, roster, id)?;
-    let (owner, priority) = fields(held)?;
+) -> String {
+    let id = identifier(rt, roster, id);
+    let (owner, priority) = fields(rt, held);
     let owner = owner.as_str();
-    let site = granted(roster, held)?;
-    Ok(format!(in alloc; "{id} {owner} {letter} {priority} {site}")?)
+    let site = granted(rt, roster, held);
+    format!(in rt.alloc(); "{id} {owner} {letter} {priority} {site}").expect(rt, "memory")
 }
 
 /// Whether a listing of these jobs has the job: a listing of none has all.
@@ -126,37 +122,37 @@ fn is_listed(jobs: &[JobId], id: JobId) -> bool {
 
 /// Adds the line of a job, with the kinds of its holds or without, unless the job is gone.
 fn push_job(
-    alloc: Global,
+    rt: &(impl Abort + AllocGlobal),
     lines: &mut String,
     roster: &Roster,
     full: bool,
     id: JobId,
     held: &JobRecord,
-) -> Result<(), Fail> {
+) {
     let Some(letter) = held.letter() else {
-        return Ok(());
+        return;
     };
-    let line = job_line(alloc, roster, id, letter_sign(letter), held)?;
-    lines.push_str(&line)?;
+    let line = job_line(rt, roster, id, letter_sign(letter), held);
+    lines.push_str(&line).expect(rt, "memory");
     if full {
-        lines.push_str(&holds(alloc, held)?)?;
+        lines.push_str(&holds(rt, held)).expect(rt, "memory");
     }
-    Ok(lines.push('\n')?)
+    lines.push('\n').expect(rt, "memory");
 }
 
 /// The lines of a listing.
 pub(crate) fn listing(
-    alloc: Global,
+    rt: &(impl Abort + AllocGlobal),
     roster: &Roster,
     board: &Board,
     full: bool,
     jobs: &[JobId],
-) -> Result<String, Fail> {
-    let mut lines = String::new(alloc);
+) -> String {
+    let mut lines = String::new(rt.alloc());
     for (id, held) in board.jobs() {
         if is_listed(jobs, *id) {
-            push_job(alloc, &mut lines, roster, full, *id, held)?;
+            push_job(rt, &mut lines, roster, full, *id, held);
         }
     }
-    Ok(lines)
+    lines
 }

@@ -3,8 +3,7 @@ use fed_record::{Command, Moment, Role, Who, Window};
 use fed_stamp::{JobId, Roster, SiteId, Word};
 use fed_words::{Request, UsageFault, read_identifier, read_number, read_words};
 use fed_world::Event;
-use std::alloc::Global;
-use std::test::Fail;
+use std::process::Abort;
 
 /// What a line asks.
 #[derive(Drop)]
@@ -21,39 +20,41 @@ pub(crate) enum Line {
     Misused(UsageFault),
 }
 
-fn word<'a>(words: &[&'a str], place: usize) -> Result<&'a str, Fail> {
-    Ok(words.get(place).copied().ok_or("a word is missing")?)
+fn word<'a>(rt: &impl Abort, words: &[&'a str], place: usize) -> &'a str {
+    words.get(place).copied().expect(rt, "a word")
 }
 
-fn number(words: &[&str], place: usize) -> Result<u64, Fail> {
-    Ok(read_number(word(words, place)?).ok_or("a number")?)
+fn number(rt: &impl Abort, words: &[&str], place: usize) -> u64 {
+    read_number(word(rt, words, place)).expect(rt, "a number")
 }
 
-fn moment(words: &[&str], place: usize) -> Result<Moment, Fail> {
-    Ok(Moment::new(number(words, place)?).ok_or("a moment")?)
+fn moment(rt: &impl Abort, words: &[&str], place: usize) -> Moment {
+    Moment::new(number(rt, words, place)).expect(rt, "a moment")
 }
 
-fn status(words: &[&str], place: usize) -> Result<u8, Fail> {
-    Ok(u8::try_from(number(words, place)?).ok().ok_or("a status")?)
+fn status(rt: &impl Abort, words: &[&str], place: usize) -> u8 {
+    u8::try_from(number(rt, words, place))
+        .ok()
+        .expect(rt, "a status")
 }
 
-fn site(roster: &Roster, words: &[&str], place: usize) -> Result<SiteId, Fail> {
-    Ok(roster.find(word(words, place)?).ok_or("a site")?)
+fn site(rt: &impl Abort, roster: &Roster, words: &[&str], place: usize) -> SiteId {
+    roster.find(word(rt, words, place)).expect(rt, "a site")
 }
 
-fn identifier(roster: &Roster, here: SiteId, words: &[&str]) -> Result<JobId, Fail> {
-    Ok(read_identifier(roster, here, word(words, 0)?)?)
+fn identifier(rt: &impl Abort, roster: &Roster, here: SiteId, words: &[&str]) -> JobId {
+    read_identifier(roster, here, word(rt, words, 0)).expect(rt, "an identifier")
 }
 
 /// A user, with a role behind the name or none.
-fn asker(text: &str) -> Result<Who, Fail> {
+fn asker(rt: &impl Abort, text: &str) -> Who {
     let (name, role) = match text.split_once('/') {
         Some((name, "admin")) => (name, Role::Administrator),
         Some((name, _operator)) => (name, Role::Operator),
         None => (text, Role::User),
     };
-    let user = Word::new(name).ok_or("a user")?;
-    Ok(Who { user, role })
+    let user = Word::new(name).expect(rt, "a user");
+    Who { user, role }
 }
 
 fn does(site: SiteId, who: Who, command: Command) -> Line {
@@ -61,44 +62,50 @@ fn does(site: SiteId, who: Who, command: Command) -> Line {
 }
 
 /// What a site's own scheduler asks.
-fn scheduled(roster: &Roster, here: SiteId, verb: &str, words: &[&str]) -> Result<Command, Fail> {
-    let job = identifier(roster, here, words)?;
+fn scheduled(
+    rt: &impl Abort,
+    roster: &Roster,
+    here: SiteId,
+    verb: &str,
+    words: &[&str],
+) -> Command {
+    let job = identifier(rt, roster, here, words);
     match verb {
-        "grant" => Ok(Command::Grant {
+        "grant" => Command::Grant {
             job,
-            asker: site(roster, words, 1)?,
-        }),
-        "handback" => Ok(Command::HandBack { job }),
-        "begin" => Ok(Command::Begin {
+            asker: site(rt, roster, words, 1),
+        },
+        "handback" => Command::HandBack { job },
+        "begin" => Command::Begin {
             job,
-            moment: moment(words, 1)?,
-        }),
-        _finish => Ok(Command::Finish {
+            moment: moment(rt, words, 1),
+        },
+        _finish => Command::Finish {
             job,
-            moment: moment(words, 1)?,
-            status: status(words, 2)?,
-        }),
+            moment: moment(rt, words, 1),
+            status: status(rt, words, 2),
+        },
     }
 }
 
-fn reservation(roster: &Roster, words: &[&str]) -> Result<Command, Fail> {
+fn reservation(rt: &impl Abort, roster: &Roster, words: &[&str]) -> Command {
     let window = Window {
-        site: site(roster, words, 0)?,
-        start: number(words, 1)?,
-        end: number(words, 2)?,
-        nodes: number(words, 3)?,
+        site: site(rt, roster, words, 0),
+        start: number(rt, words, 1),
+        end: number(rt, words, 2),
+        nodes: number(rt, words, 3),
     };
-    Ok(Command::Reserve { window })
+    Command::Reserve { window }
 }
 
-fn cancellation(roster: &Roster, here: SiteId, words: &[&str]) -> Result<Command, Fail> {
-    let reservation = identifier(roster, here, words)?;
-    Ok(Command::Cancel { reservation })
+fn cancellation(rt: &impl Abort, roster: &Roster, here: SiteId, words: &[&str]) -> Command {
+    let reservation = identifier(rt, roster, here, words);
+    Command::Cancel { reservation }
 }
 
 /// What the words of a utility ask.
-fn used(alloc: Global, roster: &Roster, here: SiteId, who: Who, words: &[&str]) -> Line {
-    match read_words(alloc, words, roster, here) {
+fn used(rt: &impl AllocGlobal, roster: &Roster, here: SiteId, who: Who, words: &[&str]) -> Line {
+    match read_words(rt.alloc(), words, roster, here) {
         Ok(Request::Acts(commands)) => Line::Acts(here, who, commands),
         Ok(Request::List { full, jobs }) => Line::Lists(here, full, jobs),
         Err(fault) => Line::Misused(fault),
@@ -107,70 +114,71 @@ fn used(alloc: Global, roster: &Roster, here: SiteId, who: Who, words: &[&str]) 
 
 /// What a user asks.
 fn asked(
-    alloc: Global,
+    rt: &(impl Abort + AllocGlobal),
     roster: &Roster,
     here: SiteId,
     who: Who,
     words: &[&str],
-) -> Result<Line, Fail> {
+) -> Line {
     match words {
-        ["reserve", others @ ..] => Ok(does(here, who, reservation(roster, others)?)),
-        ["cancel", others @ ..] => Ok(does(here, who, cancellation(roster, here, others)?)),
-        _ => Ok(used(alloc, roster, here, who, words)),
+        ["reserve", others @ ..] => does(here, who, reservation(rt, roster, others)),
+        ["cancel", others @ ..] => does(here, who, cancellation(rt, roster, here, others)),
+        _ => used(rt, roster, here, who, words),
     }
 }
 
 /// What is asked at a site.
 fn at_site(
-    alloc: Global,
+    rt: &(impl Abort + AllocGlobal),
     roster: &Roster,
     here: SiteId,
     verb: &str,
     words: &[&str],
-) -> Result<Line, Fail> {
+) -> Line {
     match verb {
-        "ship" => Ok(Line::Happens(Event::Ship {
+        "ship" => Line::Happens(Event::Ship {
             site: here,
-            to: site(roster, words, 0)?,
-        })),
-        "take" => Ok(Line::Happens(Event::Take {
+            to: site(rt, roster, words, 0),
+        }),
+        "take" => Line::Happens(Event::Take {
             site: here,
-            packet: number(words, 0)?,
-        })),
+            packet: number(rt, words, 0),
+        }),
         "grant" | "handback" | "begin" | "finish" => {
-            let command = scheduled(roster, here, verb, words)?;
-            Ok(does(here, asker("scheduler")?, command))
+            let command = scheduled(rt, roster, here, verb, words);
+            does(here, asker(rt, "scheduler"), command)
         }
-        _user => asked(alloc, roster, here, asker(verb)?, words),
+        _user => asked(rt, roster, here, asker(rt, verb), words),
     }
 }
 
 /// What a line asks.
-pub(crate) fn read_line(alloc: Global, roster: &Roster, line: &str) -> Result<Line, Fail> {
-    let words: Vec<&str> = line.split_ascii_whitespace().collect(alloc)?;
+pub(crate) fn read_line(rt: &(impl Abort + AllocGlobal), roster: &Roster, line: &str) -> Line {
+    let words = line.split_ascii_whitespace().collect(rt.alloc());
+    let words: Vec<&str> = words.expect(rt, "memory");
     match words.as_slice() {
-        ["equal", others @ ..] => Ok(Line::Compares(
-            site(roster, others, 0)?,
-            site(roster, others, 1)?,
-        )),
+        ["equal", others @ ..] => Line::Compares(
+            site(rt, roster, others, 0),
+            site(rt, roster, others, 1),
+        ),
         [name, verb, others @ ..] => {
-            let here = roster.find(name).ok_or("a site")?;
-            at_site(alloc, roster, here, verb, others)
+            let here = roster.find(name).expect(rt, "a site");
+            at_site(rt, roster, here, verb, others)
         }
-        _ => Err("a line".into()),
+        _ => panic!(rt; "a line"),
     }
 }
 
-fn entry(word: &str) -> Result<(&str, u64), Fail> {
-    let (name, nodes) = word.split_once(':').ok_or("a site and its nodes")?;
-    Ok((name, read_number(nodes).ok_or("a number of nodes")?))
+fn entry<'a>(rt: &impl Abort, word: &'a str) -> (&'a str, u64) {
+    let (name, nodes) = word.split_once(':').expect(rt, "a site and its nodes");
+    (name, read_number(nodes).expect(rt, "a number of nodes"))
 }
 
 /// The roster of a line, where behind the first word stand the sites, each a name, a colon and a number of nodes.
-pub(crate) fn read_roster(alloc: Global, line: &str) -> Result<Roster, Fail> {
-    let mut sites: Vec<(&str, u64)> = Vec::new(alloc);
+pub(crate) fn read_roster(rt: &(impl Abort + AllocGlobal), line: &str) -> Roster {
+    let mut sites: Vec<(&str, u64)> = Vec::new(rt.alloc());
     for word in line.split_ascii_whitespace().skip(1) {
-        sites.push(entry(word)?)?;
+        sites.push(entry(rt, word)).expect(rt, "memory");
     }
-    Ok(Roster::new(&sites)?)
+    Roster::new(&sites).expect(rt, "a roster")
 }

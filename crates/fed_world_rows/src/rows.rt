@@ -1,6 +1,5 @@
 //! Rows of lines and their answers.
 use crate::play::is_answered;
-use std::test::Fail;
 
 /// All rows.
 pub(crate) const ALL: [&str; 13] = [
@@ -392,79 +391,66 @@ known\n\
 1.argonne ann T 0 argonne\n";
 
 #[test]
-fn exchange(rt: HostRuntime) -> Result<(), Fail> {
-    assert!(rt; is_answered(rt.alloc(), EXCHANGE, EXCHANGE_ANSWERS)?);
-    Ok(())
+fn exchange(rt: HostRuntime) {
+    assert!(rt; is_answered(&rt, EXCHANGE, EXCHANGE_ANSWERS));
 }
 
 #[test]
-fn later_site_wins_a_tie(rt: HostRuntime) -> Result<(), Fail> {
-    assert!(rt; is_answered(rt.alloc(), TIE, TIE_ANSWERS)?);
-    Ok(())
+fn later_site_wins_a_tie(rt: HostRuntime) {
+    assert!(rt; is_answered(&rt, TIE, TIE_ANSWERS));
 }
 
 #[test]
-fn unseen_hold_survives(rt: HostRuntime) -> Result<(), Fail> {
-    assert!(rt; is_answered(rt.alloc(), UNSEEN_HOLD, UNSEEN_HOLD_ANSWERS)?);
-    Ok(())
+fn unseen_hold_survives(rt: HostRuntime) {
+    assert!(rt; is_answered(&rt, UNSEEN_HOLD, UNSEEN_HOLD_ANSWERS));
 }
 
 #[test]
-fn repeats_change_nothing(rt: HostRuntime) -> Result<(), Fail> {
-    assert!(rt; is_answered(rt.alloc(), REPEATS, REPEATS_ANSWERS)?);
-    Ok(())
+fn repeats_change_nothing(rt: HostRuntime) {
+    assert!(rt; is_answered(&rt, REPEATS, REPEATS_ANSWERS));
 }
 
 #[test]
-fn late_packet_brings_nothing_back(rt: HostRuntime) -> Result<(), Fail> {
-    assert!(rt; is_answered(rt.alloc(), LATE_PACKET, LATE_PACKET_ANSWERS)?);
-    Ok(())
+fn late_packet_brings_nothing_back(rt: HostRuntime) {
+    assert!(rt; is_answered(&rt, LATE_PACKET, LATE_PACKET_ANSWERS));
 }
 
 #[test]
-fn packet_for_another_is_a_gap(rt: HostRuntime) -> Result<(), Fail> {
-    assert!(rt; is_answered(rt.alloc(), GAP, GAP_ANSWERS)?);
-    Ok(())
+fn packet_for_another_is_a_gap(rt: HostRuntime) {
+    assert!(rt; is_answered(&rt, GAP, GAP_ANSWERS));
 }
 
 #[test]
-fn one_site_begins_a_job(rt: HostRuntime) -> Result<(), Fail> {
-    assert!(rt; is_answered(rt.alloc(), DESK, DESK_ANSWERS)?);
-    Ok(())
+fn one_site_begins_a_job(rt: HostRuntime) {
+    assert!(rt; is_answered(&rt, DESK, DESK_ANSWERS));
 }
 
 #[test]
-fn deleted_job_that_began_is_listed(rt: HostRuntime) -> Result<(), Fail> {
-    assert!(rt; is_answered(rt.alloc(), DELETE_AND_BEGIN, DELETE_AND_BEGIN_ANSWERS)?);
-    Ok(())
+fn deleted_job_that_began_is_listed(rt: HostRuntime) {
+    assert!(rt; is_answered(&rt, DELETE_AND_BEGIN, DELETE_AND_BEGIN_ANSWERS));
 }
 
 #[test]
-fn roles_permit(rt: HostRuntime) -> Result<(), Fail> {
-    assert!(rt; is_answered(rt.alloc(), ROLES, ROLES_ANSWERS)?);
-    Ok(())
+fn roles_permit(rt: HostRuntime) {
+    assert!(rt; is_answered(&rt, ROLES, ROLES_ANSWERS));
 }
 
 #[test]
-fn jobs_of_many_nodes(rt: HostRuntime) -> Result<(), Fail> {
-    assert!(rt; is_answered(rt.alloc(), NODES, NODES_ANSWERS)?);
-    Ok(())
+fn jobs_of_many_nodes(rt: HostRuntime) {
+    assert!(rt; is_answered(&rt, NODES, NODES_ANSWERS));
 }
 
 #[test]
-fn reservation_is_cancelled(rt: HostRuntime) -> Result<(), Fail> {
-    assert!(rt; is_answered(rt.alloc(), RESERVATION, RESERVATION_ANSWERS)?);
-    Ok(())
+fn reservation_is_cancelled(rt: HostRuntime) {
+    assert!(rt; is_answered(&rt, RESERVATION, RESERVATION_ANSWERS));
 }
 
 #[test]
-fn reservations_stand_side_by_side(rt: HostRuntime) -> Result<(), Fail> {
-    assert!(rt; is_answered(rt.alloc(), RESERVATIONS, RESERVATIONS_ANSWERS)?);
-    Ok(())
+fn reservations_stand_side_by_side(rt: HostRuntime) {
+    assert!(rt; is_answered(&rt, RESERVATIONS, RESERVATIONS_ANSWERS));
 }
 
 #[test]
-fn grant_is_handed_back(rt: HostRuntime) -> Result<(), Fail> {
-    assert!(rt; is_answered(rt.alloc(), HAND_BACK, HAND_BACK_ANSWERS)?);
-    Ok(())
+fn grant_is_handed_back(rt: HostRuntime) {
+    assert!(rt; is_answered(&rt, HAND_BACK, HAND_BACK_ANSWERS));
 }
