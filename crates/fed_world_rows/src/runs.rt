@@ -82,7 +82,8 @@ fn events_without_a_packet_or_a_site(rt: HostRuntime) {
 /// Whether each site of the roster has the same board in both worlds.
 fn have_same_boards(roster: &Roster, world: &World, other: &World) -> bool {
     for number in 0..roster.len() as u8 {
-        if world.board(site(number)) != other.board(site(number)) {
+        let board = world.board(site(number));
+        if board.is_none() || board != other.board(site(number)) {
             return false;
         }
     }
