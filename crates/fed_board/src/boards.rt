@@ -24,11 +24,10 @@ ghost use Rattle.fed_board.specs.View.{view};
 ghost use Rattle.fed_board.specs.ViewSteps.{add_to_view, join_views, join_records};
 
 use crate::counts::{change_at, count_more, count_names};
-use fed_lattice::{Causal, ExactEq, NoMemory, Table, join_entries};
+use fed_lattice::{Causal, Entries, ExactEq, NoMemory, Table, join_entries};
 use fed_record::{JobRecord, Operation, Reservation};
 use fed_stamp::{JobId, SITES, SiteId, Stamp, Version};
 use std::alloc::Global;
-use std::collections::btree_map::Iter;
 use std::marker::Model;
 
 /// What is read of a set of operations: its version, the record of each job, by the stamp of its `Submit`, and each
@@ -109,7 +108,7 @@ impl Board {
 
     /// The jobs on the board with their records, in ascending order of the stamps of their Submits. They are exactly
     /// the jobs that are submitted.
-    pub fn jobs(&self) -> Iter<'_, JobId, JobRecord>
+    pub fn jobs(&self) -> Entries<'_, JobId, JobRecord>
         ensures entries { result ≡ self.now.jobs }
         ensures runs { ShowsInOrder (deref_pair {K = StampValue} {X = JobRecordValue}) }
         ensures ascending { IsStrictlySortedBy stamp_cmp (keys_of self.now.jobs) }
@@ -134,7 +133,7 @@ impl Board {
 
     /// The reservations on the board, in ascending order of the stamps of their Reserves. They are exactly those that
     /// are made.
-    pub fn reservations(&self) -> Iter<'_, Stamp, Reservation>
+    pub fn reservations(&self) -> Entries<'_, Stamp, Reservation>
         ensures entries { result ≡ self.now.reservations }
         ensures runs { ShowsInOrder (deref_pair {K = StampValue} {X = ReservationView}) }
         ensures ascending { IsStrictlySortedBy stamp_cmp (keys_of self.now.reservations) }

@@ -2,7 +2,7 @@
 use Rattle.std.specs.BTreeMap.{is_at}
 use Rattle.std.specs.Map.{keys_of, lookup}
 use Rattle.std.specs.Cmp.{IsTotalOrder}
-use Rattle.std.proofs.Common.{◌≡◌, ℕ, List, Bool, true, false, cond, Option, Some, is_some, unwrap_or, IfSome, Ordering, refl, sym, ap, subst, ◌∙◌}
+use Rattle.std.proofs.Common.{◌≡◌, ℕ, List, true, cond, Some, is_some, unwrap_or, IfSome, Ordering, sym, ap, subst, ◌∙◌}
 use Rattle.std.proofs.lemmas.Map.Lookups.{CmpEqualImpliesEq}
 use Rattle.fed_lattice.specs.Table.{IsAtEach, value_at}
 use Rattle.fed_lattice.specs.JoinedEntries.{joined_entries}

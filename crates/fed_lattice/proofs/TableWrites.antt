@@ -36,11 +36,13 @@ module _ {K X : Type 0} (R : K → K → Ordering) (o : IsTotalOrder R) where
     by_order Greater i rest = rw i (ap (λ l. e ∷ l) (rest (rw i at h)))
 
   module _ (es self fs : List (K × X)) (k : K) (v w : X) (same : es ≡ self) (h : Some v ≡ lookup (is_at (R k)) es) (e : fs ≡ set_value (is_at (R k)) es w) where
+    pub inserted_present : (x : X) → IsStrictlySortedBy R (keys_of es) → w ≡ x → fs ≡ insert_entry R self k x
+    inserted_present x sorted i = e ∙ set_value-insert es k v w sorted h ∙ ap (insert_entry R es k) i ∙ ap (λ l. insert_entry R l k x) same
+
     pub applied_present : {C : Type 0} (bottom : X) (applied : X → StampValue → C → X) (s : StampValue) (d : C) → IsStrictlySortedBy R (keys_of es) → w ≡ applied v s d → fs ≡ applied_table R bottom applied self s (k, d)
     applied_present {C} bottom applied s d sorted i =
-        e ∙ set_value-insert es k v w sorted h
-        ∙ ap (insert_entry R es k) (i ∙ ap (λ x. applied (unwrap_or x bottom) s d) h)
-        ∙ ap (λ l. applied_table R bottom applied l s (k, d)) same
+        inserted_present _ sorted (i ∙ ap (λ x. applied (unwrap_or x bottom) s d) h)
+        ∙ ap (λ l. insert_entry R self k (applied (unwrap_or (lookup (is_at (R k)) l) bottom) s d)) same
 
     pub unchanged_present : w ≡ v → fs ≡ self
     unchanged_present i = e ∙ set_value_same (is_at (R k)) es w (sym h ∙ ap Some (sym i)) ∙ same

@@ -9,3 +9,9 @@ invariant_of-self g c = (
   c.remove.ensures.ordered,
   subst (λ es. All g.V.Causal.well_formed (values_of es)) (sym c.remove.ensures.entries) (All-map-remove_entry _ (λ e. e.1) g.V.Causal.well_formed _ c.self.invariant.1),
 )
+
+pub invariant_of-self-2 : goal.invariant_of-self-2
+invariant_of-self-2 g c = (
+  c.remove.ensures.ordered,
+  subst (λ es. All g.V.Causal.well_formed (values_of es)) (sym c.remove.ensures.entries) (All-map-remove_entry _ (λ e. e.1) g.V.Causal.well_formed _ c.self.invariant.1),
+)
