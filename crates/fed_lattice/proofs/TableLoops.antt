@@ -1,15 +1,15 @@
 -- How loops build tables.
-use Rattle.std.specs.List.{AllByRecursion}
+use Rattle.std.specs.List.{AllByRecursion, list_any}
 use Rattle.std.specs.Ordering.{is_eq, match_ordering, eq_by_cmp, ordering_reverse}
 use Rattle.std.specs.BTreeMap.{insert_entry, is_at}
 use Rattle.std.specs.Map.{keys_of, lookup}
 use Rattle.std.specs.List.Sorted.{IsStrictlySortedBy}
 use Rattle.std.specs.Cmp.{IsTotalOrder, IsEquivalence, eq_by_cmp_equiv}
-use Rattle.std.proofs.Common.{◌≡◌, List, [], ◌∷◌, ◌++◌, Bool, true, false, cond, Option, Some, None, is_some, Ordering, Less, Greater, refl, sym, ap, ap₂, subst, ◌∙◌, append_assoc}
+use Rattle.std.proofs.Common.{◌≡◌, List, [], ◌∷◌, ◌++◌, Bool, true, false, cond, Option, Some, None, is_some, IfSome, Ordering, Less, Greater, refl, sym, ap, subst, ◌∙◌, append_assoc}
 use Rattle.std.proofs.lemmas.Map.Lookups.{CmpEqualImpliesEq}
 use Rattle.std.proofs.lemmas.Map.Views.{tells_apart}
-use Rattle.fed_lattice.specs.Table.{filled}
-use Rattle.fed_lattice.specs.TableEntryLaws.{sorted_insert, sorted_filled, any_lookup, lookup-insert_entry, lookup-filled, same_tables}
+use Rattle.fed_lattice.specs.Table.{filled, IsAtEach}
+use Rattle.fed_lattice.specs.TableEntryLaws.{sorted_insert, sorted_filled, lookup-insert_entry, lookup-filled, same_tables}
 
 -- ---- how the methods build tables
 module _ {K X : Type 0} (R : K → K → Ordering) where
@@ -46,14 +46,27 @@ module _ {K X : Type 0} (R : K → K → Ordering) (o : IsTotalOrder R) (exact :
         same_at true a w f = sym (f refl)
         same_at false a w f = refl
 
-  pub has_filled : (f : K → X) (xs : List (K × X)) (q : K) → is_some (lookup (is_at (R q)) xs) ≡ true → lookup (is_at (R q)) (filled R f [] (keys_of xs)) ≡ Some (f q)
-  has_filled f xs q h = lookup-filled R o exact q f [] (keys_of xs) ∙ ap (λ b. cond b (Some (f q)) None) (any_lookup R o q xs ∙ h)
+  -- the values of a table that is filled by f alone are f's
+  in_cond : (P : X → Type 0) (b : Bool) (x : X) (a : Option X) → (b ≡ true → P x) → IfSome a P → IfSome (cond b (Some x) a) P
+  in_cond P true x a p q = p refl
+  in_cond P false x a p q = q
 
-  pub has_insert : (f : K → X) (es : List (K × X)) (k q : K) → lookup (is_at (R q)) es ≡ Some (f q) → lookup (is_at (R q)) (insert_entry R es k (f k)) ≡ Some (f q)
-  has_insert f es k q h = lookup-insert_entry R o exact q k (f k) es ∙ ap (λ a. cond (is_eq (R q k)) (Some (f k)) a) h ∙ either (is_eq (R q k)) (f k) (f q) (λ e. ap f (sym (tells_apart exact q k e))) where
-    either : (b : Bool) (x y : X) → (b ≡ true → x ≡ y) → cond b (Some x) (Some y) ≡ Some y
-    either true x y g = ap Some (g refl)
-    either false x y g = refl
+  pub values_empty : (f : K → X) → IsAtEach R (λ k x. x ≡ f k) []
+  values_empty f q = tt
+
+  pub values_filled : (f : K → X) (ks : List K) → IsAtEach R (λ k x. x ≡ f k) (filled R f [] ks)
+  values_filled f ks q =
+      subst (λ (a : Option X). IfSome a (λ x. x ≡ f q)) (sym (lookup-filled R o exact q f [] ks))
+      (in_cond (λ x. x ≡ f q) (list_any (eq_by_cmp R q) ks) (f q) None (λ e. refl) tt)
+
+  pub values_insert : (f : K → X) (es : List (K × X)) (k : K) → IsAtEach R (λ k x. x ≡ f k) es → IsAtEach R (λ k x. x ≡ f k) (insert_entry R es k (f k))
+  values_insert f es k h q =
+      subst (λ (a : Option X). IfSome a (λ x. x ≡ f q)) (sym (lookup-insert_entry R o exact q k (f k) es))
+      (in_cond (λ x. x ≡ f q) (is_eq (R q k)) (f k) (lookup (is_at (R q)) es) (λ e. ap f (sym (tells_apart exact q k e))) (h q))
+
+  pub value_there : (x : X) (a : Option X) → IfSome a (λ y. y ≡ x) → is_some a ≡ true → a ≡ Some x
+  value_there x None h i = cc
+  value_there x (Some y) h i = ap Some h
 
 -- one turn of a loop that copies
 pub copied_more : {K X : Type 0} (R : K → K → Ordering) → IsTotalOrder R → (es it rest all new : List (K × X)) (k : K) (v w : X) → es ++ it ≡ all → it ≡ (k, v) ∷ rest → IsStrictlySortedBy R (keys_of all) → w ≡ v → new ≡ insert_entry R es k w → new ++ rest ≡ all
@@ -72,31 +85,18 @@ module _ {K X : Type 0} (R : K → K → Ordering) (f : K → X) where
       let t : filled R f (insert_entry R es k (f k)) rest ≡ all = subst (λ (l : List K). filled R f es l ≡ all) n e in
       subst (λ (l : List (K × X)). filled R f l rest ≡ all) (sym (h ∙ ap (insert_entry R es k) same)) t
 
-  pub filled_start : (es : List (K × X)) (ks ls it : List K) → es ≡ filled R f [] ks → it ≡ ls → filled R f es it ≡ filled R f [] (ks ++ ls)
-  filled_start es ks ls it e n = ap₂ (filled R f) e n ∙ sym (filled-append R f [] ks ls)
-
   pub filled_skip : IsTotalOrder R → CmpEqualImpliesEq R → (es : List (K × X)) (it rest : List K) (k : K) (all : List (K × X)) → filled R f es it ≡ all → it ≡ k ∷ rest → IsStrictlySortedBy R (keys_of es) → lookup (is_at (R k)) es ≡ Some (f k) → filled R f es rest ≡ all
   filled_skip o exact es it rest k all e n s h =
       let t : filled R f (insert_entry R es k (f k)) rest ≡ all = subst (λ (l : List K). filled R f es l ≡ all) n e in
       subst (λ (l : List (K × X)). filled R f l rest ≡ all) (insert_present R o exact es k (f k) s h) t
 
--- the second of these loops, over the keys of ys, where `all` is the whole
-module _ {K X : Type 0} (R : K → K → Ordering) (o : IsTotalOrder R) (exact : CmpEqualImpliesEq R) (f : K → X) (xs : List (K × X)) (all : List (K × X)) where
-  -- what is left to fill in, that the keys ascend, and that the values at the keys of xs are there
+-- such a loop that leaves out the keys that are there, where `all` is the whole
+module _ {K X : Type 0} (R : K → K → Ordering) (o : IsTotalOrder R) (exact : CmpEqualImpliesEq R) (f : K → X) (all : List (K × X)) where
+  -- what is left to fill in, that the keys ascend, and that the values that are there are f's
   pub record IsFilling (es : List (K × X)) (it : List K) : Type 0 where
     pub left : filled R f es it ≡ all
     pub sorted : IsStrictlySortedBy R (keys_of es)
-    pub has : (q : K) → is_some (lookup (is_at (R q)) xs) ≡ true → lookup (is_at (R q)) es ≡ Some (f q)
-
-  pub filling_start : (es : List (K × X)) (it it2 ls : List K) → filled R f es it ≡ filled R f [] (keys_of xs) → it ≡ [] → it2 ≡ ls → filled R f [] (keys_of xs ++ ls) ≡ all → IsFilling es it2
-  unfolding IsStrictlySortedBy
-  filling_start es it it2 ls e n same whole =
-      let h : es ≡ filled R f [] (keys_of xs) = filled_end R f es it _ e n in
-      record {
-        left = filled_start R f es (keys_of xs) ls it2 h same ∙ whole;
-        sorted = subst (λ (l : List (K × X)). IsStrictlySortedBy R (keys_of l)) (sym h) (sorted_filled R o f [] (keys_of xs) tt);
-        has = λ q i. ap (lookup (is_at (R q))) h ∙ has_filled R o exact f xs q i;
-      }
+    pub values : IsAtEach R (λ k x. x ≡ f k) es
 
   pub filling_more : (es : List (K × X)) (it rest : List K) (k : K) (w : X) (new : List (K × X)) → IsFilling es it → it ≡ k ∷ rest → w ≡ f k → new ≡ insert_entry R es k w → IsFilling new rest
   filling_more es it rest k w new p n same e =
@@ -104,12 +104,27 @@ module _ {K X : Type 0} (R : K → K → Ordering) (o : IsTotalOrder R) (exact :
       record {
         left = filled_more R f es it rest k w new all p.left n same e;
         sorted = subst (λ (l : List (K × X)). IsStrictlySortedBy R (keys_of l)) (sym h) (sorted_insert R o es k (f k) p.sorted);
-        has = λ q i. ap (lookup (is_at (R q))) h ∙ has_insert R o exact f es k q (p.has q i);
+        values = subst (IsAtEach R (λ k x. x ≡ f k)) (sym h) (values_insert R o exact f es k p.values);
       }
 
-  pub filling_skip : (es : List (K × X)) (it rest : List K) (k : K) → IsFilling es it → it ≡ k ∷ rest → is_some (lookup (is_at (R k)) xs) ≡ true → IsFilling es rest
+  pub filling_skip : (es : List (K × X)) (it rest : List K) (k : K) → IsFilling es it → it ≡ k ∷ rest → is_some (lookup (is_at (R k)) es) ≡ true → IsFilling es rest
   filling_skip es it rest k p n i = record {
-    left = filled_skip R f o exact es it rest k all p.left n p.sorted (p.has k i);
+    left = filled_skip R f o exact es it rest k all p.left n p.sorted (value_there R o exact (f k) (lookup (is_at (R k)) es) (p.values k) i);
     sorted = p.sorted;
-    has = p.has;
+    values = p.values;
   }
+
+-- two such loops, one after the other, that begin with no entries
+module _ {K X : Type 0} (R : K → K → Ordering) (o : IsTotalOrder R) (exact : CmpEqualImpliesEq R) (f : K → X) (none es : List (K × X)) (ks : List K) (empty : none ≡ []) (first : es ≡ filled R f none ks) where
+  pub first_filled : es ≡ filled R f [] ks
+  first_filled = first ∙ ap (λ l. filled R f l ks) empty
+
+  pub first_sorted : IsStrictlySortedBy R (keys_of es)
+  unfolding IsStrictlySortedBy
+  first_sorted = subst (λ (l : List (K × X)). IsStrictlySortedBy R (keys_of l)) (sym first_filled) (sorted_filled R o f [] ks tt)
+
+  pub first_values : IsAtEach R (λ k x. x ≡ f k) es
+  first_values = subst (IsAtEach R (λ k x. x ≡ f k)) (sym first_filled) (values_filled R o exact f ks)
+
+  pub both_filled : (new : List (K × X)) (ls : List K) → new ≡ filled R f es ls → new ≡ filled R f [] (ks ++ ls)
+  both_filled new ls e = e ∙ ap (λ l. filled R f l ls) first_filled ∙ sym (filled-append R f [] ks ls)

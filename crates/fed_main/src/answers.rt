@@ -12,15 +12,24 @@ use fed_words::UsageFault;
 use fed_world::Outcome;
 use std::alloc::{AllocError, Global};
 
+/// A word, in a text that has room for the end of the line behind it.
+fn word_text(alloc: Global, word: &str) -> Result<String, AllocError>
+    ensures { IfOk result (λ text. string_bytes text ≡ word.now) }
+{
+    let mut text = String::with_capacity(alloc, word.len() + 1)?;
+    text.push_str(word)?;
+    Ok(text)
+}
+
 /// What a site replies to a command that it doesn't refuse.
 fn reply_text(alloc: Global, roster: &Roster, reply: Reply) -> Result<String, AllocError>
     ensures { IfOk result (λ text. string_bytes text ≡ text_of_reply roster.now reply) }
 {
     match reply {
         Reply::Submitted(job) => identifier_text(alloc, roster, job),
-        Reply::Done => String::from_str(alloc, "done"),
-        Reply::Granted => String::from_str(alloc, "granted"),
-        Reply::Yours => String::from_str(alloc, "yours"),
+        Reply::Done => word_text(alloc, "done"),
+        Reply::Granted => word_text(alloc, "granted"),
+        Reply::Yours => word_text(alloc, "yours"),
         Reply::Reserved(name) => identifier_text(alloc, roster, name),
     }
 }
@@ -43,9 +52,9 @@ fn outcome_text(alloc: Global, roster: &Roster, outcome: Outcome) -> Result<Stri
         Outcome::Packet(number) => format!(in alloc; "packet {number}"),
         Outcome::Taken(taken) => {
             if taken.grew {
-                String::from_str(alloc, "taken")
+                word_text(alloc, "taken")
             } else {
-                String::from_str(alloc, "known")
+                word_text(alloc, "known")
             }
         }
         Outcome::Gap(site) => gap_text(alloc, roster, site),

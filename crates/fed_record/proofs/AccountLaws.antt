@@ -1,5 +1,5 @@
 -- The text of an account is read as the account again.
-use Rattle.std.specs.Prelude.{IsTrue, Option, Some, None}
+use Rattle.std.specs.Prelude.{IsTrue, Some}
 use Rattle.std.proofs.Common.{◌≡◌, ℕ, List, [], ◌∷◌, refl}
 use Rattle.fed_stamp.specs.Word.{is_name}
 use Rattle.fed_record.specs.Account.{account_of}

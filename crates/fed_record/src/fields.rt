@@ -6,7 +6,7 @@ ghost use Rattle.fed_record.specs.Fields.{owner_change, name_change, priority_ch
 ghost use Rattle.fed_record.specs.NamedPartLaws.{applied_well_formed, part_adds_change, part_joins_histories, part_stands_for_sets};
 ghost use Rattle.fed_record.specs.FieldsLaws.{tells_fields};
 
-use crate::inlines::{Inline, apply_option};
+use crate::inlines::{Inline, apply_option, copy_inline, join_inline};
 use fed_lattice::{Causal, ExactEq, NoMemory};
 use fed_stamp::{Stamp, Version};
 use std::alloc::Global;
@@ -134,12 +134,12 @@ impl<
 
     fn copy(&self) -> Result<Self, NoMemory> {
         Ok(Fields {
-            owner: self.owner.copy()?,
-            name: self.name.copy()?,
-            priority: self.priority.copy()?,
-            nodes: self.nodes.copy()?,
-            limit: self.limit.copy()?,
-            account: self.account.copy()?,
+            owner: copy_inline(&self.owner),
+            name: copy_inline(&self.name),
+            priority: copy_inline(&self.priority),
+            nodes: copy_inline(&self.nodes),
+            limit: copy_inline(&self.limit),
+            account: copy_inline(&self.account),
         })
     }
 
@@ -166,12 +166,12 @@ impl<
 
     fn join(&self, mine: &Version, other: &Self, theirs: &Version) -> Result<Self, NoMemory> {
         Ok(Fields {
-            owner: self.owner.join(mine, &other.owner, theirs)?,
-            name: self.name.join(mine, &other.name, theirs)?,
-            priority: self.priority.join(mine, &other.priority, theirs)?,
-            nodes: self.nodes.join(mine, &other.nodes, theirs)?,
-            limit: self.limit.join(mine, &other.limit, theirs)?,
-            account: self.account.join(mine, &other.account, theirs)?,
+            owner: join_inline(&self.owner, mine, &other.owner, theirs),
+            name: join_inline(&self.name, mine, &other.name, theirs),
+            priority: join_inline(&self.priority, mine, &other.priority, theirs),
+            nodes: join_inline(&self.nodes, mine, &other.nodes, theirs),
+            limit: join_inline(&self.limit, mine, &other.limit, theirs),
+            account: join_inline(&self.account, mine, &other.account, theirs),
         })
     }
 

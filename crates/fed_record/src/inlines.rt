@@ -3,7 +3,7 @@ ghost use Rattle.std.specs.Prelude.{◌≡◌};
 ghost use Rattle.fed_lattice.specs.Both.{applied_option};
 
 use fed_lattice::{Causal, Exact, Flag, Register, Stage};
-use fed_stamp::Stamp;
+use fed_stamp::{Stamp, Version};
 
 /// A value whose copies, changes and joins are never refused memory, so that it can be changed in place once all that
 /// can be refused is done.
@@ -21,6 +21,27 @@ impl<T: Exact> Inline for Stage<T> {
 
 impl Inline for Flag {
     ghost never_refused = { tt };
+}
+
+/// An equal value.
+pub(crate) fn copy_inline<T: Inline + Drop>(value: &T) -> T
+    ensures same { result ≡ value.now }
+    ensures well_formed { T.well_formed value.now }
+{
+    value.copy().unwrap()
+}
+
+/// The join of two values, each beside its version.
+pub(crate) fn join_inline<T: Inline + Drop>(
+    value: &T,
+    mine: &Version,
+    other: &T,
+    theirs: &Version,
+) -> T
+    ensures joined { result ≡ T.joined value.now mine.now other.now theirs.now }
+    ensures well_formed { T.well_formed value.now × T.well_formed other.now }
+{
+    value.join(mine, other, theirs).unwrap()
 }
 
 /// Changes the value in place.

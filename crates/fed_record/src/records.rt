@@ -12,7 +12,7 @@ use crate::changes::{
     removed_sites, stage_changes,
 };
 use crate::holds::HoldKind;
-use crate::inlines::{Inline, apply_inline};
+use crate::inlines::{Inline, apply_inline, copy_inline, join_inline};
 use crate::operations::Operation;
 use fed_lattice::{Causal, ExactEq, NoMemory};
 use fed_stamp::{SiteId, Stamp, Version};
@@ -178,10 +178,10 @@ where
     fn copy(&self) -> Result<Self, NoMemory> {
         Ok(Record {
             alloc: self.alloc,
-            fields: self.fields.copy()?,
+            fields: copy_inline(&self.fields),
             holds: self.holds.copy()?,
             sites: self.sites.copy()?,
-            stages: self.stages.copy()?,
+            stages: copy_inline(&self.stages),
             touched: self.touched,
         })
     }
@@ -197,10 +197,10 @@ where
     fn join(&self, mine: &Version, other: &Self, theirs: &Version) -> Result<Self, NoMemory> {
         Ok(Record {
             alloc: self.alloc,
-            fields: self.fields.join(mine, &other.fields, theirs)?,
+            fields: join_inline(&self.fields, mine, &other.fields, theirs),
             holds: self.holds.join(mine, &other.holds, theirs)?,
             sites: self.sites.join(mine, &other.sites, theirs)?,
-            stages: self.stages.join(mine, &other.stages, theirs)?,
+            stages: join_inline(&self.stages, mine, &other.stages, theirs),
             touched: self.touched.join(&other.touched),
         })
     }

@@ -6,7 +6,7 @@ ghost use Rattle.fed_record.specs.Stages.{deleted_change, grant_change, begun_ch
 ghost use Rattle.fed_record.specs.NamedPartLaws.{applied_well_formed, part_adds_change, part_joins_histories, part_stands_for_sets};
 ghost use Rattle.fed_record.specs.StagesLaws.{tells_stages};
 
-use crate::inlines::{Inline, apply_option};
+use crate::inlines::{Inline, apply_option, copy_inline, join_inline};
 use fed_lattice::{Causal, ExactEq, NoMemory};
 use fed_stamp::{Stamp, Version};
 use std::alloc::Global;
@@ -99,10 +99,10 @@ impl<
 
     fn copy(&self) -> Result<Self, NoMemory> {
         Ok(Stages {
-            deleted: self.deleted.copy()?,
-            grant: self.grant.copy()?,
-            begun: self.begun.copy()?,
-            finished: self.finished.copy()?,
+            deleted: copy_inline(&self.deleted),
+            grant: copy_inline(&self.grant),
+            begun: copy_inline(&self.begun),
+            finished: copy_inline(&self.finished),
         })
     }
 
@@ -120,10 +120,10 @@ impl<
 
     fn join(&self, mine: &Version, other: &Self, theirs: &Version) -> Result<Self, NoMemory> {
         Ok(Stages {
-            deleted: self.deleted.join(mine, &other.deleted, theirs)?,
-            grant: self.grant.join(mine, &other.grant, theirs)?,
-            begun: self.begun.join(mine, &other.begun, theirs)?,
-            finished: self.finished.join(mine, &other.finished, theirs)?,
+            deleted: join_inline(&self.deleted, mine, &other.deleted, theirs),
+            grant: join_inline(&self.grant, mine, &other.grant, theirs),
+            begun: join_inline(&self.begun, mine, &other.begun, theirs),
+            finished: join_inline(&self.finished, mine, &other.finished, theirs),
         })
     }
 

@@ -82,7 +82,15 @@ impl Word {
         ensures same { result.now ≡ self.now }
         ensures name { IsTrue (has_form_of_name result.now) }
     {
-        str::from_utf8(&self.bytes[..self.count as usize]).unwrap_or("")
+        str::from_utf8(self.as_bytes()).unwrap_or("")
+    }
+
+    // The bytes of the name, which are compared without being read as text.
+    pub(crate) fn as_bytes(&self) -> &[u8]
+        ensures same { result.now ≡ self.now }
+        ensures name { IsTrue (has_form_of_name result.now) }
+    {
+        &self.bytes[..self.count as usize]
     }
 }
 
@@ -92,7 +100,7 @@ impl PartialEq for Word {
     ghost laws = { partial_equiv_from_equiv nat_list_eq_equiv };
 
     fn eq(&self, other: &Word) -> bool {
-        self.as_str() == other.as_str()
+        self.as_bytes() == other.as_bytes()
     }
 }
 
@@ -120,7 +128,7 @@ impl Ord for Word {
     ghost matches_eq = { texts_ties };
 
     fn cmp(&self, other: &Word) -> Ordering {
-        self.as_str().cmp(other.as_str())
+        self.as_bytes().cmp(other.as_bytes())
     }
 }
 
