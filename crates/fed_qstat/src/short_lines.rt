@@ -1,5 +1,5 @@
 //! The short listing.
-ghost use Rattle.std.specs.Prelude.{◌≡◌, [], ◌∷◌, IfOk, IsTrue, Some, string_bytes};
+ghost use Rattle.std.specs.Prelude.{◌≡◌, ◌++◌, [], ◌∷◌, IfOk, IsTrue, OnOk, Some, string_bytes};
 ghost use Rattle.std.specs.Fmt.{decimal, signed_decimal};
 ghost use Rattle.std.specs.List.{join_with_byte};
 ghost use Rattle.fed_record.specs.JobRecord.{reads};
@@ -13,33 +13,37 @@ use fed_record::{JobRecord, Letter};
 use fed_stamp::{JobId, Roster};
 use std::alloc::{AllocError, Global};
 
-/// The columns that are names, and the letter.
-fn names_text(
-    alloc: Global,
+/// The room that is made for a line: the columns take 78 bytes, and a line feed and mostly the granted site stand behind
+/// them.
+const LINE_BYTES: usize = 96;
+
+/// Writes the columns that are names, and the letter.
+fn write_names(
+    text: &mut String,
     identifier: &str,
     name: &str,
     owner: &str,
     letter: &str,
-) -> Result<String, AllocError>
-    ensures { IfOk result (λ text. string_bytes text ≡ join_with_byte 32
+) -> Result<(), AllocError>
+    ensures { OnOk result (string_bytes text.new ≡ string_bytes text.old ++ join_with_byte 32
         (left_in 18 identifier.now ∷ left_in 16 name.now ∷ left_in 16 owner.now ∷ letter.now ∷ [])) }
 {
-    format!(in alloc; "{identifier:<18} {name:<16} {owner:<16} {letter}")
+    write!(text, "{identifier:<18} {name:<16} {owner:<16} {letter}")
 }
 
-/// The columns that are numbers, and the granted site.
-fn numbers_text(
-    alloc: Global,
+/// Writes the columns that are numbers, and the granted site.
+fn write_numbers(
+    text: &mut String,
     priority: i16,
     nodes: u64,
     limit: u64,
     granted: &str,
-) -> Result<String, AllocError>
-    ensures { IfOk result (λ text. string_bytes text ≡ join_with_byte 32
+) -> Result<(), AllocError>
+    ensures { OnOk result (string_bytes text.new ≡ string_bytes text.old ++ join_with_byte 32
         (right_in 6 (signed_decimal priority) ∷ right_in 8 (decimal nodes) ∷ right_in 9 (decimal limit)
         ∷ granted.now ∷ [])) }
 {
-    format!(in alloc; "{priority:>6} {nodes:>8} {limit:>9} {granted}")
+    write!(text, "{priority:>6} {nodes:>8} {limit:>9} {granted}")
 }
 
 /// The line that shows a job with this letter. Its columns are parted by one space: the identifier left in 18, the name
@@ -61,15 +65,18 @@ pub(crate) fn short_line(
     let (_, name) = held.name();
     let (_, owner) = held.owner();
     let sign = letter_sign(letter);
-    let names = names_text(
-        alloc,
+    let mut text = String::with_capacity(alloc, LINE_BYTES)?;
+    write_names(
+        &mut text,
         identifier.as_str(),
         name.as_str(),
         owner.as_str(),
         sign,
     )?;
+    text.push(' ')?;
     let priority = held.priority().1.get();
     let (nodes, limit) = (held.nodes().1.get(), held.limit().1.get());
-    let numbers = numbers_text(alloc, priority, nodes, limit, granted.as_str())?;
-    format!(in alloc; "{names} {numbers}\n")
+    write_numbers(&mut text, priority, nodes, limit, granted.as_str())?;
+    text.push('\n')?;
+    Ok(text)
 }
