@@ -4,7 +4,7 @@ use Rattle.std.specs.Ordering.{match_ordering, is_eq, ordering_reverse}
 use Rattle.std.specs.BTreeMap.{insert_entry, is_at}
 use Rattle.std.specs.Map.{keys_of, lookup}
 use Rattle.std.specs.List.Sorted.{IsStrictlySortedBy}
-use Rattle.std.proofs.Common.{◌≡◌, ◌==◌, ℕ, ◌+◌, ◌<◌, ◌≤◌, List, [], ◌∷◌, length, Bool, true, false, cond, not, count_by, slice_index, slice_index_or, slice_set, Option, Some, None, is_some, Ordering, Less, Equal, Greater, Bor, option_copied, refl, sym, ap, ap₂, subst, ◌∙◌, arith}
+use Rattle.std.proofs.Common.{◌≡◌, ◌==◌, ℕ, ◌+◌, ◌<◌, ◌≤◌, List, [], ◌∷◌, length, Bool, true, false, cond, not, count_by, slice_index, slice_index_or, slice_set, Option, Some, None, is_some, Ordering, Less, Equal, Greater, suc, refl, sym, ap, ap₂, subst, ◌∙◌, arith}
 use Rattle.std.proofs.lemmas.List.Sums.{count_by-le-length, sum_by-cons}
 use Rattle.std.proofs.lemmas.List.{get_or-set_same, get_or-set_other}
 use Rattle.std.proofs.lemmas.Map.{keys-set_value}
@@ -40,34 +40,55 @@ count-insert_new {X} p (x ∷ es) k w e = go (stamp_cmp k x.0) refl (λ f. count
         let rest : count_by p (keys_of (insert_entry stamp_cmp es k w)) ≡ count_by p (k ∷ keys_of es) = more (rw i at e) in
         omega (arith, rest, push p x.0 (keys_of (insert_entry stamp_cmp es k w)), push p k (x.0 ∷ keys_of es), push p x.0 (keys_of es), push p k (keys_of es))
 
-pub copied_some : {T : Type 0} (o : Option (Bor T)) → is_some (option_copied o) ≡ is_some o
-copied_some None = refl
-copied_some (Some r) = refl
+-- a table that grows by a name has it once more
+count-insert_longer : {X : Type 0} (p : StampValue → Bool) (es : List (StampValue × X)) (k : StampValue) (w : X) → length es < length (insert_entry stamp_cmp es k w)
+    → count_by p (keys_of (insert_entry stamp_cmp es k w)) ≡ count_by p (k ∷ keys_of es)
+count-insert_longer p [] k w longer = refl
+count-insert_longer {X} p (x ∷ es) k w longer = go (stamp_cmp k x.0) refl (λ f. count-insert_longer p es k w f)
+  where
+    go : (r : Ordering) → stamp_cmp k x.0 ≡ r → (length es < length (insert_entry stamp_cmp es k w) → count_by p (keys_of (insert_entry stamp_cmp es k w)) ≡ count_by p (k ∷ keys_of es))
+        → count_by p (keys_of (match_ordering r ((k, w) ∷ x ∷ es) ((x.0, w) ∷ es) (x ∷ insert_entry stamp_cmp es k w))) ≡ count_by p (k ∷ x.0 ∷ keys_of es)
+    go Less i rest = refl
+    go Equal i rest = absurd (let f : suc (length es) < suc (length es) = rw i at longer in omega (arith, f))
+    go Greater i more =
+        let f : suc (length es) < suc (length (insert_entry stamp_cmp es k w)) = rw i at longer in
+        let rest : count_by p (keys_of (insert_entry stamp_cmp es k w)) ≡ count_by p (k ∷ keys_of es) = more (omega (arith, f)) in
+        omega (arith, rest, push p x.0 (keys_of (insert_entry stamp_cmp es k w)), push p k (x.0 ∷ keys_of es), push p x.0 (keys_of es), push p k (keys_of es))
+
+-- a table that does not grow has the names that it had
+keys-insert_as_long : {X : Type 0} (es : List (StampValue × X)) (k : StampValue) (w : X) → length (insert_entry stamp_cmp es k w) ≤ length es
+    → keys_of (insert_entry stamp_cmp es k w) ≡ keys_of es
+keys-insert_as_long [] k w short = absurd (omega (arith, short))
+keys-insert_as_long {X} (x ∷ es) k w short = go (stamp_cmp k x.0) refl (λ f. keys-insert_as_long es k w f)
+  where
+    go : (r : Ordering) → stamp_cmp k x.0 ≡ r → (length (insert_entry stamp_cmp es k w) ≤ length es → keys_of (insert_entry stamp_cmp es k w) ≡ keys_of es)
+        → keys_of (match_ordering r ((k, w) ∷ x ∷ es) ((x.0, w) ∷ es) (x ∷ insert_entry stamp_cmp es k w)) ≡ x.0 ∷ keys_of es
+    go Less i rest = absurd (let f : suc (suc (length es)) ≤ suc (length es) = rw i at short in omega (arith, f))
+    go Equal i rest = refl
+    go Greater i rest =
+        let f : suc (length (insert_entry stamp_cmp es k w)) ≤ suc (length es) = rw i at short in
+        ap (λ (l : List StampValue). x.0 ∷ l) (rest (omega (arith, f)))
 
 module _ {X : Type 0} (counts : List ℕ) (es : List (StampValue × X)) (k : StampValue) (w : X) (i : ℕ) (are : AreCounts counts (keys_of es)) (sixteen : length counts ≡ 16) (small : i < 16) (at : i ≡ k.site) where
   one_more : slice_index (slice_set counts i (slice_index_or counts i 0 + 1)) i ≡ slice_index_or counts i 0 + 1
   one_more = get_or-set_same counts i (slice_index_or counts i 0 + 1) 0 (rw sixteen small)
 
-  pub counted_new : is_some (lookup (is_at (stamp_cmp k)) es) ≡ false → AreCounts (slice_set counts i (slice_index_or counts i 0 + 1)) (keys_of (insert_entry stamp_cmp es k w))
-  counted_new new site below = go (k.site == site) refl ∙ sym (names-push site k (keys_of es)) ∙ sym (count-insert_new (λ (name : StampValue). name.site == site) es k w new)
+  pub counted_new : length es < length (insert_entry stamp_cmp es k w) → AreCounts (slice_set counts i (slice_index_or counts i 0 + 1)) (keys_of (insert_entry stamp_cmp es k w))
+  counted_new new site below = go (k.site == site) refl ∙ sym (names-push site k (keys_of es)) ∙ sym (count-insert_longer (λ (name : StampValue). name.site == site) es k w new)
     where
       go : (b : Bool) → (k.site == site) ≡ b → slice_index (slice_set counts i (slice_index_or counts i 0 + 1)) site ≡ cond b 1 0 + names_of site (keys_of es)
       go true e = subst (λ t. slice_index (slice_set counts i (slice_index_or counts i 0 + 1)) t ≡ 1 + names_of t (keys_of es)) (at ∙ (tells_numbers k.site site).0 e) (one_more ∙ (let h = are i small in omega (arith, h)))
       go false e = get_or-set_other counts i site (slice_index_or counts i 0 + 1) 0 (λ h. let f : true ≡ false = sym ((tells_numbers k.site site).1 (sym at ∙ sym h)) ∙ e in cc) ∙ are site below ∙ omega arith
 
   -- one more than the count of a site fits where the table does
-  pub count_fits : (n : ℕ) → is_some (lookup (is_at (stamp_cmp k)) es) ≡ false → n ≡ length (insert_entry stamp_cmp es k w) → slice_index_or counts i 0 + 1 ≤ n
+  pub count_fits : (n : ℕ) → length es < length (insert_entry stamp_cmp es k w) → n ≡ length (insert_entry stamp_cmp es k w) → slice_index_or counts i 0 + 1 ≤ n
   count_fits n new e =
       let all = keys_of (insert_entry stamp_cmp es k w) in
       omega (arith, one_more, counted_new new i small, count_by-le-length (λ (name : StampValue). name.site == i) all, length-keys_of (insert_entry stamp_cmp es k w), e)
 
 -- a name that is there is counted already
-pub counted_present : {X : Type 0} (counts : List ℕ) (es : List (StampValue × X)) (k : StampValue) (w : X) → AreCounts counts (keys_of es) → IsStrictlySortedBy stamp_cmp (keys_of es) → is_some (lookup (is_at (stamp_cmp k)) es) ≡ true → AreCounts counts (keys_of (insert_entry stamp_cmp es k w))
-counted_present {X} counts es k w are sorted present = go (lookup (is_at (stamp_cmp k)) es) refl present
-  where
-    go : (a : Option X) → lookup (is_at (stamp_cmp k)) es ≡ a → is_some a ≡ true → AreCounts counts (keys_of (insert_entry stamp_cmp es k w))
-    go None h p = cc
-    go (Some v) h p = subst (AreCounts counts) (sym (ap keys_of (sym (set_value-insert stamp_cmp stamp_total es k v w sorted (sym h))) ∙ keys-set_value (is_at (stamp_cmp k)) es w)) are
+pub counted_present : {X : Type 0} (counts : List ℕ) (es : List (StampValue × X)) (k : StampValue) (w : X) → AreCounts counts (keys_of es) → length (insert_entry stamp_cmp es k w) ≤ length es → AreCounts counts (keys_of (insert_entry stamp_cmp es k w))
+counted_present counts es k w are short = subst (AreCounts counts) (sym (keys-insert_as_long es k w short)) are
 
 -- ---- the loop that counts: what was counted and what is left
 module _ (counts : List ℕ) (names ks rest : List StampValue) (k : StampValue) (i : ℕ) (sixteen : length counts ≡ 16) (small : i < 16) (at : i ≡ k.site) (first : ks ≡ k ∷ rest) where

@@ -54,10 +54,9 @@ pub(crate) fn change_at<V: Causal<Change = Operation> + Drop>(
     ensures unchanged { OnErr result (table.new ≡ table.old) }
     ensures uncounted { OnErr result (counts.new ≡ counts.old) }
 {
-    let is_new = table.get(name).is_none();
+    let before = table.len();
     table.apply_at(name, at, operation)?;
-    if is_new {
-        let _names = table.len();
+    if table.len() > before {
         counts[name.site().get() as usize] += 1;
     }
     Ok(())

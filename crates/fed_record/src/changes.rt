@@ -1,8 +1,9 @@
 //! What an operation changes in each part of a job's record.
-ghost use Rattle.std.specs.Prelude.{◌≡◌, IfOk, filter};
+ghost use Rattle.std.specs.Prelude.{◌≡◌, ℕ, IfOk, filter};
 ghost use Rattle.std.specs.List.{range_with_len};
 ghost use Rattle.fed_record.specs.Operation.{body_of};
-ghost use Rattle.fed_record.specs.Pairs.{adds_hold as is_hold_added, adds_site as is_site_added};
+ghost use Rattle.fed_stamp.specs.SiteSet.{has as has_site};
+ghost use Rattle.fed_record.specs.Pairs.{adds_hold as is_hold_added, adds_site as is_site_added, is_site_named};
 ghost use Rattle.fed_record.specs.Changes.{all_kinds, field_changes_of, stage_changes_of, removed_holds as holds_removed, removed_sites as sites_removed};
 
 use crate::accounts::Account;
@@ -16,7 +17,7 @@ use crate::priorities::Priority;
 use crate::progress::{Beginning, Ending};
 use crate::stages::StageChanges;
 use fed_lattice::NoMemory;
-use fed_stamp::{SITES, SiteId, Stamp, Word};
+use fed_stamp::{SITES, SiteId, SiteSet, Stamp, Word};
 use std::alloc::Global;
 
 /// A change of the fields of a job.
@@ -110,18 +111,29 @@ fn adds_hold(operation: &Operation, kind: HoldKind) -> bool
     }
 }
 
-/// Whether the operation adds the site.
-fn adds_site(operation: &Operation, site: SiteId) -> bool
-    ensures { result ≡ is_site_added (body_of operation.now) site }
+/// The set of the sites that the operation adds, if it adds any.
+fn named_sites(operation: &Operation) -> Option<SiteSet>
+    ensures { (site : ℕ) → is_site_added (body_of operation.now) site ≡ is_site_named result site }
 {
     match operation {
-        Operation::Submit { values, .. } => values.sites.has(site),
-        Operation::Set { changes, .. } => match changes.sites {
-            Some(sites) => sites.has(site),
-            None => false,
-        },
-        _ => false,
+        Operation::Submit { values, .. } => Some(values.sites),
+        Operation::Set { changes, .. } => changes.sites,
+        _ => None,
     }
+}
+
+/// The sites of a set, in the order of their numbers.
+fn members(alloc: Global, sites: &SiteSet) -> Result<Vec<SiteId>, NoMemory>
+    ensures { IfOk result (λ v. v.items ≡ filter (has_site sites.now) (range_with_len 0 16)) }
+{
+    let mut members = Vec::new(alloc);
+    for number in 0..SITES as u8 {
+        let site = SiteId::new(number).unwrap();
+        if sites.has(site) {
+            members.push(site)?;
+        }
+    }
+    Ok(members)
 }
 
 /// The holds that the operation adds.
@@ -142,14 +154,10 @@ pub(crate) fn added_holds(alloc: Global, operation: &Operation) -> Result<Vec<Ho
 pub(crate) fn added_sites(alloc: Global, operation: &Operation) -> Result<Vec<SiteId>, NoMemory>
     ensures { IfOk result (λ v. v.items ≡ filter (is_site_added (body_of operation.now)) (range_with_len 0 16)) }
 {
-    let mut added = Vec::new(alloc);
-    for number in 0..SITES as u8 {
-        let site = SiteId::new(number).unwrap();
-        if adds_site(operation, site) {
-            added.push(site)?;
-        }
+    match named_sites(operation) {
+        Some(sites) => members(alloc, &sites),
+        None => Ok(Vec::new(alloc)),
     }
-    Ok(added)
 }
 
 /// The pairs of holds that the operation removes.
