@@ -55,9 +55,14 @@ fn is_readable(line: &[u8]) -> bool
     line.iter().all(|byte| matches!(*byte, b' '..=b'~' | b'\t'))
 }
 
+/// How many words room is made for at first: few lines have more.
+const LINE_WORDS: usize = 8;
+
 /// The words of a line, which are parted by spaces and tabs.
 pub fn words(alloc: Global, line: &str) -> Result<Vec<&str>, AllocError>
     ensures { IfOk result (λ words. map (λ word. word.now) words.items ≡ words_of line.now) }
 {
-    line.split_ascii_whitespace().collect(alloc)
+    let mut words = Vec::with_capacity(alloc, LINE_WORDS)?;
+    words.extend(line.split_ascii_whitespace())?;
+    Ok(words)
 }

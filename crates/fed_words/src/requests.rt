@@ -16,7 +16,7 @@ use crate::utilities::Utility;
 use fed_record::{
     Account, Changes, Command, HoldKind, HoldKinds, JobValues, Limit, Nodes, Priority,
 };
-use fed_stamp::{JobId, Roster, SiteId, SiteSet, Word};
+use fed_stamp::{JobId, Roster, SITES, SiteId, SiteSet, Word};
 use std::alloc::{AllocError, Global};
 
 /// What words ask.
@@ -46,14 +46,15 @@ fn read_settings(alloc: Global, roster: &Roster, items: &[Item<'_>]) -> Result<S
 }
 
 /// All sites of a roster.
-fn all_sites(alloc: Global, roster: &Roster) -> Result<SiteSet, AllocError>
-    ensures { IfOk result (λ sites. sites ≡ set_of_all roster.now) }
+fn all_sites(roster: &Roster) -> SiteSet
+    ensures { result ≡ set_of_all roster.now }
 {
-    let mut sites = Vec::new(alloc);
-    for number in 0..roster.len() {
-        sites.push(SiteId::new(number as u8).unwrap())?;
+    let mut sites = [SiteId::new(0).unwrap(); SITES];
+    let count = roster.len();
+    for number in 0..count {
+        sites[number] = SiteId::new(number as u8).unwrap();
     }
-    Ok(SiteSet::new(&sites).unwrap())
+    SiteSet::new(&sites[..count]).unwrap()
 }
 
 /// What is set of resources.
@@ -67,22 +68,22 @@ fn resources_of(settings: &Settings) -> Resources
 }
 
 /// What a job is submitted with.
-fn values(alloc: Global, roster: &Roster, settings: &Settings) -> Result<JobValues, AllocError>
-    ensures { IfOk result (λ values. values ≡ values_of roster.now settings.now) }
+fn values(roster: &Roster, settings: &Settings) -> JobValues
+    ensures { result ≡ values_of roster.now settings.now }
 {
     let resources = resources_of(settings);
     let sites = match resources.sites {
         Some(sites) => sites,
-        None => all_sites(alloc, roster)?,
+        None => all_sites(roster),
     };
-    Ok(JobValues {
+    JobValues {
         name: settings.name.unwrap_or(Word::new("STDIN").unwrap()),
         priority: settings.priority.unwrap_or(Priority::new(0).unwrap()),
         nodes: resources.nodes.unwrap_or(Nodes::new(1).unwrap()),
         limit: resources.limit.unwrap_or(Limit::new(3600).unwrap()),
         account: settings.account.unwrap_or(Account::EMPTY),
         sites,
-    })
+    }
 }
 
 /// What is set of a job.
@@ -148,7 +149,7 @@ fn submission(
     ensures { IfOk result (λ commands.
         commands.items ≡ Command.Submit (values_of roster.now settings.now) settings.now.held ∷ []) }
 {
-    let values = values(alloc, roster, settings)?;
+    let values = values(roster, settings);
     Ok(vec![in alloc;
         Command::Submit {
             values,
