@@ -46,11 +46,11 @@ padded_integral-signed width (pos n) =
     rw positive (padded_integral-right width (decimal n))
 padded_integral-signed width (negsuc n) = padded_integral-negative width (decimal (suc n))
 
--- two parts of a line, and its line feed
-pub join-both : (a b c d e f g h : List ℕ) → join_with_byte 32 (a ∷ b ∷ c ∷ d ∷ []) ++ (32 ∷ (join_with_byte 32 (e ∷ f ∷ g ∷ h ∷ []) ++ 10 ∷ [])) ≡ join_with_byte 32 (a ∷ b ∷ c ∷ d ∷ e ∷ f ∷ g ∷ h ∷ []) ++ 10 ∷ []
-join-both a b c d e f g h = simp append_assoc
+-- the parts of a line, and its line feed
+pub join-parts : (a b c d e f g h : List ℕ) → join_with_byte 32 (a ∷ b ∷ c ∷ d ∷ []) ++ ((32 ∷ (join_with_byte 32 (e ∷ f ∷ g ∷ []) ++ 32 ∷ [])) ++ (h ++ 10 ∷ [])) ≡ join_with_byte 32 (a ∷ b ∷ c ∷ d ∷ e ∷ f ∷ g ∷ h ∷ []) ++ 10 ∷ []
+join-parts a b c d e f g h = simp append_assoc
 
--- a line that is written part by part: `none` is the text before them
-pub line-of_parts : (none a b c d names numbers space end : List ℕ) → none ≡ [] → a ≡ none ++ names → b ≡ a ++ space → c ≡ b ++ numbers → d ≡ c ++ end → space ≡ 32 ∷ [] → end ≡ 10 ∷ [] → d ≡ names ++ (32 ∷ (numbers ++ 10 ∷ []))
-line-of_parts none a b c d names numbers space end empty first then second last is_space is_end =
-    rw (last, second, then, first, empty, is_space, is_end) (simp append_assoc refl)
+-- a line that is written part by part behind a text
+pub line-of_parts : (old a b c d names numbers granted end : List ℕ) → a ≡ old ++ names → b ≡ a ++ numbers → c ≡ b ++ granted → d ≡ c ++ end → end ≡ 10 ∷ [] → d ≡ old ++ (names ++ (numbers ++ (granted ++ 10 ∷ [])))
+line-of_parts old a b c d names numbers granted end first then second last is_end =
+    rw (last, second, then, first, is_end) (simp append_assoc refl)

@@ -4,7 +4,7 @@ ghost use Rattle.fed_record.specs.JobRecord.{reads};
 ghost use Rattle.fed_record.specs.Letter.{holder};
 ghost use Rattle.fed_qstat.specs.JobText.{begun_text as text_of_begun, hold_letters as letters_of_holds, holder_text as text_of_holder, holds_text as text_of_holds, letter_sign as sign_of_letter, or_dash as text_or_dash, sites_text as text_of_sites};
 
-use crate::identifiers::site_text;
+use crate::identifiers::{push_site, site_text};
 use fed_record::{HoldKind, JobRecord, Letter};
 use fed_stamp::{Roster, SITES, SiteId};
 use std::alloc::{AllocError, Global};
@@ -29,6 +29,21 @@ pub(crate) fn letter_sign(letter: Letter) -> &'static str
     }
 }
 
+/// Adds the site that a job is granted to, or `-` where there is none.
+pub(crate) fn push_holder(
+    text: &mut String,
+    roster: &Roster,
+    held: &JobRecord,
+) -> Result<(), AllocError>
+    ensures { OnOk result (string_bytes text.new ≡
+        string_bytes text.old ++ text_of_holder roster.now (holder (reads held.now))) }
+{
+    match held.holder() {
+        Some(site) => push_site(text, roster, site),
+        None => text.push_str("-"),
+    }
+}
+
 /// The site that a job is granted to, or `-` where there is none.
 pub(crate) fn holder_text(
     alloc: Global,
@@ -37,10 +52,9 @@ pub(crate) fn holder_text(
 ) -> Result<String, AllocError>
     ensures { IfOk result (λ text. string_bytes text ≡ text_of_holder roster.now (holder (reads held.now))) }
 {
-    match held.holder() {
-        Some(site) => site_text(alloc, roster, site),
-        None => String::from_str(alloc, "-"),
-    }
+    let mut text = String::new(alloc);
+    push_holder(&mut text, roster, held)?;
+    Ok(text)
 }
 
 /// The moment of the Begin, or `-` where the job has not begun.

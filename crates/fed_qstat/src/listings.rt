@@ -1,10 +1,11 @@
 //! Listings of the jobs of a board.
-ghost use Rattle.std.specs.Prelude.{◌≡◌, ◌≢◌, ◌↔◌, [], IfOk, string_bytes};
+ghost use Rattle.std.specs.Prelude.{◌≡◌, ◌≢◌, ◌↔◌, ◌++◌, [], IfOk, IsTrue, OnOk, Some, string_bytes};
 ghost use Rattle.std.specs.List.Sorted.{IsStrictlySortedBy};
 ghost use Rattle.fed_stamp.specs.Stamp.{StampValue};
 ghost use Rattle.fed_lattice.specs.Latest.{stamp_cmp};
 ghost use Rattle.fed_lattice.specs.Sets.{Has};
 ghost use Rattle.fed_record.specs.JobRecord.{reads as reads_job};
+ghost use Rattle.fed_record.specs.Letter.{is_submitted, letter as letter_of};
 ghost use Rattle.fed_board.specs.Board.{reads};
 ghost use Rattle.fed_qstat.specs.Full.{full_lines as lines_of_full};
 ghost use Rattle.fed_qstat.specs.Layout.{lines_in};
@@ -12,10 +13,10 @@ ghost use Rattle.fed_qstat.specs.Listing.{listing, shown_text};
 ghost use Rattle.fed_qstat.specs.Short.{short_line as line_of_short};
 
 use crate::full_lines::full_lines;
-use crate::short_lines::short_line;
+use crate::short_lines::push_short_line;
 use fed_board::Board;
 use fed_lattice::NoMemory;
-use fed_record::JobRecord;
+use fed_record::{JobRecord, Letter};
 use fed_stamp::{JobId, Roster};
 use std::alloc::{AllocError, Global};
 
@@ -28,42 +29,66 @@ enum Layout {
     Full,
 }
 
-/// The lines of a job, or nothing where it is gone.
-fn job_text(
+/// Adds the lines that show a job with this letter.
+fn push_lines(
     alloc: Global,
+    text: &mut String,
     roster: &Roster,
     layout: Layout,
     id: JobId,
     held: &JobRecord,
-) -> Result<String, AllocError>
-    ensures { IfOk result (λ text. string_bytes text ≡ shown_text (lines_in layout roster.now) id (reads_job held.now)) }
+    letter: Letter,
+) -> Result<(), AllocError>
+    requires submitted { IsTrue (is_submitted (reads_job held.now)) }
+    requires letter { letter_of (reads_job held.now) ≡ Some letter }
+    ensures { OnOk result (string_bytes text.new ≡
+        string_bytes text.old ++ lines_in layout roster.now id (reads_job held.now)) }
 {
-    if !held.is_submitted() {
-        return Ok(String::new(alloc));
-    }
-    let Some(letter) = held.letter() else {
-        return Ok(String::new(alloc));
-    };
     match layout {
-        Layout::Short => short_line(alloc, roster, id, held, letter),
-        Layout::Full => full_lines(alloc, roster, id, held, letter),
+        Layout::Short => push_short_line(alloc, text, roster, id, held, letter),
+        Layout::Full => {
+            let lines = full_lines(alloc, roster, id, held, letter)?;
+            text.push_str(lines.as_str())
+        }
     }
 }
 
-/// The lines of the job of this name, or nothing where the board has no such job or it is gone.
-fn named_text(
+/// Adds the lines of a job, or nothing where it is gone.
+fn push_job(
     alloc: Global,
+    text: &mut String,
+    roster: &Roster,
+    layout: Layout,
+    id: JobId,
+    held: &JobRecord,
+) -> Result<(), AllocError>
+    ensures { OnOk result (string_bytes text.new ≡
+        string_bytes text.old ++ shown_text (lines_in layout roster.now) id (reads_job held.now)) }
+{
+    if !held.is_submitted() {
+        return Ok(());
+    }
+    match held.letter() {
+        Some(letter) => push_lines(alloc, text, roster, layout, id, held, letter),
+        None => Ok(()),
+    }
+}
+
+/// Adds the lines of the job of this name, or nothing where the board has no such job or it is gone.
+fn push_named(
+    alloc: Global,
+    text: &mut String,
     roster: &Roster,
     layout: Layout,
     board: &Board,
     id: JobId,
-) -> Result<String, AllocError>
-    ensures { IfOk result (λ text. string_bytes text ≡
-        shown_text (lines_in layout roster.now) id ((reads board.now).job id)) }
+) -> Result<(), AllocError>
+    ensures { OnOk result (string_bytes text.new ≡
+        string_bytes text.old ++ shown_text (lines_in layout roster.now) id ((reads board.now).job id)) }
 {
     match board.job(id) {
-        Some(held) => job_text(alloc, roster, layout, id, held),
-        None => Ok(String::new(alloc)),
+        Some(held) => push_job(alloc, text, roster, layout, id, held),
+        None => Ok(()),
     }
 }
 
@@ -90,8 +115,7 @@ fn list_all(
     let _version = board.version();
     let mut text = String::new(alloc);
     for (id, held) in board.jobs() {
-        let lines = job_text(alloc, roster, layout, *id, held)?;
-        text.push_str(lines.as_str())?;
+        push_job(alloc, &mut text, roster, layout, *id, held)?;
     }
     Ok(text)
 }
@@ -112,8 +136,7 @@ fn list_named(
     let mut text = String::new(alloc);
     let names = distinct(alloc, asked)?;
     for name in &names {
-        let lines = named_text(alloc, roster, layout, board, *name)?;
-        text.push_str(lines.as_str())?;
+        push_named(alloc, &mut text, roster, layout, board, *name)?;
     }
     Ok(text)
 }

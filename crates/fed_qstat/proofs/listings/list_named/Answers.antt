@@ -1,4 +1,4 @@
-use Rattle.std.proofs.Common.{◌+◌, ◌∙◌, sym, subst, ap, ◌∷◌, [], ◌++◌, take}
+use Rattle.std.proofs.Common.{refl, ◌+◌, ◌∙◌, sym, subst, ap, ◌∷◌, [], ◌++◌, take}
 use Rattle.std.proofs.lemmas.List.{take_all, take_more}
 use Rattle.fed_board.specs.Board.{reads}
 use Rattle.fed_qstat.specs.Layout.{lines_in}
@@ -7,10 +7,10 @@ use Rattle.fed_qstat.proofs.listings.list_named.Goals as goal
 
 pub loop-name-preserved : goal.loop-name-preserved
 loop-name-preserved c =
-    subst (λ t. AreWritten (lines_in c.args.layout c.args.roster.now) (reads c.args.board.now) t (take (c.loop-name.name-index + 1) c.deref-name-items.result.now)) (sym c.in_ok-push_str.ensures.bytes)
+    subst (λ t. AreWritten (lines_in c.args.layout c.args.roster.now) (reads c.args.board.now) t (take (c.loop-name.name-index + 1) c.deref-name-items.result.now)) (sym c.in_ok-push_named.ensures)
     (next_name (lines_in c.args.layout c.args.roster.now) (reads c.args.board.now) _ _ _ _ c.name-item.result c.loop-name.invariant
     (take_more c.deref-name-items.result.now c.loop-name.name-index c.name-item.result c.loop-name-test.true ∙ ap (λ x. take c.loop-name.name-index c.deref-name-items.result.now ++ x ∷ []) (sym c.name-item.is))
-    (c.as_str.ensures.value ∙ c.in_ok-lines.ensures))
+    refl)
 
 pub returns : goal.returns
 returns c =
