@@ -1,10 +1,11 @@
 -- The fields of a job as JSON values: each a value beside the stamp of the operation that set it.
-use Rattle.std.specs.Prelude.{◌≡◌, ℕ, ℤ, negsuc, pos, Bool, true, ◌&&◌, int_le, List, [], ◌∷◌, Option, Some, None}
+use Rattle.std.specs.Prelude.{◌≡◌, ℕ, ℤ, Bool, true, ◌&&◌, int_le, List, [], ◌∷◌, Option, Some, None}
 use Rattle.serde_json.specs.Data.{Data, null, string}
 use Rattle.fed_stamp.specs.Stamp.{StampValue}
 use Rattle.fed_stamp.specs.Word.{is_name}
 use Rattle.fed_stamp.specs.declared.rosters.TheConstants.{MAX_NODES}
 use Rattle.fed_record.specs.declared.limits.TheConstants.{MAX_LIMIT}
+use Rattle.fed_record.specs.declared.priorities.TheConstants.{MIN_PRIORITY, MAX_PRIORITY}
 use Rattle.fed_record.specs.Account.{account_of, text_of as text_of_account}
 use Rattle.fed_json.specs.Reading.{Reading, ◌>>=◌, mapped, where_true, or_range}
 use Rattle.fed_json.specs.Numbers.{natural_in, integer_of}
@@ -33,7 +34,7 @@ abbrev pub IsName : List ℕ → Type 0
 IsName text = is_name text ≡ true
 
 abbrev pub is_priority : ℤ → Bool
-is_priority n = int_le (negsuc 1023) n && int_le n (pos 1023)
+is_priority n = int_le MIN_PRIORITY n && int_le n MAX_PRIORITY
 
 abbrev pub priority_of : Data → Reading ℤ
 priority_of d = integer_of d >>= where_true is_priority

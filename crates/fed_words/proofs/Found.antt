@@ -8,6 +8,9 @@ use Rattle.std.specs.Str.Parse.{digits_value, signed_digits_value, without_leadi
 use Rattle.std.proofs.lemmas.Bool.{cases_Bool}
 use Rattle.std.proofs.lemmas.List.Elements.{All-append, All-cons, All-from_recursion, All-head, All-nil, All-tail, All-weaker}
 use Rattle.std.proofs.lemmas.List.Splits.{length-slice_split}
+use Rattle.fed_stamp.specs.declared.rosters.TheConstants.{MAX_NODES}
+use Rattle.fed_stamp.specs.declared.stamps.TheConstants.{MAX_COUNTER}
+use Rattle.fed_record.specs.declared.limits.TheConstants.{MAX_LIMIT}
 use Rattle.fed_stamp.specs.Roster.{is_named, is_site_name}
 use Rattle.fed_stamp.specs.SiteSet.{set_of}
 use Rattle.fed_stamp.specs.Stamp.{StampValue}
@@ -16,6 +19,7 @@ use Rattle.fed_record.specs.declared.holds.HoldKinds.{HoldKinds}
 use Rattle.fed_record.specs.Hold.{sum_of_bits}
 use Rattle.fed_words.specs.declared.faults.UsageFault.{UsageFault}
 use Rattle.fed_words.specs.declared.faults.UsageFault.TheVariants.{BadIdentifier, BadValue, UnknownSite, UnknownUtility}
+use Rattle.fed_words.specs.declared.identifiers.TheConstants.{MAX_SEQUENCE_DIGITS}
 use Rattle.fed_words.specs.declared.resources.Resource.{Resource}
 use Rattle.fed_words.specs.declared.resources.Resources.{Resources}
 use Rattle.fed_words.specs.declared.settings.Setting.{Setting}
@@ -115,12 +119,12 @@ module _ (roster : List (List ℕ × ℕ)) where
   value_found : (front value : List ℕ) (resource : Resource) → value_in roster front value ≡ Ok resource → (argument : ResourceArgument) × IsResourceInRange roster argument × (resource_of argument ≡ resource)
   value_found front value resource e = elim (cases_Bool (bytes_eq front (codes "nodes"))) [
     | inl is_nodes ↦
-        let read = option_map_some Resource.Nodes (number_in 1 1_000_000 value) resource (ok_or_ok (option_map Resource.Nodes (number_in 1 1_000_000 value)) BadValue resource (rw is_nodes at e)) in
-        (nodes read.0, number_found 1 1_000_000 read.0 value read.1, read.2)
+        let read = option_map_some Resource.Nodes (number_in 1 MAX_NODES value) resource (ok_or_ok (option_map Resource.Nodes (number_in 1 MAX_NODES value)) BadValue resource (rw is_nodes at e)) in
+        (nodes read.0, number_found 1 MAX_NODES read.0 value read.1, read.2)
     | inr no_nodes ↦ elim (cases_Bool (bytes_eq front (codes "walltime"))) [
       | inl is_limit ↦
-          let read = option_map_some Resource.Limit (number_in 1 10_000_000 value) resource (ok_or_ok (option_map Resource.Limit (number_in 1 10_000_000 value)) BadValue resource (rw (no_nodes, is_limit) at e)) in
-          (walltime read.0, number_found 1 10_000_000 read.0 value read.1, read.2)
+          let read = option_map_some Resource.Limit (number_in 1 MAX_LIMIT value) resource (ok_or_ok (option_map Resource.Limit (number_in 1 MAX_LIMIT value)) BadValue resource (rw (no_nodes, is_limit) at e)) in
+          (walltime read.0, number_found 1 MAX_LIMIT read.0 value read.1, read.2)
       | inr no_limit ↦
           let read = when_ok (bytes_eq front (codes "sites")) (answer_map Resource.Sites (sites_in roster value)) BadValue resource (rw (no_nodes, no_limit) at e) in
           let set = map_ok Resource.Sites (sites_in roster value) resource read.1 in
@@ -155,7 +159,7 @@ module _ (roster : List (List ℕ × ℕ)) where
     | inr bare ↦ local here site (rw bare at e) inside
   ]
 
-  of_parts : (sequence site : ℕ) (job : StampValue) → record { counter = sequence; site = site } ≡ job → is_within 1 1_000_000_000 sequence ≡ true → site < length roster → IsJob roster job
+  of_parts : (sequence site : ℕ) (job : StampValue) → record { counter = sequence; site = site } ≡ job → is_within 1 MAX_COUNTER sequence ≡ true → site < length roster → IsJob roster job
   of_parts sequence site job e counted placed = rw (← e) (counted, placed)
 
   job_found : (here : ℕ) → here < length roster → (word : List ℕ) (job : StampValue) → job_in roster here word ≡ Ok job → IsJob roster job
@@ -163,8 +167,8 @@ module _ (roster : List (List ℕ × ℕ)) where
       let sequence = bind_ok (sequence_in (before_first is_dot word)) _ job e in
       let place = bind_ok (place_in roster here word) _ job sequence.2 in
       let parts : record { counter = sequence.0; site = place.0 } ≡ job = cc (place.2) in
-      let read = when_ok (nat_le (length (before_first is_dot word)) 10) (ok_or (number_in 1 1_000_000_000 (before_first is_dot word)) BadIdentifier) BadIdentifier sequence.0 sequence.1 in
-      let counted = number_found 1 1_000_000_000 sequence.0 (before_first is_dot word) (ok_or_ok (number_in 1 1_000_000_000 (before_first is_dot word)) BadIdentifier sequence.0 read.1) in
+      let read = when_ok (nat_le (length (before_first is_dot word)) MAX_SEQUENCE_DIGITS) (ok_or (number_in 1 MAX_COUNTER (before_first is_dot word)) BadIdentifier) BadIdentifier sequence.0 sequence.1 in
+      let counted = number_found 1 MAX_COUNTER sequence.0 (before_first is_dot word) (ok_or_ok (number_in 1 MAX_COUNTER (before_first is_dot word)) BadIdentifier sequence.0 read.1) in
       let placed = place_found here inside word place.0 place.1 in
       of_parts sequence.0 place.0 job parts counted placed
 

@@ -7,11 +7,15 @@ use Rattle.std.specs.List.{All, find, join_with_byte, range_with_len}
 use Rattle.std.proofs.lemmas.Bool.{cases_Bool, cases_lt}
 use Rattle.std.proofs.lemmas.Bool.Decides.{nat_tests}
 use Rattle.std.proofs.lemmas.Fmt.{length-decimal-le}
+use Rattle.fed_stamp.specs.declared.rosters.TheConstants.{MAX_NODES}
+use Rattle.fed_stamp.specs.declared.stamps.TheConstants.{MAX_COUNTER}
+use Rattle.fed_record.specs.declared.limits.TheConstants.{MAX_LIMIT}
 use Rattle.fed_stamp.specs.Roster.{IsRoster, is_named, is_site_name, name_at}
 use Rattle.fed_stamp.specs.SiteSet.{set_of}
 use Rattle.fed_stamp.specs.Stamp.{StampValue}
 use Rattle.fed_words.specs.declared.faults.UsageFault.{UsageFault}
 use Rattle.fed_words.specs.declared.faults.UsageFault.TheVariants.{BadIdentifier, BadValue}
+use Rattle.fed_words.specs.declared.identifiers.TheConstants.{MAX_SEQUENCE_DIGITS}
 use Rattle.fed_words.specs.Fault.{answer_map, each}
 use Rattle.fed_words.specs.Identifier.{is_dot, job_in, sequence_in}
 use Rattle.fed_words.specs.Number.{is_within}
@@ -58,18 +62,18 @@ module _ (roster : List (List ℕ × ℕ)) (lawful : IsRoster roster) where
   in_64 : (least most n : ℕ) → most < 2 ^ 64 → is_within least most n ≡ true → n < 2 ^ 64
   in_64 least most n low e = grind (arith, nat_tests)
 
-  in_10_digits : (n : ℕ) → is_within 1 1_000_000_000 n ≡ true → n < 10 ^ 10
+  in_10_digits : (n : ℕ) → is_within 1 MAX_COUNTER n ≡ true → n < 10 ^ 10
   in_10_digits n e = grind (arith, nat_tests)
 
-  sequence_in-decimal : (n : ℕ) → is_within 1 1_000_000_000 n ≡ true → sequence_in (decimal n) ≡ Ok n
+  sequence_in-decimal : (n : ℕ) → is_within 1 MAX_COUNTER n ≡ true → sequence_in (decimal n) ≡ Ok n
   sequence_in-decimal n e =
-      let low = in_64 1 1_000_000_000 n (omega arith) e in
-      let short : nat_le (length (decimal n)) 10 ≡ true = (let fact = length-decimal-le 10 n (omega arith) (in_10_digits n e) low in grind (arith, nat_tests)) in
-      rw (short, number_in-decimal 1 1_000_000_000 n (omega arith) e) refl
+      let low = in_64 1 MAX_COUNTER n (omega arith) e in
+      let short : nat_le (length (decimal n)) MAX_SEQUENCE_DIGITS ≡ true = (let fact = length-decimal-le 10 n (omega arith) (in_10_digits n e) low in grind (arith, nat_tests)) in
+      rw (short, number_in-decimal 1 MAX_COUNTER n (omega arith) e) refl
 
   pub job_in-identifier : (here : ℕ) (job : StampValue) → IsJob roster job → job_in roster here (identifier_text roster job) ≡ Ok job
   job_in-identifier here job known =
-      let free = free-decimal is_dot job.counter (in_64 1 1_000_000_000 job.counter (omega arith) known.0) no_dot_digit in
+      let free = free-decimal is_dot job.counter (in_64 1 MAX_COUNTER job.counter (omega arith) known.0) no_dot_digit in
       rw (
         cut-before is_dot 46 (name_at roster job.site) refl (decimal job.counter) free,
         cut-found is_dot 46 (name_at roster job.site) refl (decimal job.counter) free,
@@ -97,16 +101,16 @@ module _ (roster : List (List ℕ × ℕ)) (lawful : IsRoster roster) where
       ∙ ap (λ found. Ok (set_of found)) (map-itself ids)
 
   pub resource_in-text : (argument : ResourceArgument) → IsResourceInRange roster argument → resource_in roster (resource_text roster argument) ≡ Ok (resource_of argument)
-  resource_in-text (nodes n) h = value_read (codes "nodes") (decimal n) (refl, (refl, (refl, (refl, (refl, tt))))) ∙ rw (number_in-decimal 1 1_000_000 n (omega arith) h) refl
-  resource_in-text (walltime n) h = value_read (codes "walltime") (decimal n) (refl, (refl, (refl, (refl, (refl, (refl, (refl, (refl, tt)))))))) ∙ rw (number_in-decimal 1 10_000_000 n (omega arith) h) refl
+  resource_in-text (nodes n) h = value_read (codes "nodes") (decimal n) (refl, (refl, (refl, (refl, (refl, tt))))) ∙ rw (number_in-decimal 1 MAX_NODES n (omega arith) h) refl
+  resource_in-text (walltime n) h = value_read (codes "walltime") (decimal n) (refl, (refl, (refl, (refl, (refl, (refl, (refl, (refl, tt)))))))) ∙ rw (number_in-decimal 1 MAX_LIMIT n (omega arith) h) refl
   resource_in-text (sites ids) h = value_read (codes "sites") (join_with_byte 43 (map (name_at roster) ids)) (refl, (refl, (refl, (refl, (refl, tt))))) ∙ rw (names_read ids h.0 h.1) refl
 
   digit_no_comma : (c : ℕ) → (48 ≤ c) × (c ≤ 57) → (c == 44) ≡ false
   digit_no_comma c h = grind (arith, nat_tests)
 
   text_free : (argument : ResourceArgument) → IsResourceInRange roster argument → Free (λ b. b == 44) (resource_text roster argument)
-  text_free (nodes n) h = free-append (λ b. b == 44) (codes "nodes=") (decimal n) (refl, (refl, (refl, (refl, (refl, (refl, tt)))))) (free-decimal (λ b. b == 44) n (in_64 1 1_000_000 n (omega arith) h) digit_no_comma)
-  text_free (walltime n) h = free-append (λ b. b == 44) (codes "walltime=") (decimal n) (refl, (refl, (refl, (refl, (refl, (refl, (refl, (refl, (refl, tt))))))))) (free-decimal (λ b. b == 44) n (in_64 1 10_000_000 n (omega arith) h) digit_no_comma)
+  text_free (nodes n) h = free-append (λ b. b == 44) (codes "nodes=") (decimal n) (refl, (refl, (refl, (refl, (refl, (refl, tt)))))) (free-decimal (λ b. b == 44) n (in_64 1 MAX_NODES n (omega arith) h) digit_no_comma)
+  text_free (walltime n) h = free-append (λ b. b == 44) (codes "walltime=") (decimal n) (refl, (refl, (refl, (refl, (refl, (refl, (refl, (refl, (refl, tt))))))))) (free-decimal (λ b. b == 44) n (in_64 1 MAX_LIMIT n (omega arith) h) digit_no_comma)
   text_free (sites ids) h = free-append (λ b. b == 44) (codes "sites=") (join_with_byte 43 (map (name_at roster) ids)) (refl, (refl, (refl, (refl, (refl, (refl, tt))))))
       (free-join (λ b. b == 44) 43 (map (name_at roster) ids) refl (all-map (Free (λ b. b == 44)) (name_at roster) (λ site. site < length roster) (λ site within. free-site_name (λ b. b == 44) (name_at roster site) no_comma (name_formed site within)) ids h.1))
 

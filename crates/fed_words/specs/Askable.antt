@@ -3,10 +3,13 @@ use Rattle.std.specs.Prelude.{◌≡◌, ℕ, ◌<◌, ℤ, Bool, true, ◌||◌
 use Rattle.std.specs.Fmt.{decimal, signed_decimal}
 use Rattle.std.specs.List.{All, join_with_byte}
 use Rattle.std.specs.Str.{byte}
+use Rattle.fed_stamp.specs.declared.rosters.TheConstants.{MAX_NODES}
+use Rattle.fed_stamp.specs.declared.stamps.TheConstants.{MAX_COUNTER}
 use Rattle.fed_stamp.specs.Roster.{name_at}
 use Rattle.fed_stamp.specs.SiteSet.{set_of}
 use Rattle.fed_stamp.specs.Stamp.{StampValue}
 use Rattle.fed_stamp.specs.Word.{is_name}
+use Rattle.fed_record.specs.declared.limits.TheConstants.{MAX_LIMIT}
 use Rattle.fed_record.specs.Hold.{sum_of_bits}
 use Rattle.fed_words.specs.declared.resources.Resource.{Resource}
 use Rattle.fed_words.specs.declared.settings.Setting.{Setting}
@@ -40,7 +43,7 @@ identifier_text roster job = decimal job.counter ++ (byte "." ∷ name_at roster
 
 -- a job of a site of the roster
 abbrev pub IsJob : List (List ℕ × ℕ) → StampValue → Type 0
-IsJob roster job = (is_within 1 1_000_000_000 job.counter ≡ true) × (job.site < length roster)
+IsJob roster job = (is_within 1 MAX_COUNTER job.counter ≡ true) × (job.site < length roster)
 
 -- ---- settings
 
@@ -61,8 +64,8 @@ resource_text roster (walltime n) = codes "walltime=" ++ decimal n
 resource_text roster (sites ids) = codes "sites=" ++ join_with_byte (byte "+") (map (name_at roster) ids)
 
 abbrev pub IsResourceInRange : List (List ℕ × ℕ) → ResourceArgument → Type 0
-IsResourceInRange roster (nodes n) = is_within 1 1_000_000 n ≡ true
-IsResourceInRange roster (walltime n) = is_within 1 10_000_000 n ≡ true
+IsResourceInRange roster (nodes n) = is_within 1 MAX_NODES n ≡ true
+IsResourceInRange roster (walltime n) = is_within 1 MAX_LIMIT n ≡ true
 IsResourceInRange roster (sites ids) = (0 < length ids) × All (λ site. site < length roster) ids
 
 -- an option, with the value of its option-argument where it takes one

@@ -2,8 +2,10 @@
 use Rattle.std.specs.Prelude.{ℕ, Bool, ◌==◌, nat_le, List, length, is_some, position, Ok, Err, if◌then◌else◌}
 use Rattle.std.specs.List.{before_first, after_first}
 use Rattle.std.specs.Option.{ok_or}
+use Rattle.fed_stamp.specs.declared.stamps.TheConstants.{MAX_COUNTER}
 use Rattle.fed_stamp.specs.Stamp.{StampValue}
 use Rattle.fed_words.specs.declared.faults.UsageFault.TheVariants.{BadIdentifier}
+use Rattle.fed_words.specs.declared.identifiers.TheConstants.{MAX_SEQUENCE_DIGITS}
 use Rattle.fed_words.specs.Fault.{Answer, ◌>>=◌}
 use Rattle.fed_words.specs.Number.{number_in}
 use Rattle.fed_words.specs.Site.{site_in}
@@ -11,10 +13,10 @@ use Rattle.fed_words.specs.Site.{site_in}
 abbrev pub is_dot : ℕ → Bool
 is_dot byte = byte == 46
 
--- 1 to 10 decimal digits
+-- 1 to MAX_SEQUENCE_DIGITS decimal digits, with the value of a counter
 abbrev pub sequence_in : List ℕ → Answer ℕ
 sequence_in word =
-    if nat_le (length word) 10 then ok_or (number_in 1 1_000_000_000 word) BadIdentifier else Err BadIdentifier
+    if nat_le (length word) MAX_SEQUENCE_DIGITS then ok_or (number_in 1 MAX_COUNTER word) BadIdentifier else Err BadIdentifier
 
 -- what the word says of the site: the name behind the first dot, or, where there is none, the site that reads it
 abbrev pub place_in : List (List ℕ × ℕ) → ℕ → List ℕ → Answer ℕ

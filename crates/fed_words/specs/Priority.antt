@@ -1,11 +1,11 @@
 -- Words that are priorities.
-use Rattle.std.specs.Prelude.{ℕ, ℤ, pos, negsuc, Bool, ◌&&◌, int_le, List, Option, Some, None, if◌then◌else◌}
+use Rattle.std.specs.Prelude.{ℕ, ℤ, Bool, ◌&&◌, int_le, List, Option, Some, None, if◌then◌else◌}
 use Rattle.std.specs.Str.Parse.{signed_digits_value, without_leading_sign}
+use Rattle.fed_record.specs.declared.priorities.TheConstants.{MIN_PRIORITY, MAX_PRIORITY}
 use Rattle.fed_words.specs.Number.{is_numeral}
 
--- from -1024 to 1023
 abbrev pub is_priority : ℤ → Bool
-is_priority number = int_le (negsuc 1023) number && int_le number (pos 1023)
+is_priority number = int_le MIN_PRIORITY number && int_le number MAX_PRIORITY
 
 -- an optional sign, and one or more decimal digits
 abbrev pub priority_in : List ℕ → Option ℤ

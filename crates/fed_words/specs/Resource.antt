@@ -4,7 +4,9 @@ use Rattle.std.specs.Prelude.{ℕ, Bool, ◌==◌, List, codes, Option, Some, No
 use Rattle.std.specs.List.{before_first, after_first, slice_split}
 use Rattle.std.specs.Option.{ok_or}
 use Rattle.std.specs.Str.{byte, bytes_eq}
+use Rattle.fed_stamp.specs.declared.rosters.TheConstants.{MAX_NODES}
 use Rattle.fed_stamp.specs.SiteSet.{set_of}
+use Rattle.fed_record.specs.declared.limits.TheConstants.{MAX_LIMIT}
 use Rattle.fed_words.specs.declared.faults.UsageFault.TheVariants.{BadValue}
 use Rattle.fed_words.specs.declared.resources.Resource.{Resource}
 use Rattle.fed_words.specs.declared.resources.Resource.TheVariants.{Nodes, Limit, Sites}
@@ -30,8 +32,8 @@ sites_in roster value = answer_map set_of (each (site_in BadValue roster) (slice
 -- the value of a resource
 abbrev pub value_in : List (List ℕ × ℕ) → List ℕ → List ℕ → Answer Resource
 value_in roster name value = if bytes_eq name (codes "nodes")
-    then ok_or (option_map Nodes (number_in 1 1_000_000 value)) BadValue
-    else (if bytes_eq name (codes "walltime") then ok_or (option_map Limit (number_in 1 10_000_000 value)) BadValue
+    then ok_or (option_map Nodes (number_in 1 MAX_NODES value)) BadValue
+    else (if bytes_eq name (codes "walltime") then ok_or (option_map Limit (number_in 1 MAX_LIMIT value)) BadValue
     else (if bytes_eq name (codes "sites") then answer_map Sites (sites_in roster value)
     else Err BadValue))
 

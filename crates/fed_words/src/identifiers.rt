@@ -5,14 +5,14 @@ ghost use Rattle.fed_words.specs.Identifier.{job_in, sequence_in};
 use crate::faults::UsageFault;
 use crate::numbers::read_number;
 use crate::sites::read_site;
-use fed_stamp::{JobId, Roster, SiteId, Stamp};
+use fed_stamp::{JobId, MAX_COUNTER, Roster, SiteId, Stamp};
 
 /// How many digits the sequence number of an identifier has at most.
 pub const MAX_SEQUENCE_DIGITS: usize = 10;
 
 /// The job that a word names where it is read at `here`. An identifier is a sequence number, a dot and the name of a
-/// site, or a sequence number alone, which means the site that reads it. A sequence number is 1 to 10 decimal digits,
-/// of which the first may be zeros, with a value from 1 to 1,000,000,000.
+/// site, or a sequence number alone, which means the site that reads it. A sequence number is 1 to
+/// `MAX_SEQUENCE_DIGITS` decimal digits, of which the first may be zeros, with a value from 1 to `MAX_COUNTER`.
 ///
 /// `BadIdentifier` where the word has another form, and `UnknownSite` where the roster has no site of this name.
 pub fn read_identifier(roster: &Roster, here: SiteId, word: &str) -> Result<JobId, UsageFault>
@@ -28,7 +28,7 @@ pub fn read_identifier(roster: &Roster, here: SiteId, word: &str) -> Result<JobI
     }
 }
 
-/// The number that 1 to 10 decimal digits write.
+/// The number that 1 to `MAX_SEQUENCE_DIGITS` decimal digits write.
 fn read_sequence(word: &str) -> Result<u64, UsageFault>
     ensures { result ≡ sequence_in word.now }
 {
@@ -37,7 +37,7 @@ fn read_sequence(word: &str) -> Result<u64, UsageFault>
     }
     match read_number(word) {
         Some(number) => {
-            if 1 <= number && number <= 1_000_000_000 {
+            if 1 <= number && number <= MAX_COUNTER {
                 Ok(number)
             } else {
                 Err(UsageFault::BadIdentifier)

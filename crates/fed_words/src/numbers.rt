@@ -2,6 +2,8 @@
 ghost use Rattle.std.specs.Prelude.{◌≡◌};
 ghost use Rattle.std.specs.Char.{is_ascii_digit};
 ghost use Rattle.std.specs.List.{list_all};
+ghost use Rattle.fed_stamp.specs.declared.rosters.TheConstants.{MAX_NODES};
+ghost use Rattle.fed_record.specs.declared.limits.TheConstants.{MAX_LIMIT};
 ghost use Rattle.fed_words.specs.Number.{decimal_in, is_numeral as has_form_of_numeral, number_in};
 
 use fed_record::{Limit, Nodes};
@@ -17,18 +19,18 @@ pub fn read_number(word: &str) -> Option<u64>
     word.parse().ok()
 }
 
-/// The number of nodes that a word writes in decimal digits, from 1 to 1,000,000, or `None` where the word has another
+/// The number of nodes that a word writes in decimal digits, from 1 to `MAX_NODES`, or `None` where the word has another
 /// form or the number is out of this range.
 pub fn read_nodes(word: &str) -> Option<Nodes>
-    ensures { result ≡ number_in 1 1_000_000 word.now }
+    ensures { result ≡ number_in 1 MAX_NODES word.now }
 {
     Nodes::new(read_number(word)?)
 }
 
-/// The time limit that a word writes in decimal digits, from 1 to 10,000,000 whole seconds, or `None` where the word
+/// The time limit that a word writes in decimal digits, from 1 to `MAX_LIMIT` whole seconds, or `None` where the word
 /// has another form or the number is out of this range.
 pub fn read_limit(word: &str) -> Option<Limit>
-    ensures { result ≡ number_in 1 10_000_000 word.now }
+    ensures { result ≡ number_in 1 MAX_LIMIT word.now }
 {
     Limit::new(read_number(word)?)
 }

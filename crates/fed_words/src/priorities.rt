@@ -4,8 +4,8 @@ ghost use Rattle.fed_words.specs.Priority.{priority_in};
 
 use fed_record::Priority;
 
-/// The priority that a word writes: an optional `+` or `-`, then one or more decimal digits, with a value from -1024 to
-/// 1023. `None` where the word has another form or the value is out of this range.
+/// The priority that a word writes: an optional `+` or `-`, then one or more decimal digits, with a value from
+/// `MIN_PRIORITY` to `MAX_PRIORITY`. `None` where the word has another form or the value is out of this range.
 pub fn read_priority(word: &str) -> Option<Priority>
     ensures { result ≡ priority_in word.now }
 {

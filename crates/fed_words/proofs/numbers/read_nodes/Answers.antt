@@ -1,6 +1,7 @@
 use Rattle.std.proofs.Common.{arith, ◌∙◌}
+use Rattle.fed_stamp.specs.declared.rosters.TheConstants.{MAX_NODES}
 use Rattle.fed_words.proofs.DigitWords.{narrower}
 use Rattle.fed_words.proofs.numbers.read_nodes.Goals as goal
 
 pub returns : goal.returns
-returns c = c.new.ensures ∙ narrower 1 1_000_000 c.in_ok-read_number.field-0 c.args.word.now (omega arith) c.in_ok-read_number.ensures
+returns c = c.new.ensures ∙ narrower 1 MAX_NODES c.in_ok-read_number.field-0 c.args.word.now (omega arith) c.in_ok-read_number.ensures
