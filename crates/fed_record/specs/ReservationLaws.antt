@@ -4,7 +4,7 @@ use Rattle.std.specs.List.{cons_option}
 use Rattle.std.specs.Option.{option_eq}
 use Rattle.std.proofs.Common.{◌≡◌, Option, Some, None, refl, sym, ap, subst}
 use Rattle.std.proofs.lemmas.Map.Lookups.{CmpEqualImpliesEq}
-use Rattle.fed_stamp.specs.Stamp.{StampValue}
+use Rattle.fed_stamp.specs.Stamp.{StampValue, same_stamp}
 use Rattle.fed_lattice.specs.Exact.{TellsApart}
 use Rattle.fed_lattice.specs.ExactLaws.{tells_options, tells_pairs, tells_stamps, tells_numbers}
 use Rattle.fed_lattice.specs.GreatestLaws.{exact_option, option_max_assoc, option_max_comm, option_max_itself}
@@ -25,7 +25,7 @@ abbrev pub same_window : Window → Window → Bool
 same_window a b = nat_eq a.site b.site && (nat_eq a.start b.start && (nat_eq a.end b.end && nat_eq a.nodes b.nodes))
 
 abbrev pub same_reservation : ReservationView → ReservationView → Bool
-same_reservation = option_eq (λ (p q : StampValue × Option Window). (nat_eq p.0.counter q.0.counter && nat_eq p.0.site q.0.site) && option_eq same_window p.1 q.1)
+same_reservation = option_eq (λ (p q : StampValue × Option Window). same_stamp p.0 q.0 && option_eq same_window p.1 q.1)
 
 -- the parts of a window tell it
 pub tells_windows : TellsApart same_window
