@@ -3,6 +3,7 @@ ghost use Rattle.std.specs.Prelude.{◌≡◌, ◌<◌, [], ◌∷◌, IfOk, IfN
 ghost use Rattle.std.specs.Str.Lines.{lines, strip_carriage_return};
 ghost use Rattle.fed_script.specs.Lines.{is_readable, words_of};
 
+use smallvec::SmallVec;
 use std::alloc::{AllocError, Global};
 use std::str;
 
@@ -55,14 +56,17 @@ fn is_readable(line: &[u8]) -> bool
     line.iter().all(|byte| matches!(*byte, b' '..=b'~' | b'\t'))
 }
 
-/// How many words room is made for at first: few lines have more.
-const LINE_WORDS: usize = 8;
+/// How many words take no allocation: few lines have more.
+pub const INLINE_WORDS: usize = 8;
+
+/// The words of a line.
+pub type Words<'a> = SmallVec<&'a str, INLINE_WORDS>;
 
 /// The words of a line, which are parted by spaces and tabs.
-pub fn words(alloc: Global, line: &str) -> Result<Vec<&str>, AllocError>
+pub fn words(alloc: Global, line: &str) -> Result<Words<'_>, AllocError>
     ensures { IfOk result (λ words. map (λ word. word.now) words.items ≡ words_of line.now) }
 {
-    let mut words = Vec::with_capacity(alloc, LINE_WORDS)?;
+    let mut words = SmallVec::new(alloc);
     words.extend(line.split_ascii_whitespace())?;
     Ok(words)
 }

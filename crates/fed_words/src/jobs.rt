@@ -9,19 +9,18 @@ use crate::identifiers::read_identifier;
 use crate::utilities::Utility;
 use fed_stamp::{JobId, Roster, SiteId};
 use indexmap::IndexSet;
+use smallvec::SmallVec;
 use std::alloc::Global;
 
+/// The jobs that operands name, of which one takes no allocation: most words name one.
+pub(crate) type Jobs = SmallVec<JobId, 1>;
+
 /// The job that an operand names, where it is the only one.
-fn read_one(
-    alloc: Global,
-    roster: &Roster,
-    here: SiteId,
-    operand: &str,
-) -> Result<Vec<JobId>, UsageFault>
+fn read_one(alloc: Global, roster: &Roster, here: SiteId, operand: &str) -> Result<Jobs, UsageFault>
     ensures { Gives (λ jobs. jobs.items) result (named_jobs roster.now here (operand.now ∷ [])) }
 {
     let job = read_identifier(roster, here, operand)?;
-    Ok(vec![in alloc; job]?)
+    Ok(SmallVec::from_slice(alloc, &[job])?)
 }
 
 /// The jobs that operands name, each once, at its first place: one is looked up among those before it.
@@ -30,10 +29,10 @@ fn read_all(
     roster: &Roster,
     here: SiteId,
     operands: &[&str],
-) -> Result<Vec<JobId>, UsageFault>
+) -> Result<Jobs, UsageFault>
     ensures { Gives (λ jobs. jobs.items) result (named_jobs roster.now here (words_of operands.now)) }
 {
-    let mut jobs = Vec::new(alloc);
+    let mut jobs = SmallVec::new(alloc);
     let mut seen: IndexSet<(u64, u8)> = IndexSet::new(alloc);
     for operand in operands {
         let job = read_identifier(roster, here, operand)?;
@@ -50,7 +49,7 @@ fn read_named(
     roster: &Roster,
     here: SiteId,
     operands: &[&str],
-) -> Result<Vec<JobId>, UsageFault>
+) -> Result<Jobs, UsageFault>
     ensures { Gives (λ jobs. jobs.items) result (named_jobs roster.now here (words_of operands.now)) }
 {
     match operands {
@@ -66,11 +65,11 @@ pub(crate) fn read_jobs(
     here: SiteId,
     utility: Utility,
     operands: &[&str],
-) -> Result<Vec<JobId>, UsageFault>
+) -> Result<Jobs, UsageFault>
     ensures { Gives (λ jobs. jobs.items) result (jobs_in roster.now here utility (words_of operands.now)) }
 {
     match utility {
-        Utility::Qsub => Ok(Vec::new(alloc)),
+        Utility::Qsub => Ok(SmallVec::new(alloc)),
         Utility::Qstat => read_named(alloc, roster, here, operands),
         Utility::Qalter | Utility::Qhold | Utility::Qrls | Utility::Qdel => {
             if operands.is_empty() {

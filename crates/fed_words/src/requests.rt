@@ -164,19 +164,19 @@ fn make_request(
     roster: &Roster,
     utility: Utility,
     settings: &Settings,
-    jobs: Vec<JobId>,
+    jobs: &[JobId],
 ) -> Result<Request, AllocError>
-    ensures { IfOk result (λ request. asked_by request ≡ request_of roster.now utility settings.now jobs.items) }
+    ensures { IfOk result (λ request. asked_by request ≡ request_of roster.now utility settings.now jobs.now) }
 {
     match utility {
         Utility::Qsub => Ok(Request::Acts(submission(alloc, roster, settings)?)),
-        Utility::Qalter => Ok(Request::Acts(alterations(alloc, &jobs, changes(settings))?)),
-        Utility::Qhold => Ok(Request::Acts(holds(alloc, &jobs, kinds(settings))?)),
-        Utility::Qrls => Ok(Request::Acts(releases(alloc, &jobs, kinds(settings))?)),
-        Utility::Qdel => Ok(Request::Acts(deletions(alloc, &jobs)?)),
+        Utility::Qalter => Ok(Request::Acts(alterations(alloc, jobs, changes(settings))?)),
+        Utility::Qhold => Ok(Request::Acts(holds(alloc, jobs, kinds(settings))?)),
+        Utility::Qrls => Ok(Request::Acts(releases(alloc, jobs, kinds(settings))?)),
+        Utility::Qdel => Ok(Request::Acts(deletions(alloc, jobs)?)),
         Utility::Qstat => Ok(Request::List {
             full: settings.full,
-            jobs,
+            jobs: Vec::from_slice(alloc, jobs)?,
         }),
     }
 }
@@ -194,7 +194,7 @@ fn answer(
         Gives asked_by result (answer_map (request_of roster.now utility settings.now) named) }
 {
     let jobs = read_jobs(alloc, roster, here, utility, operands)?;
-    Ok(make_request(alloc, roster, utility, settings, jobs)?)
+    Ok(make_request(alloc, roster, utility, settings, jobs.as_slice())?)
 }
 
 /// What the words of a utility ask, the first of which is its name, where they are read at the site `here`: commands,

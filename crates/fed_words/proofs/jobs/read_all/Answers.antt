@@ -27,7 +27,7 @@ loop-operand-preserved c =
     let jobs : c.if-branch.jobs.items ≡ once (done ++ job ∷ []) = elim c.if-branch.branch [
       | then-branch+in_ok-push w ↦
           let new : list_any (same_stamp job) (once done) ≡ false = sym known ∙ not_true _ (sym c.in_ok-insert.ensures.added ∙ w.if-branch.true) in
-          ap (λ v. v.items) w.jobs-is ∙ w.in_ok-push.ensures.items ∙ rw c.loop-operand.invariant.1 (once-new job done new)
+          ap (λ v. v.items) w.jobs-is ∙ w.in_ok-push.ensures.ok ∙ rw c.loop-operand.invariant.1 (once-new job done new)
       | else-branch w ↦
           let old : list_any (same_stamp job) (once done) ≡ true = sym known ∙ not_false _ (sym c.in_ok-insert.ensures.added ∙ w.if-branch.false) in
           ap (λ v. v.items) w.jobs-is ∙ c.loop-operand.invariant.1 ∙ once-known job done old
