@@ -21,7 +21,7 @@ use Rattle.fed_threads.specs.declared.journal.Asked.TheVariants.{Do, Ship, Take}
 use Rattle.fed_threads.specs.declared.site.Receipt.{Receipt}
 use Rattle.fed_threads.specs.Calls.{Steps}
 use Rattle.fed_threads.specs.Replay.{State, after_answer, outcome_of_answer, outcome_of_receipt, lacking, after_packet_unless, outcome_of_packet_unless, after_event, outcome_at, Kept, replay, Appends}
-use Rattle.fed_threads.specs.Seat.{Known, claimed, IsUpToDate, Covers, NamesSite}
+use Rattle.fed_threads.specs.Seat.{Known, claimed, version_of, IsUpToDate, Covers, NamesSite}
 use Rattle.fed_threads.proofs.Journals.{event_grows}
 
 -- ---- an identifier that is answered is covered by the version left
@@ -103,11 +103,10 @@ steps old new before kept after site index found left asked packet outcome entry
     (covers_event s (length old.entries) asked packet len (subst NamesSite entry.answer named))) in
     record {
       entry = entry;
-      claim = record {
-        index = index;
-        version = left;
-        fresh = record { journal = fresh.journal; board = below_trans _ found left fresh.board grown };
-        answered = subst (λ v. Covers v outcome) (sym left_is) covered;
-        seat = seat ∙ ap (λ (k : Known). claimed k (record { site = site; index = index; outcome = outcome }) left asked) kept_is;
-      };
+      fresh = subst (λ n. IsUpToDate before site n s.view.version) index_is (subst (λ v. IsUpToDate before site index v) found_is fresh);
+      later = subst (λ v. is_below (version_of before site) v ≡ true) left_is (below_trans _ found left fresh.board grown);
+      answered = covered;
+      seat = seat ∙ ap (λ (k : Known). claimed k (record { site = site; index = index; outcome = outcome }) left asked) kept_is
+          ∙ ap (λ n. claimed before (record { site = site; index = n; outcome = outcome }) left asked) index_is
+          ∙ ap (λ v. claimed before (record { site = site; index = length old.entries; outcome = outcome }) v asked) left_is;
     }

@@ -1,5 +1,6 @@
 -- What a call of a federation does to the site whose lock it holds, and to the seat.
-use Rattle.std.specs.Prelude.{◌≡◌, ℕ, length, Option}
+use Rattle.std.specs.Prelude.{◌≡◌, ℕ, true, length, Option}
+use Rattle.fed_stamp.specs.Version.{is_below}
 use Rattle.fed_board.specs.View.{View}
 use Rattle.fed_wire.specs.Packet.{PacketValue}
 use Rattle.fed_world.specs.declared.outcomes.Outcome.{Outcome}
@@ -9,27 +10,51 @@ use Rattle.fed_threads.specs.declared.federation.Next.{Next}
 use Rattle.fed_threads.specs.declared.journal.Asked.{Asked}
 use Rattle.fed_threads.specs.declared.journal.Asked.TheVariants.{Take}
 use Rattle.fed_threads.specs.Replay.{Kept, replay, Appends}
-use Rattle.fed_threads.specs.Seat.{Known, IsBehind, AddsClaim, looked, IsUpToDate}
+use Rattle.fed_threads.specs.Seat.{Known, IsBehind, IsUpToDate, Covers, claimed, looked, version_of}
 
--- a call at a site of the roster answers no NoSite, and Behind only where the site is behind what the seat has seen
-abbrev pub OnlyBehind : Known → ℕ → CallFault → Type 0
-OnlyBehind k site NoSite = ⊥
-OnlyBehind k site (Behind seen found version) = IsBehind k site (Behind seen found version)
-OnlyBehind k site NoMemory = Unit {0}
+-- a call at a site of the roster answers no NoSite, and Behind only where what the lock keeps is behind what the seat has
+-- seen
+abbrev pub IsFaultOf : Kept → Known → ℕ → CallFault → Type 0
+IsFaultOf held k site NoSite = ⊥
+IsFaultOf held k site (Behind seen found version) =
+    IsBehind k site (length held.entries) (replay held).view.version (Behind seen found version)
+IsFaultOf held k site NoMemory = Unit {0}
 
--- the entry is added to the journal, and the seat claims it with the answer
+-- a fault of a call, for what some lock kept
+pub record OnlyBehind (k : Known) (site : ℕ) (fault : CallFault) : Type 0 where
+  pub held : Kept
+  pub fault_is : IsFaultOf held k site fault
+
+-- the entry is added to the journal, which was not behind what the seat has seen, and the seat claims it with the answer:
+-- it has then seen the journal as far as the entry, and the version of the board that the entry leaves, which is at least
+-- the one seen before and covers an identifier that is answered
 pub record Steps (old new : Kept) (before after : Known) (site : ℕ) (asked : Asked) (packet : Option PacketValue)
     (outcome : Outcome) : Type 0 where
   pub entry : Appends old new asked packet outcome
-  pub claim : AddsClaim before after site asked outcome
+  pub fresh : IsUpToDate before site (length old.entries) (replay old).view.version
+  pub later : is_below (version_of before site) (replay new).view.version ≡ true
+  pub answered : Covers (replay new).view.version outcome
+  pub seat : after ≡ claimed before (record { site = site; index = length old.entries; outcome = outcome })
+      (replay new).view.version asked
 
--- the board reads as the replay of a journal that is at least as long as the seat has seen, and its version is at least
--- the one that the seat has seen
+-- just one claim was added: that of an entry which some journal got
+pub record AddsClaim (before after : Known) (site : ℕ) (asked : Asked) (outcome : Outcome) : Type 0 where
+  pub old : Kept
+  pub new : Kept
+  pub packet : Option PacketValue
+  pub steps : Steps old new before after site asked packet outcome
+
+-- the board reads as the replay of the journal, which is at least as long as the seat has seen, and its version is at
+-- least the one that the seat has seen; the seat has then seen both
+pub record LooksAt (held : Kept) (before after : Known) (site : ℕ) (board : View) : Type 0 where
+  pub fresh : IsUpToDate before site (length held.entries) (replay held).view.version
+  pub board_is : board ≡ (replay held).view
+  pub seat : after ≡ looked before site (length held.entries) (replay held).view.version
+
+-- so of some journal
 pub record Looks (before after : Known) (site : ℕ) (board : View) : Type 0 where
-  pub journal : Kept
-  pub fresh : IsUpToDate before site (length journal.entries) (replay journal).view.version
-  pub board_is : board ≡ (replay journal).view
-  pub seat : after ≡ looked before site (length journal.entries) (replay journal).view.version
+  pub held : Kept
+  pub looks : LooksAt held before after site board
 
 -- what a take is answered, as an outcome
 abbrev pub Took : Known → Known → ℕ → Outcome → Type 0

@@ -52,12 +52,13 @@ pub record IsUpToDate (k : Known) (site found : ℕ) (version : List ℕ) : Type
   pub journal : seen_of k site ≤ found
   pub board : is_below (version_of k site) version ≡ true
 
--- Behind is answered with what was seen, where the journal or the board found is behind it
-abbrev pub IsBehind : Known → ℕ → CallFault → Type 0
-IsBehind k site NoSite = ⊥
-IsBehind k site (Behind seen found version) =
-    (seen ≡ seen_of k site) × ((found < seen) ⊎ (is_below (version_of k site) version ≡ true → ⊥))
-IsBehind k site NoMemory = ⊥
+-- Behind is answered with what was seen and what was found, where the journal or the board found is behind
+abbrev pub IsBehind : Known → ℕ → ℕ → List ℕ → CallFault → Type 0
+IsBehind k site found version NoSite = ⊥
+IsBehind k site found version (Behind seen length_found version_found) =
+    (seen ≡ seen_of k site) × (length_found ≡ found) × (version_found ≡ version)
+    × ((found < seen_of k site) ⊎ (is_below (version_of k site) version ≡ true → ⊥))
+IsBehind k site found version NoMemory = ⊥
 
 -- an identifier that was answered is covered by the version
 abbrev pub Covers : List ℕ → Outcome → Type 0
@@ -70,11 +71,3 @@ abbrev pub NamesSite : Outcome → Type 0
 NamesSite (Outcome.Replied (Reply.Submitted job)) = job.site < 16
 NamesSite (Outcome.Replied (Reply.Reserved name)) = name.site < 16
 NamesSite _ = Unit {0}
-
--- just one claim was added, of an index and a version that are not behind what was seen
-pub record AddsClaim (old new : Known) (site : ℕ) (asked : Asked) (outcome : Outcome) : Type 0 where
-  pub index : ℕ
-  pub version : List ℕ
-  pub fresh : IsUpToDate old site index version
-  pub answered : Covers version outcome
-  pub seat : new ≡ claimed old (record { site = site; index = index; outcome = outcome }) version asked

@@ -1,7 +1,8 @@
 //! What calls do to a site whose lock is held, and to the seat. Each has the whole contract of both.
-ghost use Rattle.std.specs.Prelude.{◌≡◌, IfOk, OnErr, IfErr, None, Some, length};
+ghost use Rattle.std.specs.Prelude.{◌≡◌, ◌≢◌, Ok, Err, IfOk, OnErr, IfErr, None, Some, length};
 ghost use Rattle.fed_board.specs.Board.{reads};
-ghost use Rattle.fed_threads.specs.Calls.{OnlyBehind, Steps, Looks};
+ghost use Rattle.fed_record.specs.declared.refusals.Refusal.{Refusal};
+ghost use Rattle.fed_threads.specs.Calls.{IsFaultOf, Steps, LooksAt};
 ghost use Rattle.fed_threads.specs.Replay.{replay, outcome_of, outcome_of_receipt, IsMadeFor};
 ghost use Rattle.fed_threads.specs.Seat.{known_by};
 ghost use Rattle.fed_threads.specs.declared.journal.Asked.TheVariants.{Do, Ship, Take};
@@ -27,8 +28,9 @@ pub(crate) fn call_in(
 ) -> Result<Result<Reply, Refusal>, CallFault>
     ensures ok { IfOk result (λ said. Steps held.old held.new (known_by seat.old) (known_by seat.new) site
         (Do site who.now command.now) None (outcome_of said)) }
+    ensures told { result ≢ Ok (Err Refusal.NoMemory) }
     ensures err { OnErr result ((held.new ≡ held.old) × (known_by seat.new ≡ known_by seat.old)) }
-    ensures behind { IfErr result (OnlyBehind (known_by seat.old) site) }
+    ensures behind { IfErr result (IsFaultOf held.old (known_by seat.old) site) }
 {
     let index = held.len();
     seat.check(site, index, held.version())?;
@@ -50,9 +52,9 @@ pub(crate) fn call_in(
 
 /// A copy of the board of a site whose lock is held.
 pub(crate) fn look_in(held: &Site, site: SiteId, seat: &mut Seat) -> Result<Board, CallFault>
-    ensures ok { IfOk result (λ b. Looks (known_by seat.old) (known_by seat.new) site (reads b)) }
+    ensures ok { IfOk result (λ b. LooksAt held.now (known_by seat.old) (known_by seat.new) site (reads b)) }
     ensures err { OnErr result (known_by seat.new ≡ known_by seat.old) }
-    ensures behind { IfErr result (OnlyBehind (known_by seat.old) site) }
+    ensures behind { IfErr result (IsFaultOf held.now (known_by seat.old) site) }
 {
     let found = held.len();
     let version = held.version();
@@ -74,7 +76,7 @@ pub(crate) fn ship_in(
     ensures parcel { IfOk result (λ p. (p.sender ≡ site) × (p.place ≡ length held.old.entries) ×
         IsMadeFor (replay held.old) to p.packet) }
     ensures err { OnErr result ((held.new ≡ held.old) × (known_by seat.new ≡ known_by seat.old)) }
-    ensures behind { IfErr result (OnlyBehind (known_by seat.old) site) }
+    ensures behind { IfErr result (IsFaultOf held.old (known_by seat.old) site) }
 {
     let place = held.len();
     seat.check(site, place, held.version())?;
@@ -108,7 +110,7 @@ pub(crate) fn take_in(
     ensures ok { IfOk result (λ r. Steps held.old held.new (known_by seat.old) (known_by seat.new) site
         (Take site parcel.sender parcel.place) (Some parcel.packet) (outcome_of_receipt r)) }
     ensures err { OnErr result ((held.new ≡ held.old) × (known_by seat.new ≡ known_by seat.old)) }
-    ensures behind { IfErr result (OnlyBehind (known_by seat.old) site) }
+    ensures behind { IfErr result (IsFaultOf held.old (known_by seat.old) site) }
 {
     let Parcel {
         sender,

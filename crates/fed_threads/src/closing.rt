@@ -68,7 +68,8 @@ impl<G: Gate> Federation<G> {
         ensures kept { IfOk result (λ run. AllKeepEvents (entries_of run.journals.items) seats.items) }
         ensures boards { IfOk result (λ run.
             AreReplays (entries_of run.journals.items) (run_of run.world.sites run.world.events)) }
-        ensures sites { IfOk result (λ run. run.world.sites ≡ length self.roster) }
+        ensures sites { IfOk result
+            (λ run. (run.world.sites ≡ length self.roster) × (vec_len run.journals ≡ length self.roster)) }
     {
         settled_boards_are_replays();
         let alloc = self.alloc();

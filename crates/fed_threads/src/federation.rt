@@ -1,9 +1,10 @@
 //! Federations whose sites run at the same time.
-ghost use Rattle.std.specs.Prelude.{◌≡◌, ◌<◌, ◌≤◌, ◌+◌, ◌^◌, ◌↔◌, ◌⊎◌, ℕ, None, Some, Ok, Err, IfOk, OnErr, IfErr, length, vec_len};
+ghost use Rattle.std.specs.Prelude.{◌≡◌, ◌≢◌, ◌<◌, ◌≤◌, ◌+◌, ◌^◌, ◌↔◌, ◌⊎◌, ℕ, None, Some, Ok, Err, IfOk, OnErr, IfErr, length, vec_len};
 ghost use Rattle.fed_board.specs.Board.{reads};
-ghost use Rattle.fed_threads.specs.Calls.{OnlyBehind, Steps, Looks, MeetsNext};
-ghost use Rattle.fed_threads.specs.Replay.{replay, outcome_of, outcome_of_receipt, IsMadeFor};
-ghost use Rattle.fed_threads.specs.Seat.{known_by, starts, AddsClaim};
+ghost use Rattle.fed_record.specs.declared.refusals.Refusal.{Refusal};
+ghost use Rattle.fed_threads.specs.Calls.{AddsClaim, OnlyBehind, Looks, MeetsNext};
+ghost use Rattle.fed_threads.specs.Replay.{outcome_of};
+ghost use Rattle.fed_threads.specs.Seat.{known_by, starts};
 ghost use Rattle.fed_threads.specs.declared.fault.CallFault.TheVariants as CallFault;
 ghost use Rattle.fed_threads.specs.declared.journal.Asked.TheVariants.{Do, Ship, Take};
 ghost use Rattle.fed_world.specs.declared.outcomes.Outcome.TheVariants as Outcome;
@@ -150,6 +151,7 @@ impl<G: Gate> Federation<G> {
         ensures nowhere { (result ≡ Err CallFault.NoSite) ↔ (length self.now.roster ≤ site) }
         ensures ok { IfOk result (λ said.
             AddsClaim (known_by seat.old) (known_by seat.new) site (Do site who.now command.now) (outcome_of said)) }
+        ensures told { result ≢ Ok (Err Refusal.NoMemory) }
         ensures err { OnErr result (known_by seat.new ≡ known_by seat.old) }
         ensures behind { site < length self.now.roster → IfErr result (OnlyBehind (known_by seat.old) site) }
     {
@@ -253,6 +255,7 @@ impl<G: Gate> Federation<G> {
     /// Puts an end mark into a site's queue.
     pub fn end<R: Wait>(&self, rt: &R, to: SiteId) -> Result<(), CallFault>
         ensures nowhere { (result ≡ Err CallFault.NoSite) ↔ (length self.now.roster ≤ to) }
+        ensures err { IfErr result (λ e. (e ≡ CallFault.NoSite) ⊎ (e ≡ CallFault.NoMemory)) }
     {
         let index = to.get() as usize;
         if index >= self.sites.len() {

@@ -69,7 +69,7 @@ impl Seat {
     /// Tests that a site has come at least as far as was seen.
     pub(crate) fn check(&self, site: SiteId, found: u64, version: Version) -> Result<(), CallFault>
         ensures ok { OnOk result (IsUpToDate (known_by self.now) site found version) }
-        ensures err { IfErr result (IsBehind (known_by self.now) site) }
+        ensures err { IfErr result (IsBehind (known_by self.now) site found version) }
     {
         let seen = self.seen(site);
         if found < seen || !self.version(site).le(&version) {

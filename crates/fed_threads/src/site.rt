@@ -1,5 +1,5 @@
 //! What lies under a site's lock.
-ghost use Rattle.std.specs.Prelude.{◌≡◌, ◌≢◌, ◌<◌, ◌++◌, ◌∷◌, [], Err, IfOk, OnOk, OnErr, None, Some, length, vec_capacity, vec_len};
+ghost use Rattle.std.specs.Prelude.{◌≡◌, ◌≢◌, ◌<◌, ◌++◌, ◌∷◌, [], Ok, Err, IfOk, OnOk, OnErr, None, Some, length, vec_capacity, vec_len};
 ghost use Rattle.fed_board.specs.Board.{reads};
 ghost use Rattle.fed_delta.specs.declared.faults.Absorb.{Absorb};
 ghost use Rattle.fed_record.specs.declared.refusals.Refusal.{Refusal};
@@ -182,6 +182,7 @@ impl Site {
     ) -> Result<Result<Reply, Refusal>, NoMemory>
         ensures ok { IfOk result (λ said. Appends self.old self.new (Do site who.now command.now) None (outcome_of said)) }
         ensures named { IfOk result (λ said. NamesSite (outcome_of said)) }
+        ensures told { result ≢ Ok (Err Refusal.NoMemory) }
         ensures err { OnErr result (self.new ≡ self.old) }
     {
         self.journal.reserve(1)?;
