@@ -2,7 +2,7 @@
 use Rattle.std.specs.Ordering.{is_eq}
 use Rattle.std.specs.Cmp.{both_ways}
 use Rattle.std.specs.Prelude.{if◌then◌else◌}
-use Rattle.std.proofs.Common.{◌≡◌, ℕ, List, Bool, true, false, cond, Option, Some, None, is_some, refl, sym, ap, ap₂, subst, ◌∙◌}
+use Rattle.std.proofs.Common.{◌≡◌, ℕ, List, Bool, true, false, cond, Option, Some, None, refl, sym, ap, ap₂, subst, ◌∙◌}
 use Rattle.std.proofs.lemmas.Cmp.{tied_itself}
 use Rattle.std.proofs.lemmas.Map.Views.{tells_apart}
 use Rattle.fed_stamp.specs.Stamp.{StampValue, same_stamp}
@@ -32,20 +32,6 @@ stamp_at_name : (name s : StampValue) → is_eq (stamp_cmp name s) ≡ same_stam
 stamp_at_name name s = both_ways _ _
     (λ e. subst (λ (t : StampValue). same_stamp t name ≡ true) (tells_apart exact_stamp name s e) (same_stamp_itself name))
     (λ e. subst (λ (t : StampValue). is_eq (stamp_cmp t s) ≡ true) (same_stamp_is s name e) (ap is_eq (tied_itself stamp_total s)))
-
--- an operation is of a job or of a reservation
-pub either_named : (at : StampValue) (b : Body) → job_of at b ≡ None → is_some (reservation_of at b) ≡ true
-either_named at (Submit owner values held) e = cc
-either_named at (Set job changes removed) e = cc
-either_named at (Hold job kinds) e = cc
-either_named at (Release job removed) e = cc
-either_named at (Delete job) e = cc
-either_named at (Grant job site term) e = cc
-either_named at (HandBack job term) e = cc
-either_named at (Begin job beginning) e = cc
-either_named at (Finish job ending) e = cc
-either_named at (Reserve window) e = refl
-either_named at (Cancel name) e = refl
 
 not_reservation : (at : StampValue) (b : Body) (job : StampValue) → job_of at b ≡ Some job → reservation_of at b ≡ None
 not_reservation at (Submit owner values held) job e = refl

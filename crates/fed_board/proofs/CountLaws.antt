@@ -114,11 +114,6 @@ module _ (counts : List ℕ) (names ks rest : List StampValue) (k : StampValue) 
       let one = get_or-set_same counts i (slice_index_or counts i 0 + 1) 0 (rw sixteen small) in
       omega (arith, after, one, count_by-le-length (λ (name : StampValue). name.site == i) names, e)
 
-pub counting_end : (counts : List ℕ) (names ks : List StampValue) → AreCounting counts ks names → ks ≡ [] → AreCounts counts names
-counting_end counts names ks are e site below =
-    let h : slice_index counts site + 0 ≡ names_of site names = subst (λ (l : List StampValue). slice_index counts site + names_of site l ≡ names_of site names) e (are site below) in
-    omega (arith, h)
-
 -- ---- the names of a table into which the entries of another are joined
 module _ {X : Type 0} where
   -- a name above k is found as before

@@ -1,8 +1,7 @@
 -- Lawful sets.
-use Rattle.std.proofs.Common.{◌≡◌, ℕ, zero, suc, ◌++◌, Bool, true, subst}
+use Rattle.std.proofs.Common.{◌≡◌, ℕ, zero, suc, Bool, true, subst}
 use Rattle.fed_stamp.specs.Stamp.{StampValue, same_stamp}
-use Rattle.fed_lattice.specs.Sets.{Has, Includes, IsSameSet}
-use Rattle.fed_lattice.specs.SetLaws.{same_union_comm}
+use Rattle.fed_lattice.specs.Sets.{Has, Includes}
 use Rattle.fed_lattice.specs.History.{History, Agree}
 use Rattle.fed_lattice.proofs.FilterLaws.{Has-filter, filter-Has}
 use Rattle.fed_lattice.specs.VersionOf.{version_of}
@@ -38,34 +37,6 @@ module _ (ops more : History Body) (includes : Includes more ops) where
   grounded_more t (Finish job ending) g = (submitted_more t job g.0, (g.1.0, g.1.1, includes _ g.1.2))
   grounded_more t (Reserve window) g = tt
   grounded_more t (Cancel name) g = (g.0, (includes _ g.1.0, g.1.1))
-
--- whether a set is lawful depends on its members alone
-pub lawful_same : (ops others : History Body) → IsSameSet ops others → IsLawful ops → IsLawful others
-lawful_same ops others same l = record {
-  sites = λ e h. l.sites e (same.0 e h);
-  distinct = λ e f h k. l.distinct e f (same.0 e h) (same.0 f k);
-  grounded = λ e h. grounded_more ops others same.1 e.0 e.1 (l.grounded e (same.0 e h));
-  one_begin = λ job s t a b h k. l.one_begin job s t a b (same.0 _ h) (same.0 _ k);
-  one_finish = λ job s t a b h k. l.one_finish job s t a b (same.0 _ h) (same.0 _ k);
-  one_grant = λ job s t a b term h k. l.one_grant job s t a b term (same.0 _ h) (same.0 _ k);
-  one_return = λ job s t term h k. l.one_return job s t term (same.0 _ h) (same.0 _ k);
-  begun_held = λ job s a h. let p = l.begun_held job s a (same.0 _ h) in record {
-    stamp = p.stamp;
-    term = p.term;
-    granted = same.1 _ p.granted;
-    greatest = λ t other k g. p.greatest t other k (same.0 _ g);
-    kept = λ t g. p.kept t (same.0 _ g);
-  };
-}
-
-pub kin_turned : (ops others : History Body) → AreKin ops others → AreKin others ops
-kin_turned ops others k = record {
-  left = k.right;
-  right = k.left;
-  both = lawful_same (ops ++ others) (others ++ ops) (same_union_comm ops others) k.both;
-  left_shares = k.right_shares;
-  right_shares = k.left_shares;
-}
 
 -- kin sets agree beside their versions
 pub kin_agree : (ops others : History Body) → AreKin ops others → Agree (version_of ops) ops (version_of others) others

@@ -18,21 +18,25 @@ pub(crate) fn stamp(counter: u64, number: u8) -> Stamp {
 /// The values of a submission to the sites 0 and 1.
 fn values(rt: &impl Abort) -> JobValues {
     JobValues {
-        name: Word::new("sort").expect(rt, "a name"),
+        name: Word::new("STDIN").expect(rt, "a name"),
         priority: Priority::new(0).unwrap(),
         nodes: Nodes::new(1).unwrap(),
-        limit: Limit::new(60).unwrap(),
+        limit: Limit::new(3600).unwrap(),
         account: Account::EMPTY,
         sites: SiteSet::new(&[site(0), site(1)]).unwrap(),
     }
 }
 
-pub(crate) fn submit(rt: &impl Abort, held: bool) -> Operation {
+fn submission(rt: &impl Abort, owner: &str, held: bool) -> Operation {
     Operation::Submit {
-        owner: Word::new("ann").expect(rt, "a name"),
+        owner: Word::new(owner).expect(rt, "a name"),
         values: values(rt),
         held,
     }
+}
+
+pub(crate) fn submit(rt: &impl Abort, held: bool) -> Operation {
+    submission(rt, "ann", held)
 }
 
 /// Releases the user hold that a Submit set.
@@ -41,17 +45,24 @@ pub(crate) fn release(rt: &(impl Abort + AllocGlobal), job: Stamp) -> Operation 
     Operation::Release { job, removed }
 }
 
-/// Adds an operation whose stamp is new and whose job or reservation is there.
+/// Adds an operation whose stamp is new and whose job or reservation is there; once more where memory is refused.
 fn act(rt: &impl Abort, board: &mut Board, at: Stamp, operation: &Operation) {
     assert!(rt; !board.version().covers(at) && board.has_named(operation));
-    board.apply(at, operation).expect(rt, "memory");
+    if board.apply(at, operation).is_err() {
+        board.apply(at, operation).expect(rt, "memory");
+    }
 }
 
-/// A board with one job, which has this name.
-pub(crate) fn submitted(rt: &(impl Abort + AllocGlobal), job: Stamp, held: bool) -> Board {
+/// A board with one job of this owner.
+fn submitted_by(rt: &(impl Abort + AllocGlobal), owner: &str, job: Stamp, held: bool) -> Board {
     let mut board = Board::new(rt.alloc());
-    act(rt, &mut board, job, &submit(rt, held));
+    act(rt, &mut board, job, &submission(rt, owner, held));
     board
+}
+
+/// A board with one job of ann.
+pub(crate) fn submitted(rt: &(impl Abort + AllocGlobal), job: Stamp, held: bool) -> Board {
+    submitted_by(rt, "ann", job, held)
 }
 
 /// A copy of the board, with one more operation.
@@ -84,17 +95,17 @@ fn grant(board: &Board, job: Stamp) -> Option<GrantStage> {
     board.job(job)?.grant()
 }
 
-/// What two sites with a job each merge to, which neither was before.
+/// What two sites with a job each merge to, one of ann and one of bob, which neither was before.
 fn both_submitted(rt: &(impl Abort + AllocGlobal), first: Stamp, second: Stamp) -> Board {
-    let a = submitted(rt, first, false);
-    let b = submitted(rt, second, false);
+    let a = submitted_by(rt, "ann", first, false);
+    let b = submitted_by(rt, "bob", second, false);
     let both = merged(rt, &a, &b);
     assert!(rt; both != a && both != b);
     both
 }
 
 /// Whether the jobs of the board are these two, in this order.
-fn has_jobs(board: &Board, names: [Stamp; 2]) -> bool {
+pub(crate) fn has_jobs(board: &Board, names: [Stamp; 2]) -> bool {
     board.jobs().map(|(name, _record)| *name).eq(names)
 }
 

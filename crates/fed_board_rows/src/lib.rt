@@ -8,3 +8,5 @@ mod boards;
 mod deltas;
 #[cfg(test)]
 mod desks;
+#[cfg(test)]
+mod memory;

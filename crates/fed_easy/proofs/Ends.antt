@@ -52,9 +52,6 @@ module _ (capacity now : ℕ) where
     pub ends : last_level nodes ss ≡ 0
     pub first : first_step ss ≡ first_end now rs
 
-  pub built_none : IsBuilt [] 0 []
-  built_none = record { tells = λ u from. omega arith; after = tt; ends = refl; first = refl }
-
   -- the nodes in use with one entry more
   abbrev pub more_nodes : ℕ → Running → ℕ
   more_nodes nodes r = min (nodes + r.nodes) (suc capacity)

@@ -1,6 +1,6 @@
 -- The front of a queue, and the jobs behind it, job by job.
 use Rattle.std.proofs.Common.{◌≡◌, ℕ, suc, ◌≤◌, ◌<◌, true, false, List, [], ◌∷◌, ◌++◌, length, take, drop, drop-cons, refl, sym, ◌∙◌, ap, append_assoc}
-use Rattle.std.specs.Prelude.{slice_index_or, Some, None}
+use Rattle.std.specs.Prelude.{slice_index_or, Some}
 use Rattle.std.proofs.lemmas.List.{map_push, map-append}
 use Rattle.std.proofs.Math.Seq.{take-suc}
 use Rattle.fed_stamp.specs.Stamp.{StampValue}
@@ -31,9 +31,6 @@ module _ (capacity now : ℕ) (queue : List QueuedJob) (i : ℕ) where
     taken_more = take-suc queue i x lt ∙ ap (λ (y : QueuedJob). take i queue ++ y ∷ []) (sym is)
 
     module _ (used : ℕ → ℕ) where
-      front_at : Type 0
-      front_at = front capacity now used queue ≡ take i queue ++ front capacity now (with_jobs now (take i queue) used) (drop i queue)
-
       pub front_more : fits capacity (with_jobs now (take i queue) used) x now ≡ true
           → front capacity now used queue ≡ take i queue ++ front capacity now (with_jobs now (take i queue) used) (drop i queue)
           → front capacity now used queue ≡ take (suc i) queue ++ front capacity now (with_jobs now (take (suc i) queue) used) (drop (suc i) queue)
@@ -68,10 +65,6 @@ module _ (capacity now : ℕ) (queue : List QueuedJob) (i : ℕ) where
       pub backfill_passes : fits capacity used x now ≡ false → backfill capacity now used (drop i queue) ≡ backfill capacity now used (drop (suc i) queue)
       backfill_passes fails = rw (rest_is, fails) refl
 
-  module _ (none : drop i queue ≡ []) (used : ℕ → ℕ) where
-    pub front_ends : front capacity now used queue ≡ take i queue ++ front capacity now (with_jobs now (take i queue) used) (drop i queue) → front capacity now used queue ≡ take i queue
-    front_ends so_far = so_far ∙ rw none (append_none (take i queue))
-
 -- a plan of its parts
 pub plan_with_head : (capacity now end : ℕ) (used : ℕ → ℕ) (queue started rest : List QueuedJob) (h : QueuedJob) (s : ℕ) (starts : List StampValue) → IsIdleFrom end used → h.nodes ≤ capacity
     → front capacity now used queue ≡ started → behind capacity now used queue ≡ h ∷ rest
@@ -83,8 +76,3 @@ plan_with_head capacity now end used queue started rest h s starts idle narrow s
     let all : starts ≡ ids (started ++ backfill capacity now (with_job s h (with_jobs now started used)) rest) =
     e ∙ sym (map-append (λ (j : QueuedJob). j.id) started (backfill capacity now (with_job s h (with_jobs now started used)) rest)) in
     rw (same_front, same_behind, ← same, all) refl
-
--- a plan without a head
-pub plan_without_head : (capacity now end : ℕ) (used : ℕ → ℕ) (queue started : List QueuedJob) (starts : List StampValue) → front capacity now used queue ≡ started → behind capacity now used queue ≡ []
-    → starts ≡ ids started → (let p : PlanValue = record { starts = starts; head = None } in p ≡ queue_plan capacity now used end queue)
-plan_without_head capacity now end used queue started starts same_front same_behind e = rw (same_front, same_behind, e) refl

@@ -50,9 +50,6 @@ module _ (most until : ℕ) where
   pub room_blocks : (ss : List Step) (k : ℕ) → k < length ss → (at_place ss k).from < until → most < (at_place ss k).nodes → has_room_in (drop k ss) ≡ false
   room_blocks ss k lt before less = rw (rest_of ss k lt, lt-leb until (at_place ss k).from before, lt-leb (at_place ss k).nodes most less) refl
 
-  pub room_goes : (ss : List Step) (k : ℕ) → k < length ss → (at_place ss k).from < until → (at_place ss k).nodes ≤ most → has_room_in (drop (suc k) ss) ≡ has_room_in (drop k ss)
-  room_goes ss k lt before le = rw (rest_of ss k lt, lt-leb until (at_place ss k).from before, le-leb (at_place ss k).nodes most le) refl
-
 -- whether there is room, by the level at the start and the steps
 pub room_of : (p : Profile) (nodes limit : ℕ) (t : Bool) → IsProfile p → nodes ≤ p.capacity → 0 < limit
     → (t ≡ (leb p.nodes (p.capacity - nodes) && has_room_in (p.capacity - nodes) (p.start + limit) p.steps.items))

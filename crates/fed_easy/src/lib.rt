@@ -1,4 +1,4 @@
-//! Plans of a site's machine by EASY backfill.
+//! Plans of a site's machine by EASY backfill, the method of Lifka's scheduler.
 #![tactic(auto)]
 
 /// Times at which nodes are in use.

@@ -92,7 +92,7 @@ fn book_reserved(profile: &mut Profile, board: &Board, site: SiteId) -> Result<(
 }
 
 /// The plan of the site's queue at the moment, beside what runs on its machine and its standing reservations, by EASY
-/// backfill: the longest prefix of the queue in which each job fits now, after those before it, starts; the next job is
+/// backfill (Lifka): the longest prefix of the queue in which each job fits now, after those before it, starts; the next job is
 /// the head, with the least second at which it fits; each later job starts where it fits now with the head's time
 /// counted as used. A job fits where at every second of its time there are nodes for it. `Moment` is answered where the
 /// moment is above `MAX_MOMENT`, else `NoMemory` where a growth is refused.

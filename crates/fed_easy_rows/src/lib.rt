@@ -7,6 +7,8 @@ mod faults;
 #[cfg(test)]
 mod listings;
 #[cfg(test)]
+mod memory;
+#[cfg(test)]
 mod plain;
 #[cfg(test)]
 mod random;

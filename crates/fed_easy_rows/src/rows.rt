@@ -24,7 +24,7 @@ fn plans(
 }
 
 /// Whether the plan starts these jobs and has this head.
-fn shows(plan: &Plan, starts: &[u64], head: Option<(u64, u64)>) -> bool {
+pub(crate) fn shows(plan: &Plan, starts: &[u64], head: Option<(u64, u64)>) -> bool {
     plan.starts
         .iter()
         .map(|job| job.counter())
@@ -33,7 +33,7 @@ fn shows(plan: &Plan, starts: &[u64], head: Option<(u64, u64)>) -> bool {
 }
 
 /// A board on which 6 nodes run until second 100, and a job of 7 nodes waits.
-fn busy(rt: &(impl Abort + AllocGlobal)) -> Board {
+pub(crate) fn busy(rt: &(impl Abort + AllocGlobal)) -> Board {
     let ask = Ask {
         nodes: 6,
         limit: 100,

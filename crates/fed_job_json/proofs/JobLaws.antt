@@ -1,5 +1,5 @@
 -- Jobs are read as what they are the values of.
-use Rattle.std.proofs.Common.{◌≡◌, ℕ, Bool, true, false, cond, List, [], ◌∷◌, ◌++◌, map, Option, Some, None, Ok, Err, refl, subst, ◌∙◌, sym, ap}
+use Rattle.std.proofs.Common.{◌≡◌, ℕ, true, List, [], ◌∷◌, ◌++◌, Option, Some, None, Ok, refl, subst, ◌∙◌, sym, ap}
 use Rattle.std.specs.Prelude.{codes}
 use Rattle.std.specs.Ordering.{nat_cmp}
 use Rattle.serde_json.specs.Data.{Data, null, boolean, string}
@@ -7,17 +7,16 @@ use Rattle.serde_json.specs.Find.{get}
 use Rattle.fed_stamp.specs.Stamp.{StampValue}
 use Rattle.fed_stamp.specs.declared.rosters.TheConstants.{MAX_NODES}
 use Rattle.fed_record.specs.declared.limits.TheConstants.{MAX_LIMIT}
-use Rattle.fed_record.specs.declared.grants.GrantStage.{GrantStage}
 use Rattle.fed_record.specs.declared.holds.HoldKind.{HoldKind}
 use Rattle.fed_record.specs.Hold.{kind_cmp}
-use Rattle.fed_record.specs.JobRecord.{JobRecordValue, FieldsValue, StagesValue, reads}
+use Rattle.fed_record.specs.JobRecord.{FieldsValue, StagesValue, reads}
 use Rattle.fed_json.specs.declared.flaws.Flaw.TheVariants.{Shape}
-use Rattle.fed_json.specs.Reading.{Reading, ◌>>=◌, mapped, both, where_true}
+use Rattle.fed_json.specs.Reading.{◌>>=◌, where_true}
 use Rattle.fed_json.specs.Numbers.{natural_value, integer_value, IsFrom}
 use Rattle.fed_json.specs.Values.{truth_of}
-use Rattle.fed_json.specs.Objects.{Named, object_value, has_names, member_of, HasMembers}
+use Rattle.fed_json.specs.Objects.{Named, has_names, member_of, HasMembers}
 use Rattle.fed_json.specs.Forms.{IsForm, IsPartForm}
-use Rattle.fed_json.proofs.Steps.{bind_ok, mapped_ok, both_ok, when_ok, where_true_ok, ok_is}
+use Rattle.fed_json.proofs.Steps.{bind_ok, when_ok, where_true_ok, ok_is}
 use Rattle.fed_json.proofs.FormLaws.{truth_form}
 use Rattle.fed_json.proofs.ObjectLaws.{member_part, both_part, mapped_part, object_is, object_has, object_named, names_in, are_distinct}
 use Rattle.fed_job_json.specs.declared.formats.Format.{Format}
@@ -25,10 +24,10 @@ use Rattle.fed_job_json.specs.declared.formats.Format.TheVariants.{One, Two}
 use Rattle.fed_job_json.specs.Stamps.{stamp_value, stamp_of, IsStamp, version_value, version_of, IsVersion, IsSite}
 use Rattle.fed_job_json.specs.Fields.{field_value, field_of, IsField, name_of, IsName, priority_of, IsPriority, nodes_of, limit_of, account_value, account_in, IsAccount}
 use Rattle.fed_job_json.specs.Grants.{grant_value, grant_of, IsGrant}
-use Rattle.fed_job_json.specs.Progress.{Steps, progress_value, progress_of, IsProgress}
+use Rattle.fed_job_json.specs.Progress.{progress_value, progress_of, IsProgress}
 use Rattle.fed_job_json.specs.Pairs.{holds_value, holds_of, sites_value, sites_of, ArePairs}
 use Rattle.fed_job_json.specs.Covers.{covers_job}
-use Rattle.fed_job_json.specs.Job.{Job, account_members, job_members, job_value, IsAccountIn, IsJobIn, IsJob, account_of, Names, names_of, Numbers, numbers_of, fields_of, pairs_of, stages_of, job_names, parts_of, job_of}
+use Rattle.fed_job_json.specs.Job.{Job, job_members, job_value, IsAccountIn, IsJob, account_of, fields_of, pairs_of, stages_of, job_names, parts_of, job_of}
 use Rattle.fed_job_json.proofs.StampLaws.{stamp_form, version_form}
 use Rattle.fed_job_json.proofs.FieldLaws.{field_form, name_form, priority_form, nodes_form, limit_form, account_form}
 use Rattle.fed_job_json.proofs.GrantLaws.{grant_form}
@@ -36,12 +35,6 @@ use Rattle.fed_job_json.proofs.ProgressLaws.{progress_form}
 use Rattle.fed_job_json.proofs.PairLaws.{holds_form, sites_form}
 
 -- ---- fields
-
-abbrev NameField : Type 0
-NameField = Option (StampValue × List ℕ)
-
-abbrev NumberField : Type 0
-NumberField = Option (StampValue × ℕ)
 
 abbrev AccountField : Type 0
 AccountField = Option (StampValue × Option (List ℕ))

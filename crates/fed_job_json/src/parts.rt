@@ -24,7 +24,7 @@ pub struct FieldParts {
 pub struct StageParts {
     /// Whether it is deleted.
     pub deleted: bool,
-    /// The site that it is granted to and since when, if any.
+    /// The greatest stage of its grants, or none where it was never granted.
     pub grant: Option<GrantStage>,
     /// Whether it began or ended, and when.
     pub progress: Progress,

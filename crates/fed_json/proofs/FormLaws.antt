@@ -2,17 +2,16 @@
 use Rattle.std.proofs.Common.{◌≡◌, ℕ, Bool, true, false, Option, Some, None, suc, length, eqb, cond, List, [], ◌∷◌, map, Ok, Err, refl, sym, ap, subst, ◌∙◌, arith}
 use Rattle.std.specs.Prelude.{is_some, IfSome}
 use Rattle.std.specs.List.{AllByRecursion}
-use Rattle.std.specs.Str.{bytes_eq}
 use Rattle.std.proofs.lemmas.Bool.{eqb-true}
 use Rattle.std.proofs.lemmas.Slice.Eq.{bytes_eq-Decides}
 use Rattle.serde_json.specs.Data.{Data, null, boolean, number, string, array, object, Items, no_items, item}
 use Rattle.serde_json.specs.Find.{as_null}
 use Rattle.serde_json.specs.View.{items_of}
 use Rattle.fed_json.specs.declared.flaws.Flaw.TheVariants.{Shape}
-use Rattle.fed_json.specs.Reading.{Reading, ◌>>=◌, mapped, both, or_shape, where_true}
+use Rattle.fed_json.specs.Reading.{Reading, ◌>>=◌, mapped, both, where_true}
 use Rattle.fed_json.specs.Values.{list_value, list_of, elements_of, text_of, truth_of, is_word, pair_from, pair_of, pair_value, all_of, array_of, row_of, or_null, null_or}
 use Rattle.fed_json.specs.Forms.{IsForm}
-use Rattle.fed_json.proofs.Steps.{when_ok, bind_ok, mapped_ok, both_ok, or_shape_ok, where_true_ok, ok_is}
+use Rattle.fed_json.proofs.Steps.{when_ok, bind_ok, mapped_ok, both_ok, where_true_ok, ok_is}
 
 -- ---- arrays
 
@@ -31,9 +30,6 @@ elements_takes (boolean b) ds e = absurd cc
 elements_takes (number n) ds e = absurd cc
 elements_takes (string s) ds e = absurd cc
 elements_takes (object ms) ds e = absurd cc
-
-pub elements_again : (ds : List Data) → elements_of (list_value ds) ≡ Ok ds
-elements_again ds = ap (λ (es : List Data). Ok es) (list_of-items_of ds)
 
 -- ---- texts
 

@@ -7,7 +7,7 @@ ghost use Rattle.fed_json.specs.Values.{elements_of, is_word as is_the_word, tex
 use crate::flaws::Flaw;
 use serde_json::Value;
 
-/// The elements of an array.
+/// The elements of an array, or `Shape` where it is none.
 pub fn elements(value: &Value) -> Result<&[Value], Flaw>
     ensures { mapped (λ s. map view s.now) result ≡ elements_of (view value.now) }
 {
@@ -17,7 +17,7 @@ pub fn elements(value: &Value) -> Result<&[Value], Flaw>
     }
 }
 
-/// The bytes of a text.
+/// A text, or `Shape` where it is none.
 pub fn text(value: &Value) -> Result<&str, Flaw>
     ensures { mapped (λ s. s.now) result ≡ text_of (view value.now) }
 {
@@ -34,7 +34,7 @@ pub fn is_word(value: &Value, word: &str) -> bool
     }
 }
 
-/// Whether it is `true` or `false`.
+/// Whether it is `true` or `false`, or `Shape` where it is neither.
 pub fn truth(value: &Value) -> Result<bool, Flaw>
     ensures { result ≡ truth_of (view value.now) }
 {

@@ -6,7 +6,8 @@ ghost use Rattle.fed_json.specs.Numbers.{natural_in, integer_of};
 use crate::flaws::Flaw;
 use serde_json::Value;
 
-/// The number, which is to be from `least` to `most`.
+/// The number, which is to be from `least` to `most`: `Shape` where it is no whole number, and `Range` where it is outside
+/// of these.
 pub fn natural(value: &Value, least: u64, most: u64) -> Result<u64, Flaw>
     ensures { result ≡ natural_in least most (view value.now) }
 {
@@ -20,7 +21,7 @@ pub fn natural(value: &Value, least: u64, most: u64) -> Result<u64, Flaw>
     }
 }
 
-/// The whole number, of either sign.
+/// The whole number, of either sign, or `Shape` where it is none.
 pub fn integer(value: &Value) -> Result<i128, Flaw>
     ensures { result ≡ integer_of (view value.now) }
 {

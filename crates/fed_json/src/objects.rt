@@ -28,7 +28,7 @@ pub fn has_names(value: &Value, names: &[&str]) -> bool
     wanted.is_empty()
 }
 
-/// The member of this name.
+/// The member of this name, or `Shape` where there is none.
 pub fn member<'a>(value: &'a Value, name: &str) -> Result<&'a Value, Flaw>
     ensures { mapped (λ v. view v.now) result ≡ or_shape (get name.now (view value.now)) }
 {

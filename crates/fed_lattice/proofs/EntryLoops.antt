@@ -5,7 +5,7 @@ use Rattle.std.specs.BTreeMap.{insert_entry, is_at}
 use Rattle.std.specs.Map.{keys_of, lookup, remove_entry}
 use Rattle.std.specs.List.Sorted.{IsStrictlySortedBy}
 use Rattle.std.specs.Cmp.{IsTotalOrder, IsEquivalence, eq_by_cmp_equiv}
-use Rattle.std.proofs.Common.{◌≡◌, ℕ, zero, suc, ◌+◌, ◌<◌, length, get_or, drop, List, [], ◌∷◌, ◌++◌, All, Bool, true, false, cond, not, ◌||◌, filter, Option, Some, None, is_some, IsSome, unwrap_or, Ordering, refl, sym, ap, subst, ◌∙◌, append_assoc, append-nil, inl, inr}
+use Rattle.std.proofs.Common.{◌≡◌, ℕ, zero, suc, ◌+◌, ◌<◌, length, get_or, drop, List, [], ◌∷◌, All, Bool, true, false, cond, not, ◌||◌, filter, Option, Some, None, is_some, IsSome, unwrap_or, Ordering, refl, sym, ap, subst, ◌∙◌, inl, inr}
 use Rattle.std.proofs.lemmas.Bool.{cases_Bool}
 use Rattle.std.proofs.lemmas.Cmp.{tied_itself}
 use Rattle.std.proofs.lemmas.List.{drop_more}
@@ -18,7 +18,7 @@ use Rattle.std.proofs.lemmas.Map.Views.{tells_apart}
 use Rattle.fed_lattice.specs.Sets.{Has}
 use Rattle.fed_lattice.specs.SetLaws.{found, any_from}
 use Rattle.fed_lattice.specs.Table.{value_at, filled}
-use Rattle.fed_lattice.specs.JoinedEntries.{missing_from, without}
+use Rattle.fed_lattice.specs.JoinedEntries.{without}
 use Rattle.fed_lattice.specs.TableEntryLaws.{same_tables, sorted_insert, lookup-insert_entry}
 
 -- ---- entries that are left out
@@ -122,19 +122,6 @@ module _ {K X : Type 0} (R : K → K → Ordering) (o : IsTotalOrder R) (exact :
 
   pub removing_end : (es all : List (K × X)) (ks : List K) → IsRemoving es ks all → ks ≡ [] → es ≡ all
   removing_end es all ks p n = sym (without_none es) ∙ ap (without R es) (sym n) ∙ p.left
-
-  -- ---- the loop that finds missing keys
-  pub missing_push : (es : List (K × X)) (ks rest before after all : List K) (k : K) → before ++ missing_from R es ks ≡ all → ks ≡ k ∷ rest → is_some (at es k) ≡ false → after ≡ before ++ k ∷ [] → after ++ missing_from R es rest ≡ all
-  missing_push es ks rest before after all k inv first new e =
-      ap (λ l. l ++ missing_from R es rest) e ∙ append_assoc before (k ∷ []) (missing_from R es rest)
-      ∙ ap (λ l. before ++ l) (sym (ap (missing_from R es) first ∙ ap (λ b. cond (not b) (k ∷ missing_from R es rest) (missing_from R es rest)) new)) ∙ inv
-
-  pub missing_skip : (es : List (K × X)) (ks rest before all : List K) (k : K) → before ++ missing_from R es ks ≡ all → ks ≡ k ∷ rest → is_some (at es k) ≡ true → before ++ missing_from R es rest ≡ all
-  missing_skip es ks rest before all k inv first present =
-      ap (λ l. before ++ l) (sym (ap (missing_from R es) first ∙ ap (λ b. cond (not b) (k ∷ missing_from R es rest) (missing_from R es rest)) present)) ∙ inv
-
-  pub missing_end : (es : List (K × X)) (ks before all : List K) → before ++ missing_from R es ks ≡ all → ks ≡ [] → before ≡ all
-  missing_end es ks before all inv n = sym (append-nil before) ∙ ap (λ l. before ++ missing_from R es l) (sym n) ∙ inv
 
   -- ---- the loop that adds keys
   -- what is left to add, and that the entries at other keys are as before

@@ -4,7 +4,7 @@ use Rattle.std.specs.Ordering.{is_eq, match_ordering, eq_by_cmp, ordering_revers
 use Rattle.std.specs.BTreeMap.{insert_entry, is_at}
 use Rattle.std.specs.Map.{keys_of, lookup}
 use Rattle.std.specs.List.Sorted.{IsStrictlySortedBy}
-use Rattle.std.specs.Cmp.{IsTotalOrder, IsEquivalence, eq_by_cmp_equiv}
+use Rattle.std.specs.Cmp.{IsTotalOrder}
 use Rattle.std.proofs.Common.{◌≡◌, List, [], ◌∷◌, ◌++◌, Bool, true, false, cond, Option, Some, None, is_some, IfSome, Ordering, Less, Greater, refl, sym, ap, subst, ◌∙◌, append_assoc}
 use Rattle.std.proofs.lemmas.Map.Lookups.{CmpEqualImpliesEq}
 use Rattle.std.proofs.lemmas.Map.Views.{tells_apart}
@@ -30,13 +30,6 @@ module _ {K X : Type 0} (R : K → K → Ordering) where
   filled-append f es (k ∷ ks) ls = filled-append f (insert_entry R es k (f k)) ks ls
 
 module _ {K X : Type 0} (R : K → K → Ordering) (o : IsTotalOrder R) (exact : CmpEqualImpliesEq R) where
-  -- what was written at a key
-  pub written_table : (es fs : List (K × X)) (k : K) (w : X) → IsStrictlySortedBy R (keys_of es) → IsStrictlySortedBy R (keys_of fs) → ((q : K) → lookup (is_at (R q)) fs ≡ cond (is_eq (R k q)) (Some w) (lookup (is_at (R q)) es)) → fs ≡ insert_entry R es k w
-  written_table es fs k w s t h = same_tables R o exact fs (insert_entry R es k w) t (sorted_insert R o es k w s)
-      (λ q. h q
-      ∙ ap (λ b. cond b (Some w) (lookup (is_at (R q)) es)) (let l : IsEquivalence (eq_by_cmp R) = eq_by_cmp_equiv o in l.symm k q)
-      ∙ sym (lookup-insert_entry R o exact q k w es))
-
   -- a value written back changes nothing
   pub insert_present : (es : List (K × X)) (k : K) (w : X) → IsStrictlySortedBy R (keys_of es) → lookup (is_at (R k)) es ≡ Some w → insert_entry R es k w ≡ es
   insert_present es k w s h = same_tables R o exact (insert_entry R es k w) es (sorted_insert R o es k w s) s
@@ -50,9 +43,6 @@ module _ {K X : Type 0} (R : K → K → Ordering) (o : IsTotalOrder R) (exact :
   in_cond : (P : X → Type 0) (b : Bool) (x : X) (a : Option X) → (b ≡ true → P x) → IfSome a P → IfSome (cond b (Some x) a) P
   in_cond P true x a p q = p refl
   in_cond P false x a p q = q
-
-  pub values_empty : (f : K → X) → IsAtEach R (λ k x. x ≡ f k) []
-  values_empty f q = tt
 
   pub values_filled : (f : K → X) (ks : List K) → IsAtEach R (λ k x. x ≡ f k) (filled R f [] ks)
   values_filled f ks q =

@@ -6,8 +6,8 @@ use Rattle.std.proofs.Common.{◌≡◌, [], ◌∷◌, ◌++◌, Ordering, ◌|
 use Rattle.std.proofs.lemmas.Map.Lookups.{CmpEqualImpliesEq}
 use Rattle.fed_lattice.specs.Sets.{IsSameSet}
 use Rattle.fed_lattice.specs.History.{History, OneEach}
-use Rattle.fed_lattice.specs.Latest.{later, latest}
-use Rattle.fed_lattice.specs.LatestLaws.{later_stands, latest_stands, latest_from_stands}
+use Rattle.fed_lattice.specs.Latest.{latest}
+use Rattle.fed_lattice.specs.LatestLaws.{latest_stands, latest_from_stands}
 use Rattle.fed_lattice.specs.Register.{joined_registers}
 use Rattle.fed_lattice.specs.RegisterLaws.{register_joined_stands, register_stands_same}
 use Rattle.fed_lattice.specs.Stage.{greatest_value}
@@ -17,9 +17,6 @@ use Rattle.fed_lattice.specs.Flag.{has_changes}
 module _ {T : Type 0} where
   pub one_each_same : (g h : History T) → IsSameSet g h → OneEach g → OneEach h
   one_each_same g h same one e f i j = one e f (same.0 e i) (same.0 f j)
-
-  pub latest_union : (g h : History T) → OneEach (g ++ h) → latest (g ++ h) ≡ later (latest g) (latest h)
-  latest_union g h one = latest_from_stands _ _ (g ++ h) one (latest_stands (g ++ h)) (later_stands (latest g) (latest h) g h (latest_stands g) (latest_stands h))
 
   pub register_union : (cmp : T → T → Ordering) → IsTotalOrder cmp → (g h : History T) → OneEach (g ++ h) → latest (g ++ h) ≡ joined_registers cmp (latest g) (latest h)
   register_union cmp o g h one = latest_from_stands _ _ (g ++ h) one (latest_stands (g ++ h)) (register_joined_stands cmp o (latest g) (latest h) g h (latest_stands g) (latest_stands h))

@@ -1,7 +1,7 @@
 -- What the code of a script's federation keeps is what the script does.
 use Rattle.std.specs.Prelude.{IfOk, OnOk, MatchResult}
-use Rattle.std.proofs.Common.{◌≡◌, ℕ, ◌+◌, ◌<◌, ◌≤◌, Bool, List, [], ◌∷◌, ◌++◌, length, get_or, take, Some, Result, Ok, Err, refl, sym, ap, ap₂, ◌∙◌, append_assoc, append-nil}
-use Rattle.std.proofs.lemmas.List.{take_more, take_all}
+use Rattle.std.proofs.Common.{◌≡◌, ℕ, ◌+◌, ◌<◌, Bool, List, [], ◌∷◌, ◌++◌, length, get_or, take, Some, Result, Ok, Err, sym, ap, ap₂, ◌∙◌, append_assoc, append-nil}
+use Rattle.std.proofs.lemmas.List.{take_more}
 use Rattle.fed_stamp.specs.Stamp.{StampValue}
 use Rattle.fed_board.specs.View.{View}
 use Rattle.fed_record.specs.declared.askers.Who.{Who}
@@ -62,9 +62,6 @@ commands-push s site who (first ∷ commands) command =
     ∙ behind_twice here.text (after_commands here.after site who commands).text (after_event (after_commands here.after site who commands).after (Do site who command))
 
 module _ (s : Script) (site : ℕ) (who : Who) (all : List Command) where
-  pub none_done : after_commands s site who (take 0 all) ≡ says s []
-  none_done = refl
-
   pub one_done : (i : ℕ) (command : Command) (done next : Script) (text answer : List ℕ) → i < length all → command ≡ get_or all i command → after_commands s site who (take i all) ≡ says done text
       → after_event done (Do site who command) ≡ says next answer → after_commands s site who (take (i + 1) all) ≡ says next (text ++ answer)
   one_done i command done next text answer within at before here =
@@ -73,6 +70,3 @@ module _ (s : Script) (site : ℕ) (who : Who) (all : List Command) where
       ∙ commands-push s site who (take i all) command
       ∙ ap (followed (λ n. after_event n (Do site who command))) before
       ∙ ap (behind text) here
-
-  pub all_done : (i : ℕ) (done : Script) (text : List ℕ) → length all ≤ i → after_commands s site who (take i all) ≡ says done text → after_commands s site who all ≡ says done text
-  all_done i done text past e = ap (after_commands s site who) (sym (take_all i all past)) ∙ e

@@ -24,10 +24,6 @@ said_read : (n : ℕ) (state : State) (bytes : List ℕ) (rest : List (List ℕ)
 said_read n state bytes rest first e =
     ap (λ o. option_map_or (λ (a : Answered State). answers a.text (said_from (n + 1) a.after rest)) o (ends_before n)) e
 
-said_unread : (n : ℕ) (state : State) (bytes : List ℕ) (rest : List (List ℕ)) → answered state bytes ≡ None → said_from n state (bytes ∷ rest) ≡ ends_before n
-said_unread n state bytes rest e =
-    ap (λ o. option_map_or (λ (a : Answered State). answers a.text (said_from (n + 1) a.after rest)) o (ends_before n)) e
-
 none_run : HaveRun [] [] None
 none_run = record { goes_on = λ n more. ap (λ k. said_from k None more) (let e : n ≡ n + 0 = omega arith in e) }
 
@@ -77,19 +73,6 @@ has_said before after written unread s e h = record {
   ended = ap (λ (t : Said). t.unread) e;
   written = subst (Appends before after) (sym (ap (λ (t : Said). t.text) e ∙ append-nil written)) h;
 }
-
--- no line is left
-pub said_all : (before after : Option (List ℕ)) (script : List ℕ) (state : State) (number : ℕ) → Progress before after (lines script) [] state number → HasSaid before after (said script) None
-said_all before after script state number p = has_said before after p.written None (said script) (ap (said_from 1 None) p.cut ∙ p.ran.goes_on 1 []) p.appended
-
--- the next line can't be read
-pub said_part : (before after : Option (List ℕ)) (script bytes : List ℕ) (rest : List (List ℕ)) (state : State) (number : ℕ) → Progress before after (lines script) (bytes ∷ rest) state number → None ≡ answered state bytes
-    → HasSaid before after (said script) (Some (number + 1))
-said_part before after script bytes rest state number p none =
-    let place : 1 + length p.front ≡ number + 1 = omega (arith, p.count) in
-    has_said before after p.written (Some (number + 1)) (said script)
-    (ap (said_from 1 None) p.cut ∙ p.ran.goes_on 1 (bytes ∷ rest) ∙ ap (answers p.written) (said_unread (1 + length p.front) state bytes rest (sym none)) ∙ ap (λ n. answers p.written (ends_before n)) place)
-    p.appended
 
 -- so many lines were run
 pub said_some : (before after : Option (List ℕ)) (script : List ℕ) (rest : List (List ℕ)) (state : State) (number : ℕ) → Progress before after (lines script) rest state number → (k : ℕ) × HasSaid before after (said_first k script) None

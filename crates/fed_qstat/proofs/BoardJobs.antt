@@ -3,7 +3,7 @@ use Rattle.std.specs.Prelude.{filter, flat_map, if◌then◌else◌, is_some, If
 use Rattle.std.specs.BTreeMap.{is_at}
 use Rattle.std.specs.List.Sorted.{IsStrictlySortedBy}
 use Rattle.std.specs.Map.{keys_of, lookup}
-use Rattle.std.proofs.Common.{◌≡◌, ℕ, ◌<◌, List, [], ◌∷◌, ◌++◌, All, Bool, true, false, Option, Some, None, unwrap_or, refl, sym, ap, ap₂, subst, ◌∙◌, inl, inr, append_assoc, append-nil}
+use Rattle.std.proofs.Common.{◌≡◌, ℕ, ◌<◌, List, [], ◌∷◌, ◌++◌, All, Bool, true, false, Option, Some, None, unwrap_or, refl, sym, ap, ap₂, subst, ◌∙◌, inl, inr, append-nil}
 use Rattle.std.proofs.lemmas.List.{flat_map_more}
 use Rattle.std.proofs.lemmas.Bool.{and_parts}
 use Rattle.std.proofs.lemmas.Cmp.{eq_by_cmp_equiv}
@@ -126,12 +126,6 @@ module _ (lines : StampValue → JobView → List ℕ) where
   -- the text has the lines of the entries before the rest
   abbrev pub IsUnderWay : List (StampValue × JobRecordValue) → List ℕ → List (StampValue × JobRecordValue) → Type 0
   IsUnderWay jobs written rest = written ++ texts rest ≡ texts jobs
-
-  pub next_entry : (jobs : List (StampValue × JobRecordValue)) (written more : List ℕ) (s t : List (StampValue × JobRecordValue)) (e : StampValue × JobRecordValue)
-      → IsUnderWay jobs written s → s ≡ e ∷ t → more ≡ shown_text lines e.0 (reads_job e.1) → IsUnderWay jobs (written ++ more) t
-  next_entry jobs written more s t e before first same =
-      ap (λ m. (written ++ m) ++ texts t) same ∙ append_assoc written (shown_text lines e.0 (reads_job e.1)) (texts t)
-      ∙ ap (λ l. written ++ texts l) (sym first) ∙ before
 
   pub all_written : (b : BoardValue) (written : List ℕ) (s : List (StampValue × JobRecordValue)) → IsListed b → IsUnderWay b.jobs written s → s ≡ [] → written ≡ listing lines (reads b) []
   all_written b written s p under none =

@@ -7,7 +7,6 @@ use Rattle.fed_lattice.specs.ExactLaws.{and_both}
 use Rattle.fed_lattice.specs.Sets.{Has}
 use Rattle.fed_lattice.specs.History.{History}
 use Rattle.fed_lattice.specs.Order.{IsUpTo}
-use Rattle.fed_lattice.specs.Latest.{stamp_cmp}
 use Rattle.fed_lattice.specs.LatestLaws.{latest_stands}
 use Rattle.fed_lattice.specs.Part.{part}
 use Rattle.fed_lattice.specs.PartLaws.{source, Has-part}
@@ -38,11 +37,6 @@ module _ {T : Type 0} (says : Body → Option T) (h : History Body) where
   -- an operation says the value, under the stamp that stands beside it
   pub field_found : (c : StampValue × T) → field says h ≡ Some c → (body : Body) × Has h (c.0, body) × (says body ≡ Some c.1)
   field_found c e = let r = subst (λ o. register_stands_for o (part says h)) e (latest_stands (part says h)) in source says h c r.0
-
-  -- that stamp is the greatest of those of operations that say a value
-  pub field_greatest : (c : StampValue × T) → field says h ≡ Some c → (t : StampValue) (body : Body) (d : T) → Has h (t, body) → says body ≡ Some d → IsUpTo stamp_cmp t c.0
-  field_greatest c e t body d k s =
-      let r = subst (λ o. register_stands_for o (part says h)) e (latest_stands (part says h)) in r.1 (t, d) (Has-part says h t body d k s)
 
   -- where nothing is read no operation says a value
   pub field_none : field says h ≡ None → (t : StampValue) (body : Body) → Has h (t, body) → says body ≡ None

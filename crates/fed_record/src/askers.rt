@@ -1,8 +1,8 @@
 //! Who asks.
 use fed_stamp::Word;
 
-/// What somebody may do, as in POSIX.1-2017's batch services: a user works on jobs of their own, an operator on
-/// all jobs and on reservations, an administrator on system holds too.
+/// What somebody may do, as in the batch services of POSIX.1-2017, XCU chapter 3: a user works on jobs of their own, an
+/// operator on all jobs and on reservations, an administrator on system holds too.
 #[derive(Clone, Copy, PartialEq, Eq, Debug)]
 pub enum Role {
     /// Works on jobs of their own, with user holds.

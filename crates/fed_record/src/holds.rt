@@ -8,7 +8,8 @@ ghost use Rattle.fed_record.specs.HoldLaws.{kind_total};
 use bitflags::{Flag, Flags, bitflag_items};
 use std::cmp::Ordering;
 
-/// The kinds of holds of POSIX.1-2017, ordered as they stand here. A job with a hold of any kind isn't started.
+/// The kinds of holds of POSIX.1-2017, XCU chapter 3, ordered as they stand here. A job with a hold of any kind isn't
+/// started.
 #[derive(Clone, Copy, Debug)]
 pub enum HoldKind {
     /// Set and released by the job's owner, an operator or an administrator.

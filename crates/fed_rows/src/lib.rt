@@ -4,6 +4,8 @@
 #[cfg(test)]
 mod forms;
 #[cfg(test)]
+mod growths;
+#[cfg(test)]
 mod live;
 #[cfg(test)]
 mod memory;

@@ -13,13 +13,13 @@ use std::thread::Threads;
 const TURNS: u64 = 1_000_000_000;
 
 // A site that runs alone.
-const ALONE: &str = "\
+pub const ALONE: &str = "\
 roster argonne:8
 argonne ann qsub
 argonne ann qstat
 ";
 
-const ALONE_ANSWERED: &str = "\
+pub const ALONE_ANSWERED: &str = "\
 1.argonne
 1.argonne          STDIN            ann              Q      0        1      3600 -
 events 1

@@ -8,7 +8,7 @@ use std::alloc::{AllocError, Global};
 use std::str;
 
 /// Cuts off the first line, which ends at a line feed or at the end of the script. A carriage return
-/// before the line feed is dropped.
+/// before the line feed is dropped. `None` where the script is empty.
 pub fn split_line(script: &[u8]) -> Option<(&[u8], &[u8])>
     ensures none { IfNone result (lines script.now ≡ []) }
     ensures some { IfSome result (λ cut. lines script.now ≡ cut.0.now ∷ lines cut.1.now) }

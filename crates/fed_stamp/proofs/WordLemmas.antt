@@ -1,6 +1,6 @@
 -- On names.
-use Rattle.std.proofs.Common.{◌≡◌, ℕ, ◌<◌, ◌≤◌, ◌-◌, true, List, ◌++◌, length, replicate, drop, slice_index, take, Result, Ok, Err, MatchResult, Bor, refl, sym, ap, inl, inr, arith}
-use Rattle.std.proofs.lemmas.Bool.{and_parts, cases_lt, leb-true}
+use Rattle.std.proofs.Common.{◌≡◌, ℕ, ◌<◌, ◌-◌, true, List, ◌++◌, length, replicate, drop, slice_index, take, Result, Ok, Err, MatchResult, Bor, refl, sym, ap, inl, inr, arith}
+use Rattle.std.proofs.lemmas.Bool.{and_parts, cases_lt}
 use Rattle.std.proofs.lemmas.Bool.Decides.{nat_tests}
 use Rattle.std.proofs.lemmas.List.{drop-replicate, get_or_past}
 use Rattle.std.proofs.lemmas.List.Sums.{AllPass-from_list_all}
@@ -9,13 +9,6 @@ use Rattle.std.specs.Str.{IsAscii, IsUtf8}
 use Rattle.std.specs.Result.{result_unwrap_or}
 use Rattle.std.proofs.Math.Seq.{take-append_seam}
 use Rattle.fed_stamp.specs.Word.{is_name, is_name_byte, padded}
-
--- a name has 1 to 15 bytes
-pub name_length : (text : List ℕ) → is_name text ≡ true → (1 ≤ length text) × (length text ≤ 15)
-unfolding is_name
-name_length text h =
-    let lengths = (and_parts _ _ (and_parts _ _ (and_parts _ _ h).0).0) in
-    (leb-true 1 _ lengths.0, leb-true _ 15 lengths.1)
 
 name_byte_ascii : (b : ℕ) → is_name_byte b ≡ true → b < 128
 name_byte_ascii b h = grind (arith, nat_tests)

@@ -3,7 +3,7 @@ use Rattle.std.specs.BTreeSet.{insert_key}
 use Rattle.std.specs.Cmp.{IsTotalOrder}
 use Rattle.std.specs.List.Sorted.{IsStrictlySortedBy}
 use Rattle.std.specs.Ordering.{is_eq, is_ge}
-use Rattle.std.proofs.Common.{◌≡◌, ◌↔◌, ℕ, zero, suc, ◌+◌, ◌-◌, ◌<◌, ◌≤◌, Ordering, Less, Equal, Greater, List, [], ◌∷◌, ◌++◌, Bool, true, false, cond, not, ◌||◌, ◌&&◌, length, get_or, drop, filter, append_assoc, append-nil, arith, refl, sym, ap, ap₂, subst, ◌∙◌, inl, inr}
+use Rattle.std.proofs.Common.{◌≡◌, ◌↔◌, ℕ, zero, suc, ◌+◌, ◌-◌, ◌<◌, ◌≤◌, Ordering, Less, Equal, Greater, List, [], ◌∷◌, ◌++◌, Bool, true, false, cond, not, ◌||◌, ◌&&◌, length, get_or, drop, filter, append_assoc, arith, refl, sym, ap, ap₂, subst, ◌∙◌, inl, inr}
 use Rattle.std.proofs.lemmas.Bool.{cases_Bool, cases_lt}
 use Rattle.std.proofs.lemmas.List.{drop_more, get_or_default}
 use Rattle.std.proofs.lemmas.Map.Keys.{Less-from_sorted, sorted_from_all_adjacent}
@@ -112,9 +112,6 @@ module _ {T : Type 0} (R : T × StampValue → T × StampValue → Ordering) (o 
   pub lacking_skip : (xs : List (T × StampValue)) (s : StampValue) (ts rest before all : List T) (t : T) → before ++ lacking R xs s ts ≡ all → ts ≡ t ∷ rest → has R xs (t, s) ≡ true → before ++ lacking R xs s rest ≡ all
   lacking_skip xs s ts rest before all t inv e n =
       ap (λ l. before ++ l) (sym (ap (lacking R xs s) e ∙ ap (λ b. cond (not b) (t ∷ lacking R xs s rest) (lacking R xs s rest)) n)) ∙ inv
-
-  pub lacking_all : (xs : List (T × StampValue)) (s : StampValue) (ts before all : List T) → before ++ lacking R xs s ts ≡ all → ts ≡ [] → before ≡ all
-  lacking_all xs s ts before all inv e = sym (append-nil before) ∙ ap (λ l. before ++ lacking R xs s l) (sym e) ∙ inv
 
   not_true : (b : Bool) → not b ≡ true → b ≡ false
   not_true true e = cc

@@ -135,19 +135,6 @@ with_claim row seats xs c seat site count m t len at inside read more h =
       ];
     }
 
--- a claim more, of no entry of the site
-pub without_claim : (row : List Claimant) (seats : List (List Claim)) (xs : List Claim) (c : Claim) (site count : ℕ)
-    → (c.site ≡ site → c.index < length row → ⊥)
-    → AreClaimantsOf (seats ++ xs ∷ []) site count row
-    → AreClaimantsOf (seats ++ (xs ++ c ∷ []) ∷ []) site count row
-without_claim row seats xs c site count refuses h =
-    record {
-      count_is = h.count_is;
-      claimants = λ index lt.
-          kept_claimant seats xs c site index (slice_get row index)
-          (claim_is_not site index c (λ e f. refuses e (let n = h.count_is in omega arith))) (h.claimants index lt);
-    }
-
 -- a row more
 pub with_row : (journals : List (List Entry)) (seats : List (List Claim)) (rows : List (List Claimant)) (k : ℕ) (row : List Claimant)
     → k < length journals

@@ -1,16 +1,15 @@
 -- The run of an order, one entry at a time, and what it comes to.
-use Rattle.std.proofs.Common.{◌≡◌, ◌<◌, ◌≤◌, ◌+◌, ℕ, zero, suc, List, [], ◌∷◌, ◌++◌, length, get_or, take, slice_get, Option, Some, None, refl, sym, ap, subst, ◌∙◌, arith}
+use Rattle.std.proofs.Common.{◌≡◌, ◌<◌, ◌≤◌, ◌+◌, ℕ, zero, suc, List, [], ◌∷◌, ◌++◌, length, get_or, take, slice_get, Option, Some, refl, sym, ap, subst, ◌∙◌, arith}
 use Rattle.std.specs.Global.{Vec}
-use Rattle.std.proofs.lemmas.List.{length-map, take_more, take_all}
-use Rattle.std.proofs.lemmas.Option.{slice_get_past, slice_get_read}
+use Rattle.std.proofs.lemmas.List.{take_more}
+use Rattle.std.proofs.lemmas.Option.{slice_get_read}
 use Rattle.fed_world.specs.Kept.{WorldValue}
-use Rattle.fed_threads.specs.declared.fault.CloseFault.{CloseFault}
-use Rattle.fed_threads.specs.declared.fault.CloseFault.TheVariants.{Strange, Twice, Unclaimed, NoOrder, Differs, NoMemory}
+use Rattle.fed_threads.specs.declared.fault.CloseFault.TheVariants.{NoOrder}
 use Rattle.fed_threads.specs.declared.journal.Claim.{Claim}
 use Rattle.fed_threads.specs.declared.journal.Entry.{Entry}
 use Rattle.fed_threads.specs.Course.{CourseValue}
 use Rattle.fed_threads.specs.Placing.{entry_at, entries_of, is_ready, none_placed, placed_after, IsPlacing}
-use Rattle.fed_threads.specs.Settle.{AreClaimed, IsWhole, IsSettled, DiffersFirst, RunsAll, IsRunFault, IsCloseFault}
+use Rattle.fed_threads.specs.Settle.{AreClaimed, IsWhole, IsSettled, RunsAll, IsCloseFault}
 use Rattle.fed_threads.specs.Settled.{Point, starts, Agrees, AgreesIf, AllAgree, NextAgrees, after_next, point_after, with_entry, with_entry_if}
 
 point_push : (journals : List (List Entry)) (p : Point) (sites : List ℕ) (s : ℕ) → point_after journals p (sites ++ s ∷ []) ≡ after_next journals (point_after journals p sites) s
@@ -45,76 +44,22 @@ journal_is [] s v h is = absurd (omega arith)
 journal_is (w ∷ journals) zero v h is = ap (λ (x : Vec Entry). x.items) (sym is)
 journal_is (w ∷ journals) (suc s) v h is = journal_is journals s v (omega arith) is
 
-pub journals_counted : (journals : List (Vec Entry)) → length (entries_of journals) ≡ length journals
-journals_counted journals = length-map journals (λ (v : Vec Entry). v.items)
-
-pub entry_past : (journals : List (List Entry)) (site index : ℕ) → length journals ≤ site → entry_at journals site index ≡ None
-entry_past [] site index h = refl
-entry_past (j ∷ journals) zero index h = absurd (omega arith)
-entry_past (j ∷ journals) (suc site) index h = entry_past journals site index (omega arith)
-
 module _ (journals : List (Vec Entry)) (site index : ℕ) (v : Vec Entry) (inside : site < length journals) (is : v ≡ get_or journals site v) where
-  pub entry_none : length v.items ≤ index → entry_at (entries_of journals) site index ≡ None
-  entry_none past = ap (λ (es : List Entry). slice_get es index) (journal_is journals site v inside is) ∙ slice_get_past v.items index past
-
   pub entry_found : (e : Entry) → index < length v.items → e ≡ get_or v.items index e → entry_at (entries_of journals) site index ≡ Some e
   entry_found e left item = ap (λ (es : List Entry). slice_get es index) (journal_is journals site v inside is) ∙ slice_get_read v.items (length v.items) index e refl left item
 
 -- ---- a turn of the run: the k-th site of the order is s
 module _ (journals : List (Vec Entry)) (sites : List ℕ) (k : ℕ) (c : CourseValue) (s : ℕ) (run : HasRun (entries_of journals) (take k sites) c) (left : k < length sites) (turn : s ≡ get_or sites k 0) where
-  never : ((NextAgrees (entries_of journals) c.point s) → ⊥) → DiffersFirst (entries_of journals) sites k
-  never differs = record {
-    inside = left;
-    before = run.agree;
-    differs = subst (λ (x : Point). NextAgrees (entries_of journals) x (get_or sites k 0) → ⊥) run.point
-        (subst (λ (n : ℕ). NextAgrees (entries_of journals) c.point n → ⊥) turn differs);
-  }
-
-  at_none : (o : Option Entry) → o ≡ None → AgreesIf (length (entries_of journals)) c.point s o → ⊥
-  at_none o is agrees = subst (λ (x : Option Entry). AgreesIf (length (entries_of journals)) c.point s x) is agrees
-
-  at_some : (o : Option Entry) (e : Entry) → o ≡ Some e → (Agrees (length (entries_of journals)) c.point s e → ⊥) → AgreesIf (length (entries_of journals)) c.point s o → ⊥
-  at_some o e is differs agrees = differs (subst (λ (x : Option Entry). AgreesIf (length (entries_of journals)) c.point s x) is agrees)
-
-  -- there is no such site
-  pub differs_past : length journals ≤ s → DiffersFirst (entries_of journals) sites k
-  differs_past past =
-      never (at_none _ (entry_past (entries_of journals) s (get_or c.point.placed s 0) (let n = journals_counted journals in omega arith)))
-
   module _ (v : Vec Entry) (inside : s < length journals) (is : v ≡ get_or journals s v) where
-    -- the site has no entry left
-    pub differs_none : length v.items ≤ get_or c.point.placed s 0 → DiffersFirst (entries_of journals) sites k
-    differs_none past = never (at_none _ (entry_none journals s (get_or c.point.placed s 0) v inside is past))
-
     module _ (e : Entry) (more : get_or c.point.placed s 0 < length v.items) (item : e ≡ get_or v.items (get_or c.point.placed s 0) e) where
       found : entry_at (entries_of journals) s (get_or c.point.placed s 0) ≡ Some e
       found = entry_found journals s (get_or c.point.placed s 0) v inside is e more item
-
-      -- it does not agree
-      pub differs_there : (Agrees c.sites c.point s e → ⊥) → DiffersFirst (entries_of journals) sites k
-      differs_there differs = never (at_some _ e found (λ agrees. differs (subst (λ n. Agrees n c.point s e) (sym run.count) agrees)))
 
       -- it does
       pub run_more : (d : CourseValue) → Agrees c.sites c.point s e → d.sites ≡ c.sites → d.point ≡ with_entry c.point s e → HasRun (entries_of journals) (take (k + 1) sites) d
       run_more d agrees same next =
           let list : take (k + 1) sites ≡ take k sites ++ s ∷ [] = take_more sites k 0 left ∙ ap (λ (n : ℕ). take k sites ++ n ∷ []) (sym turn) in
           subst (λ (xs : List ℕ). HasRun (entries_of journals) xs d) (sym list) (run_push (entries_of journals) (take k sites) c d s e run found agrees same next)
-
-pub run_starts : (journals : List (Vec Entry)) (n : ℕ) (c : CourseValue) → length journals ≡ n → c ≡ record { sites = n; point = starts (entries_of journals) } → HasRun (entries_of journals) [] c
-run_starts journals n c count is = record {
-  agree = tt;
-  point = ap (λ (d : CourseValue). d.point) is;
-  count = ap (λ (d : CourseValue). d.sites) is ∙ sym count ∙ sym (journals_counted journals);
-}
-
--- the whole order was run
-pub runs_all : (journals : List (List Entry)) (sites : List ℕ) (k : ℕ) (c : CourseValue) (w : WorldValue) → length sites ≤ k → HasRun journals (take k sites) c → w ≡ record { sites = c.sites; events = c.point.events } → RunsAll journals sites w
-runs_all journals sites k c w all run is =
-    let whole : HasRun journals sites c = subst (λ (xs : List ℕ). HasRun journals xs c) (take_all k sites all) run in
-    record {
-      agree = whole.agree;
-      world = is ∙ (λ i. record { sites = whole.count i; events = (whole.point i).events });
-    }
 
 -- ---- what it comes to
 module _ (journals : List (List Entry)) (seats : List (List Claim)) (claimed : AreClaimed journals seats) (sites placed : List ℕ)
@@ -131,14 +76,6 @@ module _ (journals : List (List Entry)) (seats : List (List Claim)) (claimed : A
     agree = ran.agree;
     events_are = ap (λ (v : WorldValue). v.events) ran.world;
   }
-
-  pub run_fails : (e : CloseFault) → IsWhole journals placed → IsRunFault journals sites e → IsCloseFault journals seats e
-  run_fails (Strange seat place) whole fault = absurd fault
-  run_fails (Twice site index) whole fault = absurd fault
-  run_fails (Unclaimed site index) whole fault = absurd fault
-  run_fails (NoOrder next) whole fault = absurd fault
-  run_fails (Differs k) whole fault = (claimed, record { sites = sites; placing = placing; whole = whole_order whole; differs = fault })
-  run_fails NoMemory whole fault = tt
 
   pub no_order : (next : List ℕ) → length placed ≡ length journals → (IsWhole journals placed → ⊥) → ((s : ℕ) → s < length placed → get_or next s 0 ≡ get_or placed s 0) → ((s : ℕ) → length placed ≤ s → get_or next s 0 ≡ 0)
       → IsCloseFault journals seats (NoOrder next)

@@ -1,5 +1,5 @@
 -- Where each seat stands: whether the entry that a seat claims may be placed is told by the seat's next claim.
-use Rattle.std.proofs.Common.{◌≡◌, ◌≢◌, ◌<◌, ◌≤◌, ◌+◌, ℕ, List, [], length, get_or, take, replicate, Bool, true, false, Option, Some, None, refl, sym, ap, subst, ◌∙◌, arith, inl, inr, eqb}
+use Rattle.std.proofs.Common.{◌≡◌, ◌≢◌, ◌<◌, ◌≤◌, ◌+◌, ℕ, List, [], length, get_or, take, Bool, true, false, Option, Some, None, refl, sym, ap, subst, ◌∙◌, arith, inl, inr, eqb}
 use Rattle.std.proofs.lemmas.Bool.{eqb-true, eq-eqb, lt-ltb, le-ltb, ltb-false, cases_lt}
 use Rattle.std.proofs.lemmas.Option.{slice_get-get_or, slice_get_within}
 use Rattle.std.specs.List.{slice_get, count_by, list_all}
@@ -11,7 +11,6 @@ use Rattle.fed_threads.specs.Claims.{times_claimed}
 use Rattle.fed_threads.specs.Claimants.{IsClaimantIf, seat_if}
 use Rattle.fed_threads.specs.Placing.{is_placed, is_claim_of, first_of, seat_allows, with_next}
 use Rattle.fed_threads.specs.Cursors.{is_claim_if, IsPlacedBelow, AreCursors}
-use Rattle.fed_threads.proofs.Filling.{zeros_low}
 use Rattle.fed_threads.proofs.Firsts.{passes, counts, counts_twice, StandsFirst, first_of_some, position_is, position_none, all_taken, not_all_taken, all_but_one, counted_in, counted_in_two, counted_inside, found_inside}
 use Rattle.fed_threads.proofs.Greedy.{same_or_not, next_same, next_other, and_left, and_right}
 
@@ -202,16 +201,6 @@ module _ (seats : List (List Claim)) (placed cursors : List ℕ) (site seat : �
   pub cursors_next : site < length placed → seat < length cursors → AreCursors seats placed cursors
       → AreCursors seats (with_next placed site) (with_next cursors seat)
   cursors_next hs hk stand j q = step_if hs hk j q (slice_get (get_or seats j []) q) refl (stand j q)
-
--- at first no claim is placed
-begin_if : (n m site : ℕ) (o : Option Claim) (q : ℕ) → IsPlacedBelow (replicate n 0) (get_or (replicate m 0) site 0) q o
-begin_if n m site None q = tt
-begin_if n m site (Some c) q =
-    le-ltb c.index (get_or (replicate n 0) c.site 0) (omega (arith, zeros_low n c.site))
-    ∙ sym (le-ltb q (get_or (replicate m 0) site 0) (omega (arith, zeros_low m site)))
-
-pub cursors_begin : (seats : List (List Claim)) (n m : ℕ) → AreCursors seats (replicate n 0) (replicate m 0)
-cursors_begin seats n m j q = begin_if n m j (slice_get (get_or seats j []) q) q
 
 pub next_inside : (seats : List (List Claim)) (placed cursors : List ℕ) (site seat : ℕ)
     → is_claim_if site (get_or placed site 0) (slice_get (get_or seats seat []) (get_or cursors seat 0)) ≡ true

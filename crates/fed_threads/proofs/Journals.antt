@@ -14,22 +14,6 @@ use Rattle.fed_threads.specs.declared.journal.Asked.TheVariants.{Do, Ship, Take}
 use Rattle.fed_threads.specs.declared.journal.Entry.{Entry}
 use Rattle.fed_threads.specs.Replay.{State, IsState, empty_at, after_answer, after_packet_unless, lacking, after_event, outcome_at, replay_from, OutcomesHold, IsReplayed, Appends}
 
--- ---- what an entry does to a state
-answer_site : (s : State) (a : Answer) → (after_answer s a).site ≡ s.site
-answer_site s (Refuses refusal) = refl
-answer_site s (Replies reply None) = refl
-answer_site s (Replies reply (Some new)) = refl
-
-packet_site : (o : Option ℕ) (s : State) (p : PacketValue) → (after_packet_unless o s p).site ≡ s.site
-packet_site (Some lacks) s p = refl
-packet_site None s p = refl
-
-pub event_site : (s : State) (asked : Asked) (packet : Option PacketValue) → (after_event s asked packet).site ≡ s.site
-event_site s (Do site who command) packet = answer_site s (answer_to s.view s.site who command)
-event_site s (Ship site to) packet = refl
-event_site s (Take site sender place) None = refl
-event_site s (Take site sender place) (Some p) = packet_site (lacking s p) s p
-
 answer_grows : (s : State) (a : Answer) → is_below s.view.version (after_answer s a).view.version ≡ true
 unfolding add_to_view
 answer_grows s (Refuses refusal) = below_itself s.view.version

@@ -214,15 +214,6 @@ rows_started n numbers all v old none e =
     let count : n + 1 ≡ suc n = omega arith in
     ap numbers_of e ∙ rows_push numbers v ∙ (λ i. old i ++ none i ∷ []) ∙ replicate_more n [] ∙ ap (λ (k : ℕ). replicate k []) (sym count)
 
--- where nothing was run, nothing is found
-pub nothing_indexed : (n : ℕ) → IsIndexed [] (replicate n [])
-nothing_indexed n s k = ap (λ (row : List ℕ). get_or row k 0) (none n s)
-  where
-    none : (n s : ℕ) → ◌≡◌ {A = List ℕ} (get_or (replicate n []) s []) []
-    none zero s = refl
-    none (suc n) zero = refl
-    none (suc n) (suc s) = none n s
-
 pub nothing_placed : (n : ℕ) → ◌≡◌ {A = List ℕ} (placed_in (replicate n [])) (replicate n 0)
 nothing_placed zero = refl
 nothing_placed (suc n) = ap (λ (ns : List ℕ). 0 ∷ ns) (nothing_placed n)

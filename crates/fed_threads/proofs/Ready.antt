@@ -1,7 +1,6 @@
 -- A site that is ready stays ready whatever else is placed.
 use Rattle.std.proofs.Common.{◌≡◌, ◌<◌, ◌≤◌, ℕ, List, [], ◌∷◌, length, get_or, Bool, true, false, ◌&&◌, Option, Some, None, refl, ap, subst, arith, zero, suc}
 use Rattle.std.specs.Global.{Vec}
-use native.Mathlib.Decide.{dec_lt}
 use Rattle.std.specs.List.{list_all}
 use Rattle.std.proofs.lemmas.Grind.{common_steps}
 use Rattle.std.proofs.lemmas.Option.{slice_get_within}
@@ -87,21 +86,6 @@ past_site : (journals : List (List Entry)) (seats : List (List Claim)) (placed :
 past_site journals seats placed site past false is = refl
 past_site journals seats placed site past true is =
     absurd (let h : site < length journals = past_empty journals site (let k = ready_inside journals seats placed site is in omega arith) in omega arith)
-
--- no site past the journals is ready
-pub past_not_ready : (journals : List (List Entry)) (seats : List (List Claim)) (placed : List ℕ) (site : ℕ)
-    → length journals ≤ site
-    → is_ready journals seats placed site ≡ false
-past_not_ready journals seats placed site past =
-    past_site journals seats placed site past (is_ready journals seats placed site) refl
-
--- where no site of the journals is ready, none is
-pub none_ready : (journals : List (List Entry)) (seats : List (List Claim)) (placed : List ℕ) (n : ℕ)
-    → length journals ≤ n
-    → ((s : ℕ) → s < n → is_ready journals seats placed s ≡ false)
-    → (s : ℕ) → is_ready journals seats placed s ≡ false
-none_ready journals seats placed n all none s =
-    elim (dec_lt s n) [ yes lt ↦ none s lt | no ge ↦ past_not_ready journals seats placed s (omega arith) ]
 
 -- what the test of a site comes to where it has an entry left
 pub ready_is : (journals : List (Vec Entry)) (seats : List (List Claim)) (placed : List ℕ) (site : ℕ) (v : Vec Entry) (e : Entry)

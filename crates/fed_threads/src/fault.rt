@@ -19,8 +19,11 @@ pub enum CallFault {
     /// seen `seen` entries of its journal, which has `found`, or the board's version is not at least the one seen.
     #[error("the site is behind what the seat has seen")]
     Behind {
+        /// How many entries the seat has seen.
         seen: u64,
+        /// How many entries the journal has.
         found: u64,
+        /// The version of the board.
         version: Version,
     },
     /// 3: a growth was refused memory.

@@ -139,7 +139,9 @@ impl<G: Gate> Federation<G> {
         self.alloc
     }
 
-    /// Asks a site to do a command. The gate is told while the site's lock is held.
+    /// Asks a site to do a command. The gate is told while the site's lock is held. `NoSite` where the roster has no such
+    /// site, `Behind` where the site is behind what the seat has seen, and `NoMemory` where a growth is refused, which is
+    /// never the refusal of the command; on each the seat is as before.
     pub fn call<R: Wait>(
         &self,
         rt: &R,
@@ -164,7 +166,7 @@ impl<G: Gate> Federation<G> {
         call_in(&mut held, site, who, command, seat)
     }
 
-    /// A copy of a site's board. The seat has then seen the site as far as the copy.
+    /// A copy of a site's board. The seat has then seen the site as far as the copy. The faults are those of `call`.
     pub fn look<R: Wait>(&self, rt: &R, site: SiteId, seat: &mut Seat) -> Result<Board, CallFault>
         ensures nowhere { (result ≡ Err CallFault.NoSite) ↔ (length self.now.roster ≤ site) }
         ensures ok { IfOk result (λ b. Looks (known_by seat.old) (known_by seat.new) site (reads b)) }
@@ -179,7 +181,8 @@ impl<G: Gate> Federation<G> {
         look_in(&held, site, seat)
     }
 
-    /// Makes a packet at a site for a site, and sends it to that site's queue once the lock is free.
+    /// Makes a packet at a site for a site, and sends it to that site's queue once the lock is free. The faults are those
+    /// of `call`, and `NoSite` also where the roster lacks the addressee.
     pub fn ship<R: Wait>(
         &self,
         rt: &R,
@@ -212,6 +215,7 @@ impl<G: Gate> Federation<G> {
     }
 
     /// Receives the next of a site's queue: a parcel is taken by the site, and dropped where the call ends with a fault.
+    /// The faults are those of `call`.
     pub fn take_next<R: Wait>(
         &self,
         rt: &R,
@@ -237,7 +241,7 @@ impl<G: Gate> Federation<G> {
         }
     }
 
-    /// Receives the next of a site's queue and drops it.
+    /// Receives the next of a site's queue and drops it. `NoSite` where the roster has no such site.
     pub fn drop_next<R: Wait>(&self, rt: &R, site: SiteId) -> Result<Dropped, CallFault>
         ensures nowhere { (result ≡ Err CallFault.NoSite) ↔ (length self.now.roster ≤ site) }
         ensures err { IfErr result (λ e. e ≡ CallFault.NoSite) }
@@ -252,7 +256,8 @@ impl<G: Gate> Federation<G> {
         }
     }
 
-    /// Puts an end mark into a site's queue.
+    /// Puts an end mark into a site's queue. `NoSite` where the roster has no such site, and `NoMemory` where the queue is
+    /// refused memory.
     pub fn end<R: Wait>(&self, rt: &R, to: SiteId) -> Result<(), CallFault>
         ensures nowhere { (result ≡ Err CallFault.NoSite) ↔ (length self.now.roster ≤ to) }
         ensures err { IfErr result (λ e. (e ≡ CallFault.NoSite) ⊎ (e ≡ CallFault.NoMemory)) }

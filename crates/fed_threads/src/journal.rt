@@ -55,6 +55,7 @@ impl Asked {
 /// ended with a fault is none.
 #[derive(Drop)]
 pub struct Entry {
+    /// What was asked.
     pub asked: Asked,
     /// The packet that a take took. Nothing else has one.
     pub packet: Option<Packet>,
@@ -65,7 +66,10 @@ pub struct Entry {
 /// A call that a seat was answered: the place of its entry in the site's journal, counted from 0, and its outcome.
 #[derive(Clone, Copy, PartialEq, Eq, Debug)]
 pub struct Claim {
+    /// The site that was asked.
     pub site: SiteId,
+    /// The place of the entry in the site's journal, from 0.
     pub index: u64,
+    /// What was answered.
     pub outcome: Outcome,
 }

@@ -13,7 +13,8 @@ use fed_world::{Event, World};
 use std::alloc::Global;
 
 /// The events that the entries of the journals come to, in the one order that is chosen. It asks for one journal for each
-/// site of the roster, in the order of their numbers; the claims of the seats must be of just these entries.
+/// site of the roster, in the order of their numbers; the claims of the seats must be of just these entries. Else
+/// it answers the first of the faults of `CloseFault`, in the order of their numbers.
 pub fn settle(
     alloc: Global,
     roster: &Roster,

@@ -172,3 +172,30 @@ fn a_seat_of_another_federation(rt: HostRuntime) {
     let closed = other.close(seats).map(|run| run.order().len());
     assert!(rt; closed == Err(CloseFault::Strange { seat: 0, place: 0 }));
 }
+
+/// A job is submitted at the site of this number, as its first.
+fn see_submitted<R: Abort + Wait>(
+    rt: &R,
+    federation: &Federation<OpenGate>,
+    number: u8,
+    who: &Who,
+    seat: &mut Seat,
+) {
+    let said = federation.call(rt, site(number), who, &submission(rt), seat);
+    assert!(rt; said == Ok(Ok(Reply::Submitted(stamp(1, number)))));
+}
+
+/// The second claim of the second seat names an entry that has its outcome, and another event.
+#[test]
+fn a_claim_of_another_event(rt: HostRuntime) {
+    let alloc = rt.alloc();
+    let federation = Federation::open(alloc, &two_sites(&rt), OpenGate).expect(&rt, "memory");
+    let other = Federation::open(alloc, &two_sites(&rt), OpenGate).expect(&rt, "memory");
+    let (mut first, mut second) = (federation.seat(), federation.seat());
+    see_submitted(&rt, &federation, 0, &user(&rt, "ann"), &mut first);
+    see_submitted(&rt, &federation, 1, &user(&rt, "bob"), &mut second);
+    see_submitted(&rt, &other, 0, &user(&rt, "bob"), &mut second);
+    let seats = vec![in alloc; first, second].expect(&rt, "memory");
+    let closed = federation.close(seats).map(|run| run.order().len());
+    assert!(rt; closed == Err(CloseFault::Strange { seat: 1, place: 1 }));
+}

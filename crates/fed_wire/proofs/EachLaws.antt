@@ -1,16 +1,14 @@
 -- Elements that are read one after another, each where it may stand.
-use Rattle.std.proofs.Common.{◌≡◌, ℕ, ◌<◌, ◌≤◌, ◌+◌, length, map, drop, slice_index_or, add-one, Bool, true, false, List, [], ◌∷◌, ◌++◌, Result, Ok, Err, refl}
+use Rattle.std.proofs.Common.{◌≡◌, ℕ, ◌<◌, ◌+◌, length, map, drop, slice_index_or, add-one, Bool, true, false, List, [], ◌∷◌, ◌++◌, Result, Ok, Err, refl}
 use Rattle.std.proofs.Math.Seq.{drop-cons}
-use Rattle.std.proofs.lemmas.List.{drop_all}
 use Rattle.serde_json.specs.Data.{Data}
 use Rattle.serde_json.specs.View.{view}
 use Rattle.serde_json.specs.declared.value.Value.{Value}
-use Rattle.fed_json.specs.declared.flaws.Flaw.{Flaw}
 use Rattle.fed_json.specs.Reading.{Reading}
 use Rattle.fed_wire.specs.declared.faults.Part.{Part}
 use Rattle.fed_wire.specs.declared.faults.WireFault.{WireFault}
 use Rattle.fed_wire.specs.declared.faults.WireFault.TheVariants.{Range}
-use Rattle.fed_wire.specs.Reading.{◌>>=◌, place, at, each_in}
+use Rattle.fed_wire.specs.Reading.{place, each_in}
 
 first_left : (vs : List Value) (i : ℕ) (v : Value) → i < length vs → v ≡ slice_index_or vs i v → map view (drop i vs) ≡ view v ∷ map view (drop (i + 1) vs)
 first_left vs i v h e = rw (drop-cons vs i v h, ← e, add-one) refl
@@ -27,10 +25,3 @@ module _ {A : Type 0} (part : Part) (read : Data → Reading A) (stands : List A
     -- one that may not stand there
     pub each_out : (x : A) → Ok x ≡ read (view v) → stands before x ≡ false → Err (Range (place part (length before))) ≡ left
     each_out x r s = rw (first_left vs i v within here, ← r, s) refl
-
-    -- one that is not read
-    pub each_flaw : (flaw : Flaw) → Err flaw ≡ read (view v) → (at {A = A} (place part (length before)) (place part (length before)) (Err flaw) >>= λ x. each_in part read stands (before ++ x ∷ []) (map view (drop (i + 1) vs))) ≡ left
-    each_flaw flaw r = rw (first_left vs i v within here, ← r) refl
-
-  pub each_end : length vs ≤ i → Ok before ≡ left
-  each_end h = rw (drop_all i vs h) refl

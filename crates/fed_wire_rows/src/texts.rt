@@ -63,7 +63,7 @@ fn empty_packets_are_read(rt: HostRuntime) {
 fn empty_packets_are_written(rt: HostRuntime) {
     let two = with(&rt, EMPTY, "\"format\":1", "\"format\":2");
     assert!(rt; is_written(&rt, EMPTY, &two));
-    let spaced = with(&rt, EMPTY, ",\"jobs\"", ", \"jobs\"");
+    let spaced = EMPTY.replace(rt.alloc(), ',', ", ").expect(&rt, "memory");
     assert!(rt; is_written(&rt, &spaced, &two));
 }
 

@@ -1,5 +1,5 @@
 -- Texts that are cut at a byte which their parts don't have.
-use Rattle.std.proofs.Common.{◌≡◌, ℕ, suc, ◌<◌, Bool, true, false, ◌&&◌, List, [], ◌∷◌, ◌++◌, length, get_or, take, drop, map, Ok, refl, ap, ◌∙◌, arith, add-one}
+use Rattle.std.proofs.Common.{◌≡◌, ℕ, suc, ◌<◌, Bool, true, false, ◌&&◌, List, [], ◌∷◌, ◌++◌, length, take, drop, map, Ok, refl, ap, ◌∙◌, arith, add-one}
 use Rattle.std.specs.Prelude.{◌==◌, is_some, nat_lt, position}
 use Rattle.std.specs.List.{All, after_first, before_first, join_with_byte, list_all, position_or_len, slice_split}
 use Rattle.std.proofs.lemmas.Bool.Decides.{nat_tests}
@@ -14,10 +14,6 @@ Free p (x ∷ xs) = (p x ≡ false) × Free p xs
 pub free-append : (p : ℕ → Bool) (xs ys : List ℕ) → Free p xs → Free p ys → Free p (xs ++ ys)
 free-append p [] ys h k = k
 free-append p (x ∷ xs) ys h k = (h.0, free-append p xs ys h.1 k)
-
-pub free_from_index : (p : ℕ → Bool) (xs : List ℕ) → ((i : ℕ) → i < length xs → p (get_or xs i 0) ≡ false) → Free p xs
-free_from_index p [] h = tt
-free_from_index p (x ∷ xs) h = (h 0 (omega arith), free_from_index p xs (λ i within. h (suc i) (omega arith)))
 
 pub free_from_all : (p test : ℕ → Bool) (xs : List ℕ) → ((b : ℕ) → test b ≡ true → p b ≡ false) → list_all test xs ≡ true → Free p xs
 free_from_all p test [] h e = tt

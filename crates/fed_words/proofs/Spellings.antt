@@ -1,10 +1,9 @@
 -- Options and operands, found word by word.
-use Rattle.std.proofs.Common.{◌≡◌, ℕ, zero, suc, ◌+◌, ◌-◌, ◌<◌, ◌≤◌, true, false, List, [], ◌∷◌, ◌++◌, length, get_or, take, drop, length-drop, codes, Option, Some, None, Ok, Err, Bor, refl, ap, sym, ◌∙◌, arith, add-one, append-nil, append_assoc, drop-cons}
+use Rattle.std.proofs.Common.{◌≡◌, ℕ, zero, suc, ◌+◌, ◌-◌, ◌<◌, true, false, List, [], ◌∷◌, ◌++◌, length, get_or, take, drop, length-drop, codes, Option, Some, None, Ok, Err, Bor, refl, ap, sym, ◌∙◌, arith, add-one, append-nil, append_assoc, drop-cons}
 use Rattle.std.specs.Str.{bytes_eq}
 use Rattle.std.proofs.Math.Seq.{take-length}
-use Rattle.std.proofs.lemmas.List.{at_drop_all, drop-map}
+use Rattle.std.proofs.lemmas.List.{drop-map}
 use Rattle.fed_words.specs.declared.faults.UsageFault.{UsageFault}
-use Rattle.fed_words.specs.declared.faults.UsageFault.TheVariants.{MissingArgument}
 use Rattle.fed_words.specs.declared.utilities.Choice.{Choice}
 use Rattle.fed_words.specs.declared.utilities.Utility.{Utility}
 use Rattle.fed_words.specs.Fault.{Answer}
@@ -56,12 +55,6 @@ module _ (utility : Utility) (all : Words) (items : List Item) (k : ℕ) (word :
 
   pub spelled-fault : Spelled utility all items None k → bytes_eq word (codes "--") ≡ false → is_options word ≡ true → (fault : UsageFault) → (group utility (drop 1 word)).rest ≡ Err fault → Ends utility all (items ++ (group utility (drop 1 word)).items) (Err fault)
   spelled-fault spelled e f fault h = spelled ∙ rw (here, e, f) (ap (with_items items) (before-err _ _ fault (λ wanted. spelling utility wanted (drop (k + 1) all)) h))
-
-pub spelled-all : (utility : Utility) (all : Words) (items : List Item) (k : ℕ) → Spelled utility all items None k → length all ≤ k → Ends utility all items (Ok [])
-spelled-all utility all items k spelled past = spelled ∙ at_drop_all (λ rest. with_items items (spelling utility None rest)) all k past ∙ with_items-none items (Ok [])
-
-pub spelled-wants : (utility : Utility) (all : Words) (items : List Item) (k : ℕ) (option : Choice) → Spelled utility all items (Some option) k → length all ≤ k → Ends utility all items (Err MissingArgument)
-spelled-wants utility all items k option spelled past = spelled ∙ at_drop_all (λ rest. with_items items (spelling utility (Some option) rest)) all k past ∙ with_items-none items (Err MissingArgument)
 
 pub words_of-drop : (k : ℕ) (words : List (Bor (List ℕ))) → words_of (drop k words) ≡ drop k (words_of words)
 words_of-drop k words = sym (drop-map (λ word. word.now) k words)

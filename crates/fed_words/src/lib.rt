@@ -2,18 +2,31 @@
 //! 12.2), and the readers of their values.
 #![tactic(auto)]
 
+/// Why words ask nothing.
 pub mod faults;
+/// Identifiers of jobs.
 pub mod identifiers;
+/// The jobs that operands name.
 pub mod jobs;
+/// Kinds of holds.
 pub mod kinds;
+/// Laws of words.
 pub mod laws;
+/// Words that are numbers.
 pub mod numbers;
+/// Priorities.
 pub mod priorities;
+/// What words ask.
 pub mod requests;
+/// Lists of resources.
 pub mod resources;
+/// What options set.
 pub mod settings;
+/// Names of sites.
 pub mod sites;
+/// What words spell: options and operands.
 pub mod spelling;
+/// The utilities and their options.
 pub mod utilities;
 
 pub use faults::UsageFault;

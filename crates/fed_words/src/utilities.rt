@@ -39,7 +39,7 @@ pub enum Choice {
 }
 
 impl Utility {
-    /// The utility of this name.
+    /// The utility of this name, or `None` where there is none.
     pub fn named(name: &str) -> Option<Utility>
         ensures { result ≡ utility_named name.now }
     {
@@ -54,7 +54,7 @@ impl Utility {
         }
     }
 
-    /// The option of this letter.
+    /// The option of this letter, or `None` where the utility has none.
     pub fn choice(self, letter: char) -> Option<Choice>
         ensures { result ≡ choice_of self letter }
     {

@@ -1,7 +1,7 @@
 -- What the code of a world does is what happens in the run.
 use Rattle.std.specs.Prelude.{cond, nat_lt, replicate, Option, Some, None, Result, Ok, Err, MatchResult}
 use Rattle.std.proofs.Common.{◌≡◌, ◌≢◌, ℕ, ◌+◌, ◌<◌, ◌≤◌, ◌==◌, List, [], ◌∷◌, ◌++◌, length, get_or, set, refl, sym, ap, subst, ◌∙◌, inl, inr, arith}
-use Rattle.std.proofs.lemmas.Bool.{cases_Bool, cases_eq, cond-true, cond-false, eqb-true, lt-ltb, le-ltb}
+use Rattle.std.proofs.lemmas.Bool.{cases_Bool, cases_eq, cond-true, cond-false, eqb-true, lt-ltb}
 use Rattle.std.proofs.lemmas.List.{get_or-set_same, get_or-set_other, get_or_push, get_or_append_left, get_or-replicate, length-set, length_push, take_more}
 use Rattle.std.proofs.Math.ListN.{take}
 use Rattle.fed_stamp.specs.Stamp.{StampValue}
@@ -49,12 +49,6 @@ replica_set n w v rs i r small old same new = record {
         let kept : IsReplica j (v.site j) (get_or rs j d) = subst (λ s. IsReplica j s (get_or rs j d)) (sym (same j apart)) (old.each j d h) in
         subst (IsReplica j (v.site j)) (sym (get_or-set_other rs i j r d apart)) kept)
   ];
-}
-
-pub replicas_kept : (n : ℕ) (w v : World) (rs : List ReplicaValue) → ((j : ℕ) → v.site j ≡ w.site j) → AreReplicas n w rs → AreReplicas n v rs
-replicas_kept n w v rs same old = record {
-  count = old.count;
-  each = λ j d h. subst (λ s. IsReplica j s (get_or rs j d)) (sym (same j)) (old.each j d h);
 }
 
 -- ---- a command
@@ -107,9 +101,6 @@ site_lawful n events few i = let g = run_good n events few in cut_lawful g.0 ((r
 pub do_here : (n : ℕ) (w : World) (i : ℕ) (who : Who) (command : Command) → i < n → step n w (Do i who command) ≡ does w i (answer (w.site i).set i who command)
 do_here n w i who command small = cond-true (nat_lt i n) _ (stays w Outcome.NoSite) (lt-ltb i n small)
 
-pub do_nowhere : (n : ℕ) (w : World) (i : ℕ) (who : Who) (command : Command) → n ≤ i → step n w (Do i who command) ≡ stays w Outcome.NoSite
-do_nowhere n w i who command large = cond-false (nat_lt i n) (does w i (answer (w.site i).set i who command)) (stays w Outcome.NoSite) (le-ltb i n large)
-
 -- what an outcome and the replicas are of a step
 abbrev pub IsStep : ℕ → Step → Outcome → List ReplicaValue → Type 0
 IsStep n s o rs = (o ≡ s.outcome) × AreReplicas n s.after rs
@@ -117,9 +108,6 @@ IsStep n s o rs = (o ≡ s.outcome) × AreReplicas n s.after rs
 module _ (n : ℕ) (events : List Event) (few : n ≤ 16) (rs : List ReplicaValue) (held : AreReplicas n (run n events) rs) where
   abbrev w : World
   w = run n events
-
-  pub nowhere_done : (i : ℕ) (who : Who) (command : Command) → n ≤ i → IsStep n (step n w (Do i who command)) Outcome.NoSite rs
-  nowhere_done i who command large = subst (λ s. IsStep n s Outcome.NoSite rs) (sym (do_nowhere n w i who command large)) (refl, held)
 
   -- the replica that changed stands at k, the number of the site that was asked
   module _ (i k : ℕ) (at : k ≡ i) (who : Who) (command : Command) (small : k < n) (old new : ReplicaValue) (before : IsReplica k (w.site k) old)

@@ -1,0 +1,50 @@
+//! Boards and deltas where memory may be refused. A call answers as with ample memory, or by want of memory; then it leaves
+//! all as before, and answers as with ample memory when it is asked again. So the tests pass whichever growth is refused,
+//! which `rt try --test --fail-alloc N` does for the Nth.
+use crate::boards::{has_jobs, stamp, submitted};
+use fed_board::Board;
+use fed_delta::{Delta, absorb, delta_since};
+use fed_lattice::NoMemory;
+use fed_stamp::Version;
+use std::process::Abort;
+
+fn copied(rt: &impl Abort, board: &Board) -> Board {
+    match board.copy() {
+        Ok(copy) => copy,
+        Err(NoMemory) => board.copy().expect(rt, "memory"),
+    }
+}
+
+/// All that the board tells.
+fn told(rt: &(impl Abort + AllocGlobal), board: &Board) -> Delta {
+    let nothing = Version::default();
+    match delta_since(rt.alloc(), board, &nothing) {
+        Ok(delta) => delta,
+        Err(NoMemory) => delta_since(rt.alloc(), board, &nothing).expect(rt, "memory"),
+    }
+}
+
+#[test]
+fn refused_growths_of_a_merge(rt: HostRuntime) {
+    let one = submitted(&rt, stamp(1, 0), false);
+    let other = submitted(&rt, stamp(1, 1), false);
+    let mut both = copied(&rt, &one);
+    if both.merge(&other).is_err() {
+        assert!(rt; both == one);
+        both.merge(&other).expect(&rt, "memory");
+    }
+    assert!(rt; has_jobs(&both, [stamp(1, 0), stamp(1, 1)]));
+}
+
+#[test]
+fn refused_growths_of_a_delta(rt: HostRuntime) {
+    let one = submitted(&rt, stamp(1, 0), false);
+    let other = submitted(&rt, stamp(1, 1), false);
+    let news = told(&rt, &other);
+    let mut both = copied(&rt, &one);
+    if let Err(fault) = absorb(&mut both, &news) {
+        assert!(rt; fault.number() == 2 && both == one);
+        absorb(&mut both, &news).expect(&rt, "memory");
+    }
+    assert!(rt; has_jobs(&both, [stamp(1, 0), stamp(1, 1)]));
+}
