@@ -4,14 +4,13 @@
 use crate::boards::{has_jobs, stamp, submitted};
 use fed_board::Board;
 use fed_delta::{Delta, absorb, delta_since};
-use fed_lattice::NoMemory;
 use fed_stamp::Version;
 use std::process::Abort;
 
 fn copied(rt: &impl Abort, board: &Board) -> Board {
     match board.copy() {
         Ok(copy) => copy,
-        Err(NoMemory) => board.copy().expect(rt, "memory"),
+        Err(_) => board.copy().expect(rt, "memory"),
     }
 }
 
@@ -20,7 +19,7 @@ fn told(rt: &(impl Abort + AllocGlobal), board: &Board) -> Delta {
     let nothing = Version::default();
     match delta_since(rt.alloc(), board, &nothing) {
         Ok(delta) => delta,
-        Err(NoMemory) => delta_since(rt.alloc(), board, &nothing).expect(rt, "memory"),
+        Err(_) => delta_since(rt.alloc(), board, &nothing).expect(rt, "memory"),
     }
 }
 

@@ -10,6 +10,7 @@ pub mod FirstFit
 pub mod Started
 pub mod Fronts
 pub mod BoardEntries
+pub mod BadEntries
 pub mod Gathered
 pub mod QueueMembers
 pub mod Booked

@@ -1,9 +1,10 @@
 //! The machine of a site.
-ghost use Rattle.std.specs.Prelude.{◌≡◌, None, length, IfOk};
+ghost use Rattle.std.specs.Prelude.{◌≡◌, ◌++◌, ◌∷◌, [], None, Err, List, length, IfOk, IfSome};
 ghost use Rattle.fed_stamp.specs.Indexes.{least_index};
 ghost use Rattle.fed_stamp.specs.Roster.{ok_unless};
 ghost use Rattle.fed_record.specs.JobRecord.{reads as reads_job};
 ghost use Rattle.fed_board.specs.Board.{reads};
+ghost use Rattle.fed_easy.specs.declared.machines.Running.{Running};
 ghost use Rattle.fed_easy.specs.Machine.{IsEither, MachineValue, first_fault as fault_of, is_bad, is_entry as may_be_entry, number_of, running_in, running_of};
 
 use fed_board::Board;
@@ -146,6 +147,43 @@ fn running_jobs(alloc: Global, board: &Board, site: SiteId) -> Result<Vec<Runnin
     Ok(entries)
 }
 
+// The index of the first entry that no machine may have, once one more stands at this index, behind the others.
+fn bad_with(bad: Option<usize>, index: usize, entry: Running) -> Option<usize>
+    ensures { (running : List Running) → index ≡ length running →
+        bad ≡ least_index (is_bad running) (length running) →
+        result ≡ least_index (is_bad (running ++ entry ∷ [])) (length (running ++ entry ∷ [])) }
+{
+    match bad {
+        Some(first) => Some(first),
+        None => { if is_entry(entry) { None } else { Some(index) } }
+    }
+}
+
+// The first fault of the machine of a site's jobs. It takes no memory.
+fn first_fault_on(board: &Board, site: SiteId, nodes: u64) -> Option<MachineFault>
+    ensures { result ≡ fault_of nodes (running_in site (reads board.now)) }
+{
+    if nodes < 1 || nodes > MAX_NODES {
+        return Some(MachineFault::Nodes);
+    }
+    let mut count = 0usize;
+    let mut bad = None;
+    for (_, held) in board.jobs() {
+        let Some(entry) = running_job(held, site) else {
+            continue;
+        };
+        if count == MAX_RUNNING {
+            return Some(MachineFault::TooMany);
+        }
+        bad = bad_with(bad, count, entry);
+        count += 1;
+    }
+    match bad {
+        Some(index) => Some(MachineFault::Entry { index }),
+        None => None,
+    }
+}
+
 impl Machine {
     /// The machine of so many nodes, from 1 to `MAX_NODES`, with these entries, at most `MAX_RUNNING`, each of 1 to
     /// `MAX_NODES` nodes and with an end of at most `MAX_END`. Where something is wrong, the fault of the least number is
@@ -176,19 +214,24 @@ impl Machine {
 }
 
 /// The machine of so many nodes with an entry for each job that the site has begun and that is not finished, in the
-/// order of their stamps. It is refused as `Machine::new` refuses it.
+/// order of their stamps. It is refused as `Machine::new` refuses it, also where a growth is refused; `NoMemory` is
+/// answered where nothing else is wrong.
 pub fn machine_of(
     alloc: Global,
     board: &Board,
     site: SiteId,
     nodes: u64,
 ) -> Result<Machine, MachineFault>
-    ensures { let entries = running_in site (reads board.now) in
+    ensures machine { let entries = running_in site (reads board.now) in
         IsEither result MachineFault.NoMemory
         (ok_unless (fault_of nodes entries) (record { nodes = nodes; running = entries })) }
+    ensures fault { IfSome (fault_of nodes (running_in site (reads board.now))) (λ fault. result ≡ Err fault) }
 {
     match running_jobs(alloc, board, site) {
         Ok(entries) => Machine::new(nodes, entries),
-        Err(_) => Err(MachineFault::NoMemory),
+        Err(_) => match first_fault_on(board, site, nodes) {
+            Some(fault) => Err(fault),
+            None => Err(MachineFault::NoMemory),
+        },
     }
 }

@@ -21,6 +21,8 @@ fn refused_growths_of_a_machine(rt: HostRuntime) {
         Ok(machine) => assert!(rt; machine.running().len() == 1),
         Err(fault) => assert!(rt; fault.number() == 4),
     }
+    let fault = machine_of(rt.alloc(), &board, site(0), 0).expect_err(&rt, "no nodes");
+    assert!(rt; fault.number() == 1);
 }
 
 #[test]

@@ -10,4 +10,4 @@ pub returns-in-Ok : goal.returns-in-Ok
 returns-in-Ok c =
     let parts : MachineValue = record { nodes = c.args.nodes; running = running_in c.args.site (reads c.args.board.now) } in
     made_said c.machine_plan_text.result string_bytes (first_fault c.args.nodes (running_in c.args.site (reads c.args.board.now))) parts c.in-Ok.machine
-    (λ m. plan_lines c.args.roster.now (site_plan (reads c.args.board.now) c.args.site c.args.moment m)) c.in-Ok.ensures c.machine_plan_text.ensures
+    (λ m. plan_lines c.args.roster.now (site_plan (reads c.args.board.now) c.args.site c.args.moment m)) c.in-Ok.ensures.machine c.machine_plan_text.ensures

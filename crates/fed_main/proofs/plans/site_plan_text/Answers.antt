@@ -6,4 +6,4 @@ use Rattle.fed_main.proofs.plans.site_plan_text.Goals as goal
 pub returns-in-Ok : goal.returns-in-Ok
 returns-in-Ok c = plan_said c.args.roster.now (reads c.args.board.now) c.args.site c.unwrap-nodes.result
     (nodes_found c.args.roster.now c.args.site c.unwrap-nodes.result c.requires.site (sym c.unwrap-nodes.ensures ∙ c.nodes.ensures.same))
-    c.machine_plan_text.result string_bytes c.args.moment c.in-Ok.machine c.in-Ok.ensures c.machine_plan_text.ensures
+    c.machine_plan_text.result string_bytes c.args.moment c.in-Ok.machine c.in-Ok.ensures.machine c.machine_plan_text.ensures
