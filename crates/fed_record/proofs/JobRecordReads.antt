@@ -12,11 +12,11 @@ use Rattle.fed_record.specs.Field.{owner_in, name_in, priority_in, nodes_in, lim
 use Rattle.fed_record.specs.Grant.{grant_cmp, grant_in}
 use Rattle.fed_record.specs.Hold.{kind_cmp}
 use Rattle.fed_record.specs.JobRecord.{JobRecordValue, reads}
+use Rattle.fed_record.specs.JobRecordSteps.{changed_record, joined_record}
 use Rattle.fed_record.specs.JobSteps.{add_to_job, join_jobs}
 use Rattle.fed_record.specs.Operation.{body_of}
 use Rattle.fed_record.specs.RecordLaws.{hold_order, hold_exact, site_order, site_exact}
 use Rattle.fed_record.specs.ValueOrders.{name_cmp, account_cmp, beginning_cmp, ending_cmp}
-use Rattle.fed_record.proofs.JobRecordSteps.{changed_record, joined_record}
 use Rattle.fed_record.proofs.RecordReads.{applied_register, applied_stage, applied_flag, hold_applied, site_applied}
 
 pub applied_job_reads : (r : JobRecordValue) (s : StampValue) (d : Operation) → reads (changed_record r s d) ≡ add_to_job s (body_of d) (reads r)

@@ -13,4 +13,3 @@ pub mod BodyLaws
 pub mod StandingTags
 pub mod StandingRecords
 pub mod JobRecordReads
-pub mod JobRecordSteps

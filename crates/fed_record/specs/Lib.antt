@@ -25,6 +25,8 @@ pub mod JobRecord
 pub mod JobParts
 pub mod RecordSteps
 pub mod RecordLaws
+pub mod JobRecordSteps
+pub mod JobPartLaws
 pub mod JobRecordLaws
 pub mod ValueOrders
 pub mod ValueOrderLaws

@@ -14,11 +14,11 @@ use crate::fields::Fields;
 use crate::grants::GrantStage;
 use crate::holds::HoldKind;
 use crate::job_readers::Progress;
-use crate::job_records::{JobFields, JobRecord, JobStages};
+use crate::job_records::{JobFields, JobStages};
 use crate::limits::Limit;
 use crate::node_counts::Nodes;
 use crate::priorities::Priority;
-use crate::records::Record;
+use crate::records::JobRecord;
 use crate::stages::Stages;
 use fed_lattice::{Causal, Flag, NoMemory, Register, Stage};
 use fed_stamp::{SiteId, Stamp, Version, Word};
@@ -89,7 +89,7 @@ fn stages_of(parts: &JobParts) -> JobStages
     }
 }
 
-impl Record<JobFields, JobStages> {
+impl JobRecord {
     /// The record that reads as the parts. It asks that the pairs of `hold_tags` and of `site_tags` strictly ascend, by
     /// element and then by stamp, and that `touched` covers the stamp of each pair. The record is well formed and of a
     /// job that is submitted, as every record on a board is. The only error is `NoMemory`.
@@ -102,7 +102,7 @@ impl Record<JobFields, JobStages> {
         ensures well_formed { IfOk result ⟦<JobRecord as Causal>⟧.well_formed }
         ensures submitted { IfOk result (λ r. IsTrue (is_submitted (reads r))) }
     {
-        Ok(Record {
+        Ok(JobRecord {
             alloc,
             fields: fields_of(parts),
             holds: TagSet::from_pairs(alloc, parts.hold_tags)?,

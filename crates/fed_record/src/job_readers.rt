@@ -13,13 +13,12 @@ ghost use Rattle.fed_record.specs.Letter.{is_submitted as is_job_submitted, is_h
 use crate::accounts::Account;
 use crate::grants::GrantStage;
 use crate::holds::{HoldKind, HoldKinds};
-use crate::job_records::{JobFields, JobStages};
 use crate::letters::Letter;
 use crate::limits::Limit;
 use crate::node_counts::Nodes;
 use crate::priorities::Priority;
 use crate::progress::{Beginning, Ending};
-use crate::records::Record;
+use crate::records::JobRecord;
 use fed_stamp::{SiteId, Stamp, Version, Word};
 use fed_tags::{Elements, Pairs};
 
@@ -33,7 +32,7 @@ pub struct Progress {
 }
 
 /// The readers of the fields ask that the job is submitted, which holds of every record on a board.
-impl Record<JobFields, JobStages> {
+impl JobRecord {
     /// Whether the job is submitted: a submission sets all fields.
     pub fn is_submitted(&self) -> bool
         ensures { result ≡ is_job_submitted (reads self.now) }

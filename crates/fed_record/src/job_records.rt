@@ -1,4 +1,4 @@
-//! The records of jobs, and what is read of them.
+//! The fields and the stages of jobs, and what records of jobs stand for.
 ghost use Rattle.std.specs.Prelude.{◌≡◌, ℕ, List, ◌++◌, IfOk, OnOk};
 ghost use Rattle.fed_stamp.specs.Stamp.{StampValue};
 ghost use Rattle.fed_lattice.specs.History.{History, OneEach};
@@ -15,7 +15,7 @@ use crate::limits::Limit;
 use crate::node_counts::Nodes;
 use crate::priorities::Priority;
 use crate::progress::{Beginning, Ending};
-use crate::records::Record;
+use crate::records::JobRecord;
 use crate::stages::Stages;
 use fed_lattice::{Causal, Flag, Register, Stage};
 use fed_stamp::Word;
@@ -32,9 +32,6 @@ pub type JobFields = Fields<
 
 /// The flag of deletion, the stage of grants, and the registers of Begin and Finish.
 pub type JobStages = Stages<Flag, Stage<GrantStage>, Register<Beginning>, Register<Ending>>;
-
-/// What is read of the operations of one job.
-pub type JobRecord = Record<JobFields, JobStages>;
 
 /// A record with one operation more reads as its view with the operation added.
 pub fn applied_records_read()

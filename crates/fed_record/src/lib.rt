@@ -24,7 +24,7 @@ pub mod inlines;
 pub mod job_parts;
 /// What is read of the record of a job.
 pub mod job_readers;
-/// The type of the records of jobs, and what they stand for.
+/// The fields and the stages of jobs, and what records of jobs stand for.
 pub mod job_records;
 /// Laws of what is read of a job.
 pub mod laws;
@@ -42,7 +42,7 @@ pub mod operations;
 pub mod priorities;
 /// That jobs begin and finish.
 pub mod progress;
-/// Records of jobs over any fields and stages, and how they change and join.
+/// Records of jobs, and how they change and join.
 pub mod records;
 /// Why commands are refused.
 pub mod refusals;
@@ -69,7 +69,7 @@ pub use holds::{HoldKind, HoldKinds};
 pub use inlines::Inline;
 pub use job_parts::JobParts;
 pub use job_readers::Progress;
-pub use job_records::{JobFields, JobRecord, JobStages};
+pub use job_records::{JobFields, JobStages};
 pub use letters::Letter;
 pub use limits::{Limit, MAX_LIMIT};
 pub use moments::{MAX_END, MAX_MOMENT, Moment};
@@ -77,7 +77,7 @@ pub use node_counts::Nodes;
 pub use operations::Operation;
 pub use priorities::{MAX_PRIORITY, MIN_PRIORITY, Priority};
 pub use progress::{Beginning, Ending};
-pub use records::Record;
+pub use records::JobRecord;
 pub use refusals::Refusal;
 pub use replies::Reply;
 pub use reservations::Reservation;

@@ -1,18 +1,18 @@
 //! Records of jobs: what is read of a job's operations, without them.
-ghost use Rattle.std.specs.Prelude.{◌≡◌, ◌&&◌, [], replicate, OnOk, OnErr};
+ghost use Rattle.std.specs.Prelude.{◌≡◌, OnOk, OnErr};
 ghost use Rattle.std.specs.Ordering.{nat_cmp};
 ghost use Rattle.fed_tags.specs.Tags.{pair_cmp, stamped as with_tag, inserted, applied_tags};
 ghost use Rattle.fed_record.specs.Changes.{hold_change, site_change};
 ghost use Rattle.fed_record.specs.Hold.{kind_cmp};
-ghost use Rattle.fed_record.specs.RecordSteps.{same_record, IsRecord, applied_record, joined_records, record_stands_for, IsRecordHistory};
-ghost use Rattle.fed_record.specs.RecordLaws.{tells_records, record_equality, bottom_is_record, applied_is_record, joined_are_records, joined_records_assoc, joined_records_comm, joined_records_itself, bottom_records_join, bottom_record_stands, record_adds_change, record_joins_histories, record_stands_for_sets};
+ghost use Rattle.fed_record.specs.JobRecordSteps.{IsJobRecord, empty_record, changed_record, joined_record, IsJobHistory, job_record_stands_for};
+ghost use Rattle.fed_record.specs.JobRecordLaws.{same_job_fields, same_job_stages, same_job_record, tells_job_records, job_record_equality, empty_is_job_record, changed_is_job_record, joined_is_job_record, job_records_assoc, job_records_comm, job_records_itself, empty_records_join, empty_record_stands, job_record_adds_change, job_records_join_histories, job_record_stands_for_sets};
 
 use crate::changes::{
-    JobFieldChanges, JobStageChanges, added_holds, added_sites, field_changes, removed_holds,
-    removed_sites, stage_changes,
+    added_holds, added_sites, field_changes, removed_holds, removed_sites, stage_changes,
 };
 use crate::holds::HoldKind;
-use crate::inlines::{Inline, apply_inline, copy_inline, join_inline};
+use crate::inlines::{apply_inline, copy_inline, join_inline};
+use crate::job_records::{JobFields, JobStages};
 use crate::operations::Operation;
 use fed_lattice::{Causal, ExactEq, NoMemory};
 use fed_stamp::{SiteId, Stamp, Version};
@@ -20,22 +20,23 @@ use fed_tags::TagSet;
 use std::alloc::Global;
 use std::marker::Model;
 
-/// What is read of a job's operations: its fields `F`, the live pairs of its holds and sites, its stages `G`, and the
+/// What is read of the operations of one job: its fields, the live pairs of its holds and sites, its stages, and the
 /// version of its operations.
 #[derive(Drop)]
-pub struct Record<F, G> {
+pub struct JobRecord {
     pub(crate) alloc: Global,
-    pub(crate) fields: F,
+    pub(crate) fields: JobFields,
     pub(crate) holds: TagSet<HoldKind>,
     pub(crate) sites: TagSet<SiteId>,
-    pub(crate) stages: G,
+    pub(crate) stages: JobStages,
     pub(crate) touched: Version,
 }
 
-impl<F, G> Model for Record<F, G> {
-    ghost use Rattle.fed_record.specs.Record.{RecordValue, AreCovered};
+impl Model for JobRecord {
+    ghost use Rattle.fed_record.specs.Record.{AreCovered};
+    ghost use Rattle.fed_record.specs.JobRecord.{JobRecordValue};
 
-    ghost Value = { RecordValue F G };
+    ghost Value = { JobRecordValue };
 
     ghost view = { λ r. record {
       fields = r.fields;
@@ -96,19 +97,18 @@ fn change_tags(
     Ok(())
 }
 
-impl<F: PartialEq, G: PartialEq> Record<F, G> {
-    // Half of `==`, so that each half names what it compares.
-    fn has_same_values(&self, other: &Self) -> bool
-        ensures { result ≡ (F.eq self.now.fields other.now.fields && G.eq self.now.stages other.now.stages) }
-    {
-        self.fields == other.fields && self.stages == other.stages
-    }
-}
-
-impl<F, G> Record<F, G> {
+impl JobRecord {
     ghost use Rattle.std.specs.Prelude.{◌&&◌, nat_eq};
     ghost use Rattle.std.specs.Ordering.{eq_by_cmp};
     ghost use Rattle.std.specs.Cmp.Lexicographic.{pointwise};
+
+    // Half of `==`, so that each half names what it compares.
+    fn has_same_values(&self, other: &Self) -> bool
+        ensures { result ≡ (same_job_fields self.now.fields other.now.fields &&
+            same_job_stages self.now.stages other.now.stages) }
+    {
+        self.fields == other.fields && self.stages == other.stages
+    }
 
     // The other half of `==`.
     fn has_same_tags(&self, other: &Self) -> bool
@@ -121,10 +121,10 @@ impl<F, G> Record<F, G> {
 }
 
 /// Records are equal where all their parts are.
-impl<F: PartialEq, G: PartialEq> PartialEq for Record<F, G> {
-    ghost eq = { same_record F.eq G.eq };
+impl PartialEq for JobRecord {
+    ghost eq = { same_job_record };
 
-    ghost laws = { record_equality F.eq G.eq F.PartialEq.laws G.PartialEq.laws };
+    ghost laws = { job_record_equality };
 
     fn eq(&self, other: &Self) -> bool {
         self.has_same_values(other) && self.has_same_tags(other)
@@ -132,51 +132,41 @@ impl<F: PartialEq, G: PartialEq> PartialEq for Record<F, G> {
 }
 
 /// Two records are identical exactly where they are equal.
-impl<F: ExactEq, G: ExactEq> ExactEq for Record<F, G> {
-    ghost exact_eq = { tells_records F.eq G.eq F.exact_eq G.exact_eq };
+impl ExactEq for JobRecord {
+    ghost exact_eq = { tells_job_records };
 }
 
 /// A change is an operation on the job. The fields and the stages are changed in place, once the pairs are.
-impl<F, G> Causal for Record<F, G>
-where
-    F: Inline + Causal<Change = JobFieldChanges> + Drop,
-    G: Inline + Causal<Change = JobStageChanges> + Drop,
-{
+impl Causal for JobRecord {
     type Change = Operation;
 
-    ghost well_formed = { IsRecord F.well_formed G.well_formed };
+    ghost well_formed = { IsJobRecord };
 
-    ghost bottom = { record {
-      fields = F.bottom;
-      holds = [];
-      sites = [];
-      stages = G.bottom;
-      touched = replicate 16 0;
-    } };
+    ghost bottom = { empty_record };
 
-    ghost applied = { applied_record F.applied G.applied };
+    ghost applied = { changed_record };
 
-    ghost joined = { joined_records F.joined G.joined };
+    ghost joined = { joined_record };
 
-    ghost is_history = { IsRecordHistory F.is_history G.is_history };
+    ghost is_history = { IsJobHistory };
 
-    ghost stands_for = { record_stands_for F.stands_for G.stands_for };
+    ghost stands_for = { job_record_stands_for };
 
     ghost is_inline = { ⊥ };
 
     fn bottom(alloc: Global) -> Self {
-        Record {
+        JobRecord {
             alloc,
-            fields: F::bottom(alloc),
+            fields: JobFields::bottom(alloc),
             holds: TagSet::new(alloc),
             sites: TagSet::new(alloc),
-            stages: G::bottom(alloc),
+            stages: JobStages::bottom(alloc),
             touched: Version::default(),
         }
     }
 
     fn copy(&self) -> Result<Self, NoMemory> {
-        Ok(Record {
+        Ok(JobRecord {
             alloc: self.alloc,
             fields: copy_inline(&self.fields),
             holds: self.holds.copy()?,
@@ -195,7 +185,7 @@ where
     }
 
     fn join(&self, mine: &Version, other: &Self, theirs: &Version) -> Result<Self, NoMemory> {
-        Ok(Record {
+        Ok(JobRecord {
             alloc: self.alloc,
             fields: join_inline(&self.fields, mine, &other.fields, theirs),
             holds: self.holds.join(mine, &other.holds, theirs)?,
@@ -205,35 +195,25 @@ where
         })
     }
 
-    ghost well_formed_bottom = { bottom_is_record F.well_formed G.well_formed F.bottom G.bottom
-        F.well_formed_bottom G.well_formed_bottom };
+    ghost well_formed_bottom = { empty_is_job_record };
 
-    ghost well_formed_applied = { applied_is_record F.well_formed G.well_formed F.applied G.applied
-        F.well_formed_applied G.well_formed_applied };
+    ghost well_formed_applied = { changed_is_job_record };
 
-    ghost well_formed_joined = { joined_are_records F.well_formed G.well_formed F.joined G.joined
-        F.well_formed_joined G.well_formed_joined };
+    ghost well_formed_joined = { joined_is_job_record };
 
-    ghost joined_assoc = { joined_records_assoc F.well_formed G.well_formed F.joined G.joined F.joined_assoc
-        G.joined_assoc };
+    ghost joined_assoc = { job_records_assoc };
 
-    ghost joined_comm = { joined_records_comm F.well_formed G.well_formed F.joined G.joined F.joined_comm
-        G.joined_comm };
+    ghost joined_comm = { job_records_comm };
 
-    ghost joined_itself = { joined_records_itself F.well_formed G.well_formed F.joined G.joined F.joined_itself
-        G.joined_itself };
+    ghost joined_itself = { job_records_itself };
 
-    ghost joined_bottoms = { bottom_records_join F.bottom G.bottom F.joined G.joined F.joined_bottoms
-        G.joined_bottoms };
+    ghost joined_bottoms = { empty_records_join };
 
-    ghost bottom_stands = { bottom_record_stands F.bottom G.bottom F.stands_for G.stands_for F.bottom_stands
-        G.bottom_stands };
+    ghost bottom_stands = { empty_record_stands };
 
-    ghost applied_stands = { record_adds_change F.well_formed G.well_formed F.is_history G.is_history
-        F.stands_for G.stands_for F.applied G.applied F.applied_stands G.applied_stands };
+    ghost applied_stands = { job_record_adds_change };
 
-    ghost joined_stands = { record_joins_histories F.well_formed G.well_formed F.is_history G.is_history
-        F.stands_for G.stands_for F.joined G.joined F.joined_stands G.joined_stands };
+    ghost joined_stands = { job_records_join_histories };
 
-    ghost stands_same = { record_stands_for_sets F.stands_for G.stands_for F.stands_same G.stands_same };
+    ghost stands_same = { job_record_stands_for_sets };
 }

@@ -1,7 +1,7 @@
 use Rattle.std.proofs.Common.{ap, sym, ◌∙◌}
 use Rattle.fed_lattice.proofs.TableWrites.{on_ok_then}
 use Rattle.fed_record.proofs.JobRecordReads.{applied_job_reads}
-use Rattle.fed_record.proofs.JobRecordSteps.{changed_record}
+use Rattle.fed_record.specs.JobRecordSteps.{changed_record}
 use Rattle.fed_board.specs.Board.{reads}
 use Rattle.fed_board.proofs.BoardReads.{changed_job_reads, changed_reservation_reads}
 use Rattle.fed_board.proofs.StandingBoards.{stands_added}

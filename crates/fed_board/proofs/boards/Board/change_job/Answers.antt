@@ -2,7 +2,7 @@ use Rattle.std.proofs.Common.{◌≡◌, true, sym, subst, ◌∙◌}
 use Rattle.fed_stamp.specs.Version.{covers}
 use Rattle.fed_record.specs.Operation.{body_of}
 use Rattle.fed_record.proofs.JobRecordReads.{applied_job_reads}
-use Rattle.fed_record.proofs.JobRecordSteps.{changed_record}
+use Rattle.fed_record.specs.JobRecordSteps.{changed_record}
 use Rattle.fed_board.specs.Board.{BoardValue, IsBoard, HasNamed}
 use Rattle.fed_board.proofs.BoardKeeps.{changed_job_keeps}
 use Rattle.fed_board.proofs.BoardReads.{changed_job_same}

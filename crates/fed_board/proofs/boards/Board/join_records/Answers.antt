@@ -3,7 +3,7 @@ use Rattle.std.specs.Map.{keys_of}
 use Rattle.std.specs.List.Sorted.{IsStrictlySortedBy}
 use Rattle.fed_lattice.specs.Latest.{stamp_cmp}
 use Rattle.fed_record.proofs.JobRecordReads.{joined_jobs_read}
-use Rattle.fed_record.proofs.JobRecordSteps.{joined_record}
+use Rattle.fed_record.specs.JobRecordSteps.{joined_record}
 use Rattle.fed_board.specs.Board.{BoardValue, IsBoard, reads}
 use Rattle.fed_board.proofs.CountLaws.{counting_joined}
 use Rattle.fed_board.proofs.RecordJoins.{with_records_keeps, with_records_reads, with_records_same}

@@ -1,7 +1,7 @@
 use Rattle.std.proofs.Common.{[], replicate, refl, ap₂, sym, subst, ◌∙◌}
 use Rattle.fed_lattice.proofs.VersionOfLaws.{joined_zeros}
 use Rattle.fed_record.proofs.JobRecordReads.{joined_jobs_read}
-use Rattle.fed_record.proofs.JobRecordSteps.{joined_record}
+use Rattle.fed_record.specs.JobRecordSteps.{joined_record}
 use Rattle.fed_board.specs.Board.{BoardValue, IsBoard, reads, no_operation}
 use Rattle.fed_board.specs.ViewSteps.{join_views}
 use Rattle.fed_board.proofs.BoardKeeps.{merged_keeps}

@@ -1,6 +1,6 @@
 use Rattle.std.proofs.Common.{◌∙◌}
 use Rattle.fed_record.specs.declared.holds.HoldKind.TheVariants.{User, Operator, System}
-use Rattle.fed_record.proofs.job_readers.Record+JobFields+JobStages.holds.Goals as goal
+use Rattle.fed_record.proofs.records.JobRecord.holds.Goals as goal
 
 -- each kind is in the set exactly where a hold of it is present
 pub returns-clause-kinds : goal.returns-clause-kinds

@@ -2,7 +2,7 @@ use Rattle.std.specs.Cmp.{nat_cmp_total}
 use Rattle.std.specs.Ordering.{nat_cmp}
 use Rattle.std.proofs.lemmas.Map.Lookups.{exact_unsigned}
 use Rattle.fed_record.proofs.PresentPairs.{present_is}
-use Rattle.fed_record.proofs.job_readers.Record+JobFields+JobStages.sites.Goals as goal
+use Rattle.fed_record.proofs.records.JobRecord.sites.Goals as goal
 
 -- a site is among the keys exactly where a pair of it is kept
 pub returns-clause-members : goal.returns-clause-members
