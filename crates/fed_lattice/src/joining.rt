@@ -29,15 +29,14 @@ pub fn join_entries<K: Exact, V: Causal + Drop, L: Exact, W: Causal + Drop>(
     ensures first_unchanged { OnErr result (first.new ≡ first.old) }
     ensures second_unchanged { OnErr result (second.new ≡ second.old) }
 {
-    let joined = first.joins(mine, other_first, theirs)?;
-    let other_joined = second.joins(mine, other_second, theirs)?;
-    let new_keys = first.missing_keys(other_first)?;
-    let other_keys = second.missing_keys(other_second)?;
-    first.add_keys(&new_keys)?;
-    if let Err(refused) = second.add_keys(&other_keys) {
-        first.remove_keys(&new_keys);
-        return Err(refused);
-    }
+    let (joined, new_keys) = first.make_ready(mine, other_first, theirs)?;
+    let (other_joined, other_keys) = match second.make_ready(mine, other_second, theirs) {
+        Ok(made) => made,
+        Err(refused) => {
+            first.remove_keys(&new_keys);
+            return Err(refused);
+        }
+    };
     first.replace(joined);
     second.replace(other_joined);
     Ok((new_keys, other_keys))
