@@ -1,5 +1,5 @@
 //! The values of the parts of a job.
-ghost use Rattle.std.specs.Prelude.{◌≡◌, length, IfOk, None, Some};
+ghost use Rattle.std.specs.Prelude.{◌≡◌, ◌∷◌, [], length, map, IfOk, None, Some};
 ghost use Rattle.serde_json.specs.Data.{string};
 ghost use Rattle.serde_json.specs.View.{view};
 ghost use Rattle.fed_json.specs.Numbers.{natural_value, integer_value};
@@ -7,7 +7,7 @@ ghost use Rattle.fed_json.specs.Values.{pair_value};
 ghost use Rattle.fed_job_json.specs.Stamps.{stamp_value, version_value};
 ghost use Rattle.fed_job_json.specs.Fields.{field_value, account_value};
 ghost use Rattle.fed_job_json.specs.Grants.{stage_value, grant_value};
-ghost use Rattle.fed_job_json.specs.Progress.{done_value, progress_value};
+ghost use Rattle.fed_job_json.specs.Progress.{begun_values, done_value, progress_value};
 ghost use Rattle.fed_job_json.specs.Pairs.{kind_word, kind_value, holds_value, sites_value};
 
 use fed_job_json::Format;
@@ -95,12 +95,26 @@ pub(crate) fn grant(alloc: Global, grant: Option<GrantStage>) -> Result<Value, A
     }
 }
 
+// The parts of a Begin, after a word.
+fn begun_parts(
+    alloc: Global,
+    word: &str,
+    begun: (Stamp, Beginning),
+) -> Result<Vec<Value>, AllocError>
+    ensures { IfOk result (λ v. map view v.items ≡ string word.now ∷ begun_values begun []) }
+{
+    let (at, begin) = begun;
+    let word = Value::try_from_str(alloc, word)?;
+    let stamp = write_stamp(alloc, at)?;
+    let moment = Value::from(begin.moment.get());
+    let nodes = Value::from(begin.nodes.get());
+    Ok(vec![in alloc; word, stamp, moment, nodes, Value::from(begin.end)]?)
+}
+
 fn begun(alloc: Global, begun: (Stamp, Beginning)) -> Result<Value, AllocError>
     ensures { IfOk result (λ v. view v ≡ done_value (begun, None)) }
 {
-    let (at, begin) = begun;
-    let stamp = write_stamp(alloc, at)?;
-    json!(in alloc; ["begun", stamp, begin.moment.get(), begin.nodes.get(), begin.end])
+    Ok(Value::Array(begun_parts(alloc, "begun", begun)?))
 }
 
 fn finished(
@@ -110,13 +124,12 @@ fn finished(
 ) -> Result<Value, AllocError>
     ensures { IfOk result (λ v. view v ≡ done_value (begun, Some finished)) }
 {
-    let (at, begin) = begun;
     let (last, end) = finished;
-    let first = write_stamp(alloc, at)?;
-    let second = write_stamp(alloc, last)?;
-    json!(in alloc; [
-        "finished", first, begin.moment.get(), begin.nodes.get(), begin.end, second, end.moment.get(), end.status
-    ])
+    let mut parts = begun_parts(alloc, "finished", begun)?;
+    parts.push(write_stamp(alloc, last)?)?;
+    parts.push(Value::from(end.moment.get()))?;
+    parts.push(Value::from(end.status))?;
+    Ok(Value::Array(parts))
 }
 
 pub(crate) fn progress(alloc: Global, progress: Progress) -> Result<Value, AllocError>
