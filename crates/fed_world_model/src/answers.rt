@@ -2,8 +2,9 @@
 use crate::operations::{Body, Element, Operation, Operations, Pair};
 use crate::refusals::{Case, is_standing, job_named, refusal};
 use crate::views::{JobView, job_view};
-use fed_record::{Changes, Command, HoldKinds, Limit, Moment, Nodes, Refusal, Reply, Who};
+use fed_record::{Changes, Command, HoldKinds, Limit, Moment, Nodes, Reply, Who};
 use fed_stamp::{JobId, SiteId, Stamp};
+use fed_world::Outcome;
 use std::alloc::Global;
 use std::test::Fail;
 
@@ -140,13 +141,13 @@ fn done(
     command: &Command,
     body: Option<Body>,
     removed: &[Pair],
-) -> Result<Reply, Fail> {
+) -> Result<Outcome, Fail> {
     let Some(body) = body else {
-        return Ok(reply_to_nothing(command));
+        return Ok(Outcome::Replied(reply_to_nothing(command)));
     };
     let stamp = next_stamp(operations, here).ok_or("no stamp is left")?;
     operations.add(Operation { stamp, body }, removed)?;
-    Ok(reply(command, stamp))
+    Ok(Outcome::Replied(reply(command, stamp)))
 }
 
 /// What the site answers, whose set gets the operation that is added.
@@ -156,7 +157,7 @@ pub fn answer(
     here: SiteId,
     who: &Who,
     command: &Command,
-) -> Result<Result<Reply, Refusal>, Fail> {
+) -> Result<Outcome, Fail> {
     let view = match job_named(command) {
         Some(job) => job_view(alloc, operations, job)?,
         None => None,
@@ -169,17 +170,17 @@ pub fn answer(
         is_standing: is_standing(operations, command),
     };
     if let Some(refusal) = refusal(&case) {
-        return Ok(Err(refusal));
+        return Ok(Outcome::Refused(refusal));
     }
     match &view {
         Some(view) => {
             let removed = removed_pairs(alloc, command, view)?;
             let body = job_body(command, view, &removed);
-            Ok(Ok(done(operations, here, command, body, &removed)?))
+            done(operations, here, command, body, &removed)
         }
         None => {
             let body = other_body(command, who);
-            Ok(Ok(done(operations, here, command, body, &[])?))
+            done(operations, here, command, body, &[])
         }
     }
 }

@@ -31,7 +31,8 @@ fn random_name(numbers: &mut Numbers, names: &[Stamp], count: u8) -> Option<Stam
         return invented(numbers, count);
     }
     let back = numbers.below(names.len().min(6));
-    names.iter().rev().nth(back).copied()
+    let place = names.len().saturating_sub(back.saturating_add(1));
+    names.get(place).copied()
 }
 
 /// A site at which a command on the job is given: mostly the job's own, or the one that it is granted to.

@@ -32,6 +32,10 @@ struct Scene {
     outcome: Outcome,
 }
 
+fn site(number: u8) -> SiteId {
+    SiteId::new(number).unwrap_or_default()
+}
+
 /// The site at which an event happens.
 fn site_of(event: &Event) -> SiteId {
     match event {
@@ -57,6 +61,10 @@ fn is_site_read(
     }
 }
 
+fn unlike(event: &Event, outcome: &Outcome, expected: &Outcome) -> Fail {
+    Fail::new(format_args!("{event:?}: {outcome:?} and not {expected:?}"))
+}
+
 /// The event happens to both worlds, which must answer the same and then read the same.
 fn run_event(
     alloc: Global,
@@ -67,8 +75,7 @@ fn run_event(
     let outcome = world.step(event)?;
     let expected = plain.step(event)?;
     if outcome != expected {
-        let text = format_args!("{event:?}: {outcome:?} and not {expected:?}");
-        return Err(Fail::new(text));
+        return Err(unlike(event, &outcome, &expected));
     }
     if !is_site_read(alloc, world, plain, site_of(event))? {
         return Err(Fail::new(format_args!("{event:?}: the board")));
@@ -76,21 +83,36 @@ fn run_event(
     Ok(outcome)
 }
 
+fn random_count(numbers: &mut Numbers) -> u8 {
+    numbers.pick(&[3, 4, 5]).unwrap_or(3)
+}
+
+/// A world of the first so many sites.
+fn new_world(alloc: Global, count: u8) -> Result<World, Fail> {
+    let sites = SITES.get(..count as usize).ok_or("sites")?;
+    match Roster::new(sites) {
+        Ok(roster) => Ok(World::new(alloc, &roster)?),
+        Err(_) => Err(Fail::from("a roster")),
+    }
+}
+
 impl Scene {
     /// Nothing has happened yet, at 3 to 5 sites.
     fn new(alloc: Global, seed: u64) -> Result<Scene, Fail> {
         let mut numbers = Numbers::new(seed);
-        let count = numbers.pick(&[3u8, 4, 5]).ok_or("a number of sites")?;
-        let sites = SITES.get(..count as usize).ok_or("sites")?;
-        let roster = Roster::new(sites).ok().ok_or("roster")?;
-        let site = SiteId::new(0).ok_or("site")?;
+        let count = random_count(&mut numbers);
+        let world = new_world(alloc, count)?;
+        let plain = PlainWorld::new(alloc, count)?;
         Ok(Scene {
             alloc,
             count,
             numbers,
-            world: World::new(alloc, &roster)?,
-            plain: PlainWorld::new(alloc, count)?,
-            event: Event::Take { site, packet: 0 },
+            world,
+            plain,
+            event: Event::Take {
+                site: site(0),
+                packet: 0,
+            },
             outcome: Outcome::NoPacket,
         })
     }
@@ -163,32 +185,26 @@ impl Scene {
 
     /// Each other site passes what it has to the first.
     fn gather(self) -> Result<Scene, Fail> {
-        let first = SiteId::new(0).ok_or("first")?;
         let mut scene = self;
         for number in 1..scene.count {
-            let site = SiteId::new(number).ok_or("sender")?;
-            scene = scene.pass(site, first)?;
+            scene = scene.pass(site(number), site(0))?;
         }
         Ok(scene)
     }
 
     /// The first site passes what it has to each other.
     fn spread(self) -> Result<Scene, Fail> {
-        let first = SiteId::new(0).ok_or("first")?;
         let mut scene = self;
         for number in 1..scene.count {
-            let site = SiteId::new(number).ok_or("addressee")?;
-            scene = scene.pass(first, site)?;
+            scene = scene.pass(site(0), site(number))?;
         }
         Ok(scene)
     }
 
     /// Whether all sites have the operations of the first, and so equal boards.
     fn are_all_same(&self) -> Result<bool, Fail> {
-        let first = SiteId::new(0).ok_or("first")?;
         for number in 1..self.count {
-            let site = SiteId::new(number).ok_or("site")?;
-            if !self.are_same(first, site)? {
+            if !self.are_same(site(0), site(number))? {
                 return Ok(false);
             }
         }
@@ -221,20 +237,30 @@ fn run_list(start: Scene, length: usize, tally: &mut Tally) -> Result<Scene, Fai
     Ok(scene)
 }
 
+fn random_length(numbers: &mut Numbers) -> usize {
+    let length = numbers.pick(&[30u8, 60, 80, 100]);
+    usize::from(length.unwrap_or(30))
+}
+
+/// Runs the list of the seed, after which each site gets what the others have. Whether all is kept, and all are the same.
+fn is_list_well(alloc: Global, seed: u64, tally: &mut Tally) -> Result<bool, Fail> {
+    let mut scene = Scene::new(alloc, seed)?;
+    let length = random_length(&mut scene.numbers);
+    scene = run_list(scene, length, tally)?;
+    if !scene.is_kept(length) {
+        return Ok(false);
+    }
+    scene = scene.gather()?.spread()?;
+    scene.are_all_same()
+}
+
 #[test]
 fn random_lists(rt: HostRuntime) -> Result<(), Fail> {
     let mut tally = Tally::NONE;
     for seed in 0..300 {
-        let mut scene = Scene::new(rt.alloc(), seed)?;
-        let length = scene.numbers.pick(&[30, 60, 80, 100]).ok_or("length")?;
-        scene = run_list(scene, length, &mut tally)?;
-        assert!(rt; scene.is_kept(length), "list {seed}");
-        scene = scene.gather()?.spread()?;
-        assert!(rt; scene.are_all_same()?, "list {seed}");
+        assert!(rt; is_list_well(rt.alloc(), seed, &mut tally)?, "list {seed}");
     }
-    assert_eq!(rt; tally.rare_outcome(20), None, "{tally:?}");
-    for count in tally.letters.iter().chain(&tally.pairs) {
-        assert!(rt; *count >= 20, "{tally:?}");
-    }
+    assert_eq!(rt; tally.rare_outcome(20), None);
+    assert!(rt; tally.is_ample(20));
     Ok(())
 }

@@ -5,7 +5,7 @@ use std::alloc::Global;
 use std::test::Fail;
 
 /// What an operation does.
-#[derive(Clone, Copy, PartialEq, Eq, Debug)]
+#[derive(Clone, Copy, PartialEq, Eq)]
 pub enum Body {
     Submit {
         owner: Word,
@@ -55,7 +55,7 @@ pub enum Body {
 }
 
 /// What somebody did at a site: its stamp is that of no other operation.
-#[derive(Clone, Copy, PartialEq, Eq, Debug)]
+#[derive(Clone, Copy, PartialEq, Eq)]
 pub struct Operation {
     pub stamp: Stamp,
     pub body: Body,
@@ -99,7 +99,7 @@ impl Operation {
 }
 
 /// A hold or a site of a job.
-#[derive(Clone, Copy, PartialEq, Debug)]
+#[derive(Clone, Copy, PartialEq)]
 pub enum Element {
     Hold(HoldKind),
     Site(SiteId),
@@ -119,14 +119,14 @@ pub fn element_of(number: u8) -> Option<Element> {
 }
 
 /// An element with the stamp of an operation that adds it.
-#[derive(Clone, Copy, PartialEq, Debug)]
+#[derive(Clone, Copy, PartialEq)]
 pub struct Pair {
     pub element: Element,
     pub tag: Stamp,
 }
 
 /// A set of operations.
-#[derive(Drop, Debug)]
+#[derive(Drop)]
 pub struct Operations {
     pub members: Vec<Operation>,
     /// The pairs that they remove.

@@ -10,21 +10,21 @@ use std::alloc::Global;
 use std::test::Fail;
 
 /// A version that was heard from a site.
-#[derive(Clone, Copy, Debug)]
+#[derive(Clone, Copy)]
 pub struct Heard {
     pub from: SiteId,
     pub version: Counters,
 }
 
 /// A site: what it holds, and every version that it heard.
-#[derive(Drop, Debug)]
+#[derive(Drop)]
 pub struct PlainSite {
     pub operations: Operations,
     pub heard: Vec<Heard>,
 }
 
 /// A packet. It gives all that its sender had.
-#[derive(Drop, Debug)]
+#[derive(Drop)]
 pub struct PlainPacket {
     pub sender: SiteId,
     /// The site that it was made for.
@@ -35,7 +35,7 @@ pub struct PlainPacket {
 }
 
 /// All sites and all packets that were made.
-#[derive(Drop, Debug)]
+#[derive(Drop)]
 pub struct PlainWorld {
     alloc: Global,
     pub sites: Vec<PlainSite>,
@@ -119,10 +119,7 @@ impl PlainWorld {
         let Some(site) = self.sites.get_mut(here.get() as usize) else {
             return Ok(Outcome::NoSite);
         };
-        match answer(self.alloc, &mut site.operations, here, who, command)? {
-            Ok(reply) => Ok(Outcome::Replied(reply)),
-            Err(refusal) => Ok(Outcome::Refused(refusal)),
-        }
+        answer(self.alloc, &mut site.operations, here, who, command)
     }
 
     fn ship(&mut self, sender: SiteId, to: SiteId) -> Result<Outcome, Fail> {

@@ -60,11 +60,14 @@ fn may_hold(who: &Who, owner: Option<Word>, kinds: HoldKinds) -> bool {
         && (for_system || !kinds.has(HoldKind::System))
 }
 
+/// The owner of the job.
+fn owner(case: &Case) -> Option<Word> {
+    let (_, owner) = case.job?.fields.owner?;
+    Some(owner)
+}
+
 fn is_permitted(case: &Case) -> bool {
-    let owner = case
-        .job
-        .and_then(|job| job.fields.owner)
-        .map(|owner| owner.1);
+    let owner = owner(case);
     match case.command {
         Command::Alter { .. } | Command::Delete { .. } => may_alter(&case.who, owner),
         Command::Hold { kinds, .. } | Command::Release { kinds, .. } => {
@@ -76,20 +79,32 @@ fn is_permitted(case: &Case) -> bool {
 }
 
 fn is_gone(case: &Case) -> bool {
-    case.job.is_some_and(|job| job.letter.is_none())
+    match case.job {
+        Some(job) => job.letter.is_none(),
+        None => false,
+    }
 }
 
 /// The site that the job is granted to.
 fn holder(case: &Case) -> Option<SiteId> {
-    case.job.and_then(|job| job.stages.holder())
+    match case.job {
+        Some(job) => job.stages.holder(),
+        None => None,
+    }
 }
 
 fn is_held(case: &Case) -> bool {
-    case.job.is_some_and(|job| job.is_held())
+    match case.job {
+        Some(job) => job.is_held(),
+        None => false,
+    }
 }
 
 fn is_begun(case: &Case) -> bool {
-    case.job.is_some_and(|job| job.stages.begun.is_some())
+    match case.job {
+        Some(job) => job.stages.begun.is_some(),
+        None => false,
+    }
 }
 
 fn is_granted(case: &Case) -> bool {
@@ -114,11 +129,17 @@ fn is_held_up(case: &Case) -> bool {
     }
 }
 
+/// Whether the job may run at the site.
+fn may_run_at(case: &Case, site: SiteId) -> bool {
+    match case.job {
+        Some(job) => job.has(Element::Site(site)),
+        None => false,
+    }
+}
+
 fn is_ineligible(case: &Case) -> bool {
     match case.command {
-        Command::Grant { asker, .. } => {
-            holder(case).is_none() && !case.job.is_some_and(|job| job.has(Element::Site(asker)))
-        }
+        Command::Grant { asker, .. } => { holder(case).is_none() && !may_run_at(case, asker) }
         _ => false,
     }
 }
@@ -126,7 +147,10 @@ fn is_ineligible(case: &Case) -> bool {
 /// The site other than the asker that the job is granted to.
 fn taken_by(case: &Case) -> Option<SiteId> {
     match case.command {
-        Command::Grant { asker, .. } => holder(case).filter(|site| *site != asker),
+        Command::Grant { asker, .. } => match holder(case) {
+            Some(site) if site != asker => Some(site),
+            _ => None,
+        },
         _ => None,
     }
 }
@@ -185,10 +209,15 @@ fn early_refusals(case: &Case) -> [Option<Refusal>; 7] {
     ]
 }
 
+fn taken_refusal(case: &Case) -> Option<Refusal> {
+    let site = taken_by(case)?;
+    Some(Refusal::TakenBy(site))
+}
+
 /// The reasons that come behind them.
 fn late_refusals(case: &Case) -> [Option<Refusal>; 6] {
     [
-        taken_by(case).map(Refusal::TakenBy),
+        taken_refusal(case),
         is_not_granted_here(case).then_some(Refusal::NotGranted),
         has_begun(case).then_some(Refusal::Begun),
         has_not_begun(case).then_some(Refusal::NotBegun),

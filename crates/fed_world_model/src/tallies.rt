@@ -15,7 +15,7 @@ const OUTCOMES: usize = 28;
 const OTHERS: [usize; 4] = [0, 14, 15, 16];
 
 /// How often each kind of outcome came up, each letter, and two sites that had the same operations or hadn't.
-#[derive(Clone, Copy, Debug)]
+#[derive(Clone, Copy)]
 pub struct Tally {
     pub outcomes: [u32; OUTCOMES],
     /// No letter, then E, R, H, T and Q.
@@ -95,11 +95,25 @@ impl Tally {
 
     /// The first kind of outcome that came up less often than this.
     pub fn rare_outcome(&self, often: u32) -> Option<usize> {
-        for (number, count) in self.outcomes.iter().enumerate() {
-            if *count < often && !OTHERS.contains(&number) {
+        for number in 0..OUTCOMES {
+            if self.outcomes[number] < often && !OTHERS.contains(&number) {
                 return Some(number);
             }
         }
         None
     }
+
+    /// Whether each letter, and both kinds of pairs, came up this often.
+    pub fn is_ample(&self, often: u32) -> bool {
+        are_ample(&self.letters, often) && are_ample(&self.pairs, often)
+    }
+}
+
+fn are_ample(counts: &[u32], often: u32) -> bool {
+    for count in counts {
+        if *count < often {
+            return false;
+        }
+    }
+    true
 }

@@ -9,7 +9,7 @@ use std::test::Fail;
 pub type Counters = [u64; SITES];
 
 /// The fields of a job: each is set by the operation with the stamp beside it.
-#[derive(Clone, Copy, PartialEq, Debug)]
+#[derive(Clone, Copy, PartialEq)]
 pub struct Fields {
     pub owner: Option<(Stamp, Word)>,
     pub name: Option<(Stamp, Word)>,
@@ -20,7 +20,7 @@ pub struct Fields {
 }
 
 /// A grant: handed back where it has no holder.
-#[derive(Clone, Copy, PartialEq, Debug)]
+#[derive(Clone, Copy, PartialEq)]
 pub struct Grant {
     pub term: u64,
     pub stamp: Stamp,
@@ -28,7 +28,7 @@ pub struct Grant {
 }
 
 /// A Begin.
-#[derive(Clone, Copy, PartialEq, Debug)]
+#[derive(Clone, Copy, PartialEq)]
 pub struct Begun {
     pub stamp: Stamp,
     pub moment: u64,
@@ -37,7 +37,7 @@ pub struct Begun {
 }
 
 /// A Finish.
-#[derive(Clone, Copy, PartialEq, Debug)]
+#[derive(Clone, Copy, PartialEq)]
 pub struct Finished {
     pub stamp: Stamp,
     pub moment: u64,
@@ -45,7 +45,7 @@ pub struct Finished {
 }
 
 /// How far a job has come.
-#[derive(Clone, Copy, PartialEq, Debug)]
+#[derive(Clone, Copy, PartialEq)]
 pub struct Stages {
     pub is_deleted: bool,
     pub grant: Option<Grant>,
@@ -64,7 +64,7 @@ impl Stages {
 }
 
 /// What is read of a job.
-#[derive(Drop, Debug)]
+#[derive(Drop)]
 pub struct JobView {
     pub fields: Fields,
     pub stages: Stages,
@@ -119,8 +119,9 @@ fn set<T: Copy>(field: &mut Option<(Stamp, T)>, stamp: Stamp, value: Option<T>) 
         Some((latest, _)) => *latest < stamp,
         None => true,
     };
-    if is_later && value.is_some() {
-        *field = value.map(|value| (stamp, value));
+    match value {
+        Some(value) if is_later => *field = Some((stamp, value)),
+        _ => {}
     }
 }
 
