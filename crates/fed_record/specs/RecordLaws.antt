@@ -1,6 +1,6 @@
 -- The laws of records of jobs.
-use Rattle.std.specs.Cmp.{nat_cmp_total, IsTotalOrder, IsPartialEquivalence, on_per, and_per, eq_by_cmp_equiv, partial_equiv_from_equiv, nat_eq_equiv}
-use Rattle.std.specs.Cmp.Lexicographic.{pointwise, lists_per}
+use Rattle.std.specs.Cmp.{nat_cmp_total, IsTotalOrder}
+use Rattle.std.specs.Cmp.Lexicographic.{pointwise}
 use Rattle.std.specs.Ordering.{nat_cmp, eq_by_cmp}
 use Rattle.std.proofs.Common.{◌≡◌, ℕ, List, [], ◌++◌, Ordering, Bool, true, nat_eq, replicate, refl, sym, ap, ap₂, subst, ◌∙◌}
 use Rattle.std.proofs.lemmas.Map.Lookups.{CmpEqualImpliesEq, exact_unsigned}
@@ -55,15 +55,6 @@ tells_records {F} {G} eq same t u x y =
           let r : RecordValue F G = record { fields = p.0.0; holds = p.1.0.0; sites = p.1.0.1; stages = p.0.1; touched = p.1.1 } in r) (w.0 e),
       λ e. w.1 (ap (λ (r : RecordValue F G). ((r.fields, r.stages), ((r.holds, r.sites), r.touched))) e),
     )
-
-pub record_equality : {F G : Type 0} (eq : F → F → Bool) (same : G → G → Bool) → IsPartialEquivalence eq → IsPartialEquivalence same
-    → IsPartialEquivalence (same_record eq same)
-record_equality {F} {G} eq same p q = and_per
-    (and_per (on_per (λ (r : RecordValue F G). r.fields) p) (on_per (λ (r : RecordValue F G). r.stages) q))
-    (and_per
-    (and_per (on_per (λ (r : RecordValue F G). r.holds) (lists_per (partial_equiv_from_equiv (eq_by_cmp_equiv hold_order))))
-    (on_per (λ (r : RecordValue F G). r.sites) (lists_per (partial_equiv_from_equiv (eq_by_cmp_equiv site_order)))))
-    (on_per (λ (r : RecordValue F G). r.touched) (lists_per (partial_equiv_from_equiv nat_eq_equiv))))
 
 -- ---- histories whose changes say their stamps
 module _ {C : Type 0} where

@@ -21,7 +21,7 @@ use fed_lattice::{Causal, Flag, Register, Stage};
 use fed_stamp::Word;
 
 /// The fields of a job, each a register.
-pub type JobFields = Fields<
+pub(crate) type JobFields = Fields<
     Register<Word>,
     Register<Word>,
     Register<Priority>,
@@ -31,7 +31,7 @@ pub type JobFields = Fields<
 >;
 
 /// The flag of deletion, the stage of grants, and the registers of Begin and Finish.
-pub type JobStages = Stages<Flag, Stage<GrantStage>, Register<Beginning>, Register<Ending>>;
+pub(crate) type JobStages = Stages<Flag, Stage<GrantStage>, Register<Beginning>, Register<Ending>>;
 
 /// A record with one operation more reads as its view with the operation added.
 pub fn applied_records_read()

@@ -69,7 +69,6 @@ pub use holds::{HoldKind, HoldKinds};
 pub use inlines::Inline;
 pub use job_parts::JobParts;
 pub use job_readers::Progress;
-pub use job_records::{JobFields, JobStages};
 pub use letters::Letter;
 pub use limits::{Limit, MAX_LIMIT};
 pub use moments::{MAX_END, MAX_MOMENT, Moment};

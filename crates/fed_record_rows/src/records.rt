@@ -6,7 +6,7 @@ ghost use Rattle.fed_record.specs.Letter.{is_submitted as is_job_submitted};
 use fed_lattice::{Causal, NoMemory};
 use fed_record::{
     Account, Beginning, Changes, Ending, GrantStage, HoldKind, HoldKinds, JobParts, JobRecord,
-    JobValues, Letter, Limit, Moment, Nodes, Operation, Priority, Progress, Record, Term,
+    JobValues, Letter, Limit, Moment, Nodes, Operation, Priority, Progress, Term,
 };
 use fed_stamp::{JobId, SiteId, SiteSet, Stamp, Version, Word};
 use std::alloc::Global;
@@ -69,7 +69,7 @@ fn submitted(rt: &(impl Abort + AllocGlobal), held: bool) -> JobRecord {
         values: values(rt),
         held,
     };
-    after(rt, Record::bottom(rt.alloc()), job(), submit)
+    after(rt, JobRecord::bottom(rt.alloc()), job(), submit)
 }
 
 /// A Set that removes these pairs of sites.
@@ -230,7 +230,7 @@ fn is_read_as_submitted(
 
 #[test]
 fn a_submitted_job_is_read(rt: HostRuntime) {
-    let empty: JobRecord = Record::bottom(rt.alloc());
+    let empty: JobRecord = JobRecord::bottom(rt.alloc());
     assert!(rt; !empty.is_submitted());
     let touched = Version::new([0, 0, 5, 0, 0, 0, 0, 0, 0, 0, 0, 0, 0, 0, 0, 0]).unwrap();
     let seen = submitted(&rt, true);
@@ -396,7 +396,7 @@ fn made_again(alloc: Global, seen: &JobRecord) -> Result<JobRecord, NoMemory>
         progress: seen.progress(),
         touched: seen.touched(),
     };
-    Record::from_parts(alloc, &parts)
+    JobRecord::from_parts(alloc, &parts)
 }
 
 #[test]
