@@ -53,7 +53,12 @@ pub fn line_text(line: &[u8]) -> Option<&str>
 fn is_readable(line: &[u8]) -> bool
     ensures { result ≡ is_readable line.now }
 {
-    line.iter().all(|byte| matches!(*byte, b' '..=b'~' | b'\t'))
+    let mut readable = true;
+    // To the end of the line, so that several bytes are tested at once.
+    for byte in line {
+        readable &= matches!(*byte, b' '..=b'~' | b'\t');
+    }
+    readable
 }
 
 /// How many words take no allocation: few lines have more.
