@@ -15,22 +15,22 @@ use std::alloc::{AllocError, Global};
 
 /// The format 2 value of the job.
 #[tactic(auto, using(crate::proofs::MemberLaws::members_are))]
-pub fn write_job(alloc: Global, id: JobId, record: &JobRecord) -> Result<Value, AllocError>
-    requires submitted { IsTrue (is_submitted (reads record.now)) }
-    requires sites { length (reads record.now).touched ≡ SITES }
-    ensures { IfOk result (λ v. view v ≡ job_value Format.Two (id, record.now)) }
+pub fn write_job(alloc: Global, id: JobId, job: &JobRecord) -> Result<Value, AllocError>
+    requires submitted { IsTrue (is_submitted (reads job.now)) }
+    requires sites { length (reads job.now).touched ≡ SITES }
+    ensures { IfOk result (λ v. view v ≡ job_value Format.Two (id, job.now)) }
 {
     let mut members = Map::new(alloc);
     put(&mut members, alloc, "id", write_stamp(alloc, id)?)?;
-    put_names(&mut members, alloc, record)?;
-    put_numbers(&mut members, alloc, record)?;
-    put_pairs(&mut members, alloc, record)?;
-    put_stages(&mut members, alloc, record)?;
+    put_names(&mut members, alloc, job)?;
+    put_numbers(&mut members, alloc, job)?;
+    put_pairs(&mut members, alloc, job)?;
+    put_stages(&mut members, alloc, job)?;
     put(
         &mut members,
         alloc,
         "touched",
-        write_version(alloc, &record.touched())?,
+        write_version(alloc, &job.touched())?,
     )?;
     Ok(Value::Object(members))
 }

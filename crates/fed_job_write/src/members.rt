@@ -14,14 +14,14 @@ use std::alloc::{AllocError, Global};
 pub(crate) fn put_names(
     members: &mut Map<String, Value>,
     alloc: Global,
-    record: &JobRecord,
+    job: &JobRecord,
 ) -> Result<(), AllocError>
-    requires { IsTrue (is_submitted (reads record.now)) }
-    ensures { OnOk result (members_view members.new.entries ≡ with_names record.now (members_view members.old.entries)) }
+    requires { IsTrue (is_submitted (reads job.now)) }
+    ensures { OnOk result (members_view members.new.entries ≡ with_names job.now (members_view members.old.entries)) }
 {
-    put(members, alloc, "account", account(alloc, record.account())?)?;
-    put(members, alloc, "name", name(alloc, record.name())?)?;
-    put(members, alloc, "owner", name(alloc, record.owner())?)?;
+    put(members, alloc, "account", account(alloc, job.account())?)?;
+    put(members, alloc, "name", name(alloc, job.name())?)?;
+    put(members, alloc, "owner", name(alloc, job.owner())?)?;
     Ok(())
 }
 
@@ -29,19 +29,14 @@ pub(crate) fn put_names(
 pub(crate) fn put_numbers(
     members: &mut Map<String, Value>,
     alloc: Global,
-    record: &JobRecord,
+    job: &JobRecord,
 ) -> Result<(), AllocError>
-    requires { IsTrue (is_submitted (reads record.now)) }
-    ensures { OnOk result (members_view members.new.entries ≡ with_numbers record.now (members_view members.old.entries)) }
+    requires { IsTrue (is_submitted (reads job.now)) }
+    ensures { OnOk result (members_view members.new.entries ≡ with_numbers job.now (members_view members.old.entries)) }
 {
-    put(members, alloc, "limit", limit(alloc, record.limit())?)?;
-    put(members, alloc, "nodes", nodes(alloc, record.nodes())?)?;
-    put(
-        members,
-        alloc,
-        "priority",
-        priority(alloc, record.priority())?,
-    )?;
+    put(members, alloc, "limit", limit(alloc, job.limit())?)?;
+    put(members, alloc, "nodes", nodes(alloc, job.nodes())?)?;
+    put(members, alloc, "priority", priority(alloc, job.priority())?)?;
     Ok(())
 }
 
@@ -49,12 +44,12 @@ pub(crate) fn put_numbers(
 pub(crate) fn put_pairs(
     members: &mut Map<String, Value>,
     alloc: Global,
-    record: &JobRecord,
+    job: &JobRecord,
 ) -> Result<(), AllocError>
-    ensures { OnOk result (members_view members.new.entries ≡ with_pairs record.now (members_view members.old.entries)) }
+    ensures { OnOk result (members_view members.new.entries ≡ with_pairs job.now (members_view members.old.entries)) }
 {
-    put(members, alloc, "holds", holds(alloc, record)?)?;
-    put(members, alloc, "sites", sites(alloc, record)?)?;
+    put(members, alloc, "holds", holds(alloc, job)?)?;
+    put(members, alloc, "sites", sites(alloc, job)?)?;
     Ok(())
 }
 
@@ -62,17 +57,12 @@ pub(crate) fn put_pairs(
 pub(crate) fn put_stages(
     members: &mut Map<String, Value>,
     alloc: Global,
-    record: &JobRecord,
+    job: &JobRecord,
 ) -> Result<(), AllocError>
-    ensures { OnOk result (members_view members.new.entries ≡ with_stages record.now (members_view members.old.entries)) }
+    ensures { OnOk result (members_view members.new.entries ≡ with_stages job.now (members_view members.old.entries)) }
 {
-    put(members, alloc, "deleted", Value::from(record.deleted()))?;
-    put(members, alloc, "grant", grant(alloc, record.grant())?)?;
-    put(
-        members,
-        alloc,
-        "progress",
-        progress(alloc, record.progress())?,
-    )?;
+    put(members, alloc, "deleted", Value::from(job.deleted()))?;
+    put(members, alloc, "grant", grant(alloc, job.grant())?)?;
+    put(members, alloc, "progress", progress(alloc, job.progress())?)?;
     Ok(())
 }

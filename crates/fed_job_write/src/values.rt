@@ -164,21 +164,21 @@ fn site(alloc: Global, site: SiteId, stamp: Stamp) -> Result<Value, AllocError>
     json!(in alloc; [site.get(), write_stamp(alloc, stamp)?])
 }
 
-pub(crate) fn holds(alloc: Global, record: &JobRecord) -> Result<Value, AllocError>
-    ensures { IfOk result (λ v. view v ≡ holds_value record.now.holds) }
+pub(crate) fn holds(alloc: Global, job: &JobRecord) -> Result<Value, AllocError>
+    ensures { IfOk result (λ v. view v ≡ holds_value job.now.holds) }
 {
     let mut values = Vec::new(alloc);
-    for (kind, stamp) in record.hold_tags() {
+    for (kind, stamp) in job.hold_tags() {
         values.push(hold(alloc, kind, stamp)?)?;
     }
     Ok(Value::Array(values))
 }
 
-pub(crate) fn sites(alloc: Global, record: &JobRecord) -> Result<Value, AllocError>
-    ensures { IfOk result (λ v. view v ≡ sites_value record.now.sites) }
+pub(crate) fn sites(alloc: Global, job: &JobRecord) -> Result<Value, AllocError>
+    ensures { IfOk result (λ v. view v ≡ sites_value job.now.sites) }
 {
     let mut values = Vec::new(alloc);
-    for (number, stamp) in record.site_tags() {
+    for (number, stamp) in job.site_tags() {
         values.push(site(alloc, number, stamp)?)?;
     }
     Ok(Value::Array(values))

@@ -7,4 +7,4 @@ use Rattle.fed_job_json.specs.Pairs.{kind_value}
 use Rattle.fed_job_write.proofs.values.holds.Given as goal
 
 abbrev pub invariant-loop-kind : goal.invariant-loop-kind
-invariant-loop-kind l = map view l.values.items ++ map (pair_value kind_value stamp_value) l.kind-iterator ≡ map (pair_value kind_value stamp_value) l.record.holds
+invariant-loop-kind l = map view l.values.items ++ map (pair_value kind_value stamp_value) l.kind-iterator ≡ map (pair_value kind_value stamp_value) l.job.holds

@@ -7,4 +7,4 @@ use Rattle.fed_job_json.specs.Pairs.{kind_value}
 use Rattle.fed_job_write.proofs.values.sites.Given as goal
 
 abbrev pub invariant-loop-number : goal.invariant-loop-number
-invariant-loop-number l = map view l.values.items ++ map (pair_value natural_value stamp_value) l.number-iterator ≡ map (pair_value natural_value stamp_value) l.record.sites
+invariant-loop-number l = map view l.values.items ++ map (pair_value natural_value stamp_value) l.number-iterator ≡ map (pair_value natural_value stamp_value) l.job.sites
