@@ -14,16 +14,17 @@ use std::alloc::Global;
 /// The fields of a job side by side: each part is a value that changes and joins by its own laws.
 #[derive(Drop, PartialEq, Eq, Debug)]
 pub struct Fields<Owner, Name, Priority, Nodes, Limit, Account> {
+    // the owner is looked at by each alteration, most of which set one of the next three: these lie side by side
     /// Who submitted it.
     pub owner: Owner,
-    /// Its name.
-    pub name: Name,
     /// How soon it is wanted.
     pub priority: Priority,
     /// How many nodes it runs on.
     pub nodes: Nodes,
     /// How long it may run.
     pub limit: Limit,
+    /// Its name.
+    pub name: Name,
     /// What it is charged to.
     pub account: Account,
 }

@@ -25,11 +25,12 @@ use std::marker::Model;
 #[derive(Drop)]
 pub struct JobRecord {
     pub(crate) alloc: Global,
+    // what each alteration looks at lies side by side
     pub(crate) fields: JobFields,
-    pub(crate) holds: TagSet<HoldKind>,
-    pub(crate) sites: TagSet<SiteId>,
     pub(crate) stages: JobStages,
     pub(crate) touched: Version,
+    pub(crate) holds: TagSet<HoldKind>,
+    pub(crate) sites: TagSet<SiteId>,
 }
 
 impl Model for JobRecord {
