@@ -40,7 +40,7 @@ fn read_settings(alloc: Global, roster: &Roster, items: &[Item<'_>]) -> Result<S
     let mut settings = Settings::none();
     for item in items {
         let setting = read_setting(alloc, roster, item.option, item.argument)?;
-        settings = settings.with(setting);
+        settings.set(setting);
     }
     Ok(settings)
 }
@@ -215,7 +215,7 @@ pub fn read_words(
     let (name, others) = words.split_first().ok_or(UsageFault::UnknownUtility)?;
     let utility = Utility::named(name).ok_or(UsageFault::UnknownUtility)?;
     let Spelling { items, operands } = read_spelling(alloc, utility, others)?;
-    match read_settings(alloc, roster, &items) {
+    match read_settings(alloc, roster, items.as_slice()) {
         Ok(settings) => answer(alloc, roster, here, utility, &settings, operands?),
         Err(fault) => Err(fault),
     }

@@ -68,33 +68,18 @@ impl Settings {
     }
 
     /// One option more, which takes the place of an earlier one of its letter.
-    pub(crate) fn with(self, setting: Setting) -> Settings
-        ensures { (given : List Setting) → self ≡ last_settings given →
-            result ≡ last_settings (given ++ setting ∷ []) }
+    pub(crate) fn set(&mut self, setting: Setting)
+        ensures { (given : List Setting) → self.old ≡ last_settings given →
+            self.new ≡ last_settings (given ++ setting ∷ []) }
     {
         match setting {
-            Setting::Account(account) => Settings {
-                account: Some(account),
-                ..self
-            },
-            Setting::Held => Settings { held: true, ..self },
-            Setting::Kinds(kinds) => Settings {
-                kinds: Some(kinds),
-                ..self
-            },
-            Setting::Resources(resources) => Settings {
-                resources: Some(resources),
-                ..self
-            },
-            Setting::Name(name) => Settings {
-                name: Some(name),
-                ..self
-            },
-            Setting::Priority(priority) => Settings {
-                priority: Some(priority),
-                ..self
-            },
-            Setting::Full => Settings { full: true, ..self },
+            Setting::Account(account) => self.account = Some(account),
+            Setting::Held => self.held = true,
+            Setting::Kinds(kinds) => self.kinds = Some(kinds),
+            Setting::Resources(resources) => self.resources = Some(resources),
+            Setting::Name(name) => self.name = Some(name),
+            Setting::Priority(priority) => self.priority = Some(priority),
+            Setting::Full => self.full = true,
         }
     }
 }

@@ -1,11 +1,12 @@
 //! What words spell: options and operands.
-ghost use Rattle.std.specs.Prelude.{◌≡◌, ◌++◌, true, false, IfOk, MatchOption, None, drop};
+ghost use Rattle.std.specs.Prelude.{◌≡◌, ◌++◌, [], true, false, IfOk, MatchOption, None, drop};
 ghost use Rattle.fed_words.specs.Item.{items_of, spelling_of, words_of};
 ghost use Rattle.fed_words.specs.Spelling.{group, is_options, spelling};
 
 use crate::faults::UsageFault;
 use crate::utilities::{Choice, Utility};
 use fed_lattice::NoMemory;
+use smallvec::SmallVec;
 use std::alloc::Global;
 
 /// An option as it stands in the words.
@@ -17,11 +18,31 @@ pub struct Item<'a> {
     pub argument: &'a str,
 }
 
+/// `-f`, which has no argument. It stands in the unused room of `Items`.
+impl<'a> Default for Item<'a> {
+    ghost use Rattle.fed_words.specs.declared.utilities.Choice.{Choice};
+
+    ghost is_default = { λ item. (item.option ≡ Choice.Full) × (item.argument.now ≡ []) };
+
+    fn default() -> Item<'a> {
+        Item {
+            option: Choice::Full,
+            argument: "",
+        }
+    }
+}
+
+/// How many options take no allocation: few words have more.
+pub const INLINE_ITEMS: usize = 2;
+
+/// Options in their order.
+pub type Items<'a> = SmallVec<Item<'a>, INLINE_ITEMS>;
+
 /// Options in their order, and the operands behind them, or the fault that they end at.
 #[derive(Drop)]
 pub struct Spelling<'a, 'w> {
     /// The options.
-    pub items: Vec<Item<'a>>,
+    pub items: Items<'a>,
     /// The operands.
     pub operands: Result<&'w [&'a str], UsageFault>,
 }
@@ -31,7 +52,7 @@ pub struct Spelling<'a, 'w> {
 fn read_group<'a>(
     utility: Utility,
     letters: &'a str,
-    items: &mut Vec<Item<'a>>,
+    items: &mut Items<'a>,
 ) -> Result<Result<Option<Choice>, UsageFault>, NoMemory>
     ensures { IfOk result (λ wanted. (wanted ≡ (group utility letters.now).rest)
         × (items_of items.new.items ≡ items_of items.old.items ++ (group utility letters.now).items)) }
@@ -79,7 +100,7 @@ pub(crate) fn read_spelling<'a, 'w>(
 ) -> Result<Spelling<'a, 'w>, NoMemory>
     ensures { IfOk result (λ s. spelling_of s ≡ spelling utility None (words_of words.now)) }
 {
-    let mut items = Vec::new(alloc);
+    let mut items = SmallVec::new(alloc);
     let mut wanted: Option<Choice> = None;
     for (index, word) in words.iter().enumerate() {
         if let Some(option) = wanted {

@@ -21,6 +21,6 @@ pub loop-item-preserved : goal.loop-item-preserved
 loop-item-preserved c =
     let here = item_at c.args.items.now c.loop-item.item-index (record { option = Choice.Account; argument = record { ref_ptr = (0, 0); now = [] } }) c.loop-item-test.true in (
       c.loop-item.invariant.0 ++ c.in_ok-setting.setting ∷ [],
-      c.with-settings.ensures c.loop-item.invariant.0 c.loop-item.invariant.1,
+      c.set.ensures c.loop-item.invariant.0 c.loop-item.invariant.1,
       c.loop-item.invariant.2 ∙ each-more (λ item. setting_in c.args.roster.now item.0 item.1) c.loop-item.invariant.0 (items_of c.args.items.now) c.loop-item.item-index _ here.0 here.1 c.in_ok-setting.setting c.in_ok-setting.ensures,
     )

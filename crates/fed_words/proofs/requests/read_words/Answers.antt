@@ -11,7 +11,7 @@ pub returns-in-Ok : goal.returns-in-Ok
 returns-in-Ok c =
     let whole : c.args.words.now ≡ c.in_ok-name.name.now ∷ c.in_ok-name.others.now = (rw c.in_ok-name.ensures.ok_part at c.split_first.ensures.cases).0 in
     let named : utility_named c.in_ok-name.name.now.now ≡ Some c.in_ok-utility.utility = sym c.named.ensures ∙ c.in_ok-utility.ensures.ok_part in
-    let settings : settings_in c.args.roster.now (items_of c.in_ok-items.field-0.items.items) ≡ Ok c.in-Ok.settings = rw c.deref.ensures.value at c.in-Ok.ensures in
+    let settings : settings_in c.args.roster.now (items_of c.in_ok-items.field-0.items.items) ≡ Ok c.in-Ok.settings = rw c.as_slice.ensures at c.in-Ok.ensures in
     let operands = ap (answer_map (λ words. words_of words.now)) c.in_ok-operands-in-Ok.was in
     let asks : request_in c.args.roster.now c.args.here (words_of c.args.words.now) ≡ answer_map (request_of c.args.roster.now c.in_ok-utility.utility c.in-Ok.settings) (jobs_in c.args.roster.now c.args.here c.in_ok-utility.utility (words_of c.in_ok-operands-in-Ok.field-0.now)) =
     rw whole (asked-answer c.args.roster.now c.args.here c.in_ok-name.name.now.now (words_of c.in_ok-name.others.now) c.in_ok-utility.utility named (spelling_of c.in_ok-items.field-0) c.in_ok-items.ensures c.in-Ok.settings (words_of c.in_ok-operands-in-Ok.field-0.now) settings operands) in
@@ -24,6 +24,6 @@ returns c =
     elim c.in-Err.ensures [
       | inl refused ↦ inl refused
       | inr wrong ↦
-          let settings : settings_in c.args.roster.now (items_of c.in_ok-items.field-0.items.items) ≡ Err c.in-Err.fault = rw c.deref.ensures.value at wrong in
+          let settings : settings_in c.args.roster.now (items_of c.in_ok-items.field-0.items.items) ≡ Err c.in-Err.fault = rw c.as_slice.ensures at wrong in
           inr (rw whole (asked-fault c.args.roster.now c.args.here c.in_ok-name.name.now.now (words_of c.in_ok-name.others.now) c.in_ok-utility.utility named (spelling_of c.in_ok-items.field-0) c.in_ok-items.ensures c.in-Err.fault settings))
     ]

@@ -17,7 +17,7 @@ pub loop-letter-preserved : goal.loop-letter-preserved
 loop-letter-preserved c =
     group-goes c.args.utility c.args.letters.now c.args.items.now.items (chars_rest c.loop-letter.rest) c.loop-letter.items.items c.loop-letter.invariant (chars_rest c.next.new.self) _ c.push.new.self.items
     (group-switch c.args.utility c.in-Some.letter (chars_rest c.loop-letter.rest) (chars_rest c.next.new.self) c.in-Some.ensures.steps.0 c.in-Some-choice.option (sym c.in-Some-choice.ensures) (sym c.if-not-takes_argument.ensures))
-    c.in_ok-push.ensures.items
+    c.in_ok-push.ensures.ok
 
 pub returns-then-is_empty : goal.returns-then-is_empty
 returns-then-is_empty c =
@@ -29,7 +29,7 @@ pub returns-in-Some : goal.returns-in-Some
 returns-in-Some c =
     let some : 0 < length c.as_str-argument.result.now = some_from (length c.as_str-argument.result.now) (sym c.if-is_empty.false ∙ c.is_empty.ensures) in
     group-ends c.args.utility c.args.letters.now c.args.items.now.items (chars_rest c.loop-letter.rest) c.loop-letter.items.items c.loop-letter.invariant (Ok None) (record { option = c.in-Some-choice.option; argument = c.as_str-argument.result }) c.push-in-Some.new.self.items
-    (rw c.as_str-argument.ensures (group-argument c.args.utility c.in-Some.letter (chars_rest c.loop-letter.rest) (chars_rest c.next.new.self) c.in-Some.ensures.steps.0 c.in-Some-choice.option (sym c.in-Some-choice.ensures) (sym c.if-not-takes_argument.ensures) (rw c.as_str-argument.ensures at some))) c.in_ok-push-2.ensures.items
+    (rw c.as_str-argument.ensures (group-argument c.args.utility c.in-Some.letter (chars_rest c.loop-letter.rest) (chars_rest c.next.new.self) c.in-Some.ensures.steps.0 c.in-Some-choice.option (sym c.in-Some-choice.ensures) (sym c.if-not-takes_argument.ensures) (rw c.as_str-argument.ensures at some))) c.in_ok-push-2.ensures.ok
 
 pub returns : goal.returns
 returns c =

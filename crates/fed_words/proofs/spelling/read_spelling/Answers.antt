@@ -8,7 +8,7 @@ use Rattle.fed_words.proofs.spelling.read_spelling.Goals as goal
 pub loop-index-preserved-in-Some : goal.loop-index-preserved-in-Some
 loop-index-preserved-in-Some c =
     let here = word_at c.args.words.now c.loop-index.index (record { ref_ptr = (0, 0); now = [] }) c.loop-index-test.true in
-    rw (c.in_ok-push.ensures.items, items_of-push c.loop-index.items.items _) (spelled-argument c.args.utility (words_of c.args.words.now) (items_of c.loop-index.items.items) c.loop-index.index (get_or c.args.words.now c.loop-index.index (record { ref_ptr = (0, 0); now = [] })).now here.0 here.1 c.in-Some.option (rw c.in-Some.is at c.loop-index.invariant))
+    rw (c.in_ok-push.ensures.ok, items_of-push c.loop-index.items.items _) (spelled-argument c.args.utility (words_of c.args.words.now) (items_of c.loop-index.items.items) c.loop-index.index (get_or c.args.words.now c.loop-index.index (record { ref_ptr = (0, 0); now = [] })).now here.0 here.1 c.in-Some.option (rw c.in-Some.is at c.loop-index.invariant))
 
 pub returns-then-eq : goal.returns-then-eq
 returns-then-eq c =

@@ -1,6 +1,6 @@
 use Rattle.std.proofs.Common.{refl}
 use Rattle.fed_words.proofs.Lasts.{last_settings-push}
-use Rattle.fed_words.proofs.settings.Settings.with.Goals as goal
+use Rattle.fed_words.proofs.settings.Settings.set.Goals as goal
 
 pub returns-in-Account : goal.returns-in-Account
 returns-in-Account c = λ given e. rw (c.in-Account.is, e, last_settings-push) refl
