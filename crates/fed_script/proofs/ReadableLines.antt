@@ -20,3 +20,6 @@ pub text_of_readable : {E : Type 0} (V : E → Type 0) (r : Result (Bor (List �
     → is_readable line ≡ true → option_map (λ text. text.now) (result_ok r) ≡ Some line
 text_of_readable V (Ok s) line cases e = ap Some cases.0
 text_of_readable V (Err fault) line cases e = absurd (cases.0 (IsUtf8-from_ascii line (readable_ascii line e)))
+
+pub readable_is_text : (line : List ℕ) → is_readable line ≡ true → IsUtf8 line
+readable_is_text line e = IsUtf8-from_ascii line (readable_ascii line e)

@@ -1,5 +1,6 @@
 //! Cutting a script into lines, and a line into words.
-ghost use Rattle.std.specs.Prelude.{◌≡◌, ◌<◌, [], ◌∷◌, IfOk, IfNone, IfSome, Some, None, length, map, option_map, position, ◌==◌, if◌then◌else◌};
+ghost use Rattle.std.specs.Prelude.{◌≡◌, ◌<◌, [], ◌∷◌, true, not, IfOk, IfNone, IfSome, Some, None, length, map, option_map, position, ◌==◌, if◌then◌else◌};
+ghost use Rattle.std.specs.Char.{is_ascii_whitespace};
 ghost use Rattle.std.specs.Str.Lines.{lines, strip_carriage_return};
 ghost use Rattle.fed_script.specs.Lines.{is_readable, words_of};
 
@@ -40,7 +41,7 @@ fn without_carriage_return(line: &[u8]) -> &[u8]
 }
 
 /// The text of a line that has printable ASCII characters, spaces and tabs alone.
-pub fn line_text(line: &[u8]) -> Option<&str>
+fn line_text(line: &[u8]) -> Option<&str>
     ensures { option_map (λ text. text.now) result ≡ (if is_readable line.now then Some line.now else None) }
 {
     if is_readable(line) {
@@ -61,17 +62,63 @@ fn is_readable(line: &[u8]) -> bool
     readable
 }
 
+/// Cuts off the first word of a text, and the space or tab behind it. `None` where the text has no word.
+fn split_word(text: &str) -> Option<(&str, &str)>
+    requires { is_readable text.now ≡ true }
+    ensures none { IfNone result (words_of text.now ≡ []) }
+    ensures some { IfSome result (λ cut. words_of text.now ≡ cut.0.now ∷ words_of cut.1.now) }
+    ensures readable { IfSome result (λ cut. is_readable cut.1.now ≡ true) }
+    ensures shorter { IfSome result (λ cut. length cut.1.now < length text.now) }
+{
+    let text = &text[word_start(text.as_bytes())?..];
+    match word_end(text.as_bytes()) {
+        Some(end) => Some((&text[..end], &text[end + 1..])),
+        None => Some((text, "")),
+    }
+}
+
+// The place of the first byte that is no white space.
+fn word_start(text: &[u8]) -> Option<usize>
+    ensures { result ≡ position (λ byte. not (is_ascii_whitespace byte)) text.now }
+{
+    text.iter().position(|byte| !byte.is_ascii_whitespace())
+}
+
+// The place of the first byte that is white space.
+fn word_end(text: &[u8]) -> Option<usize>
+    ensures { result ≡ position is_ascii_whitespace text.now }
+{
+    text.iter().position(|byte| byte.is_ascii_whitespace())
+}
+
 /// How many words take no allocation: few lines have more.
 pub const INLINE_WORDS: usize = 8;
 
 /// The words of a line.
 pub type Words<'a> = SmallVec<&'a str, INLINE_WORDS>;
 
-/// The words of a line, which are parted by spaces and tabs.
-pub fn words(alloc: Global, line: &str) -> Result<Words<'_>, AllocError>
-    ensures { IfOk result (λ words. map (λ word. word.now) words.items ≡ words_of line.now) }
+// The words of the text of a line that can be read.
+fn words(alloc: Global, text: &str) -> Result<Words<'_>, AllocError>
+    requires { is_readable text.now ≡ true }
+    ensures { IfOk result (λ words. map (λ word. word.now) words.items ≡ words_of text.now) }
 {
     let mut words = SmallVec::new(alloc);
-    words.extend(line.split_ascii_whitespace())?;
+    let mut rest = text;
+    while let Some((word, after)) = split_word(rest) {
+        words.push(word)?;
+        rest = after;
+    }
     Ok(words)
+}
+
+/// The words of a line, which are parted by spaces and tabs, or `None` where it has a byte that no line may have:
+/// another than a printable ASCII character, a space or a tab.
+pub fn line_words(alloc: Global, line: &[u8]) -> Result<Option<Words<'_>>, AllocError>
+    ensures { IfOk result (λ words. option_map (λ w. map (λ word. word.now) w.items) words ≡
+        (if is_readable line.now then Some (words_of line.now) else None)) }
+{
+    match line_text(line) {
+        Some(text) => Ok(Some(words(alloc, text)?)),
+        None => Ok(None),
+    }
 }

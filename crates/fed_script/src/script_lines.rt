@@ -10,7 +10,7 @@ ghost use Rattle.fed_words.specs.Request.{request_in};
 use crate::askers::{read_who, scheduler};
 use crate::commands::{read_cancel, read_reserve, read_scheduled};
 use crate::forms::{one_word, two_words};
-use crate::lines::{Words, line_text, words};
+use crate::lines::{Words, line_words};
 use crate::rosters::{HeldRoster, read_roster};
 use crate::values::{read_moment, read_packet};
 use crate::verbs::Verb;
@@ -255,13 +255,12 @@ fn read_first_words(alloc: Global, words: &[&str]) -> Result<Option<Line>, NoMem
 }
 
 /// The words of a line, without those of a comment, or `None` where it has a byte that no line may have.
-fn line_words(alloc: Global, line: &[u8]) -> Result<Option<Words<'_>>, NoMemory>
+fn told_words(alloc: Global, line: &[u8]) -> Result<Option<Words<'_>>, NoMemory>
     ensures { IfOk result (λ words. option_map (λ w. texts_of w.items) words ≡ words_in line.now) }
 {
-    let Some(text) = line_text(line) else {
+    let Some(words) = line_words(alloc, line)? else {
         return Ok(None);
     };
-    let words = words(alloc, text)?;
     if is_comment(words.as_slice()) {
         return Ok(Some(SmallVec::new(alloc)));
     }
@@ -283,7 +282,7 @@ fn is_comment(words: &[&str]) -> bool
 pub fn read_first_line(alloc: Global, line: &[u8]) -> Result<Option<Line>, NoMemory>
     ensures { IfOk result (λ said. option_map said_by said ≡ first_line_in line.now) }
 {
-    match line_words(alloc, line)? {
+    match told_words(alloc, line)? {
         Some(words) => read_first_words(alloc, words.as_slice()),
         None => Ok(None),
     }
@@ -298,7 +297,7 @@ pub fn read_later_line(
 ) -> Result<Option<Line>, NoMemory>
     ensures { IfOk result (λ said. option_map said_by said ≡ later_line_in roster.now made line.now) }
 {
-    match line_words(alloc, line)? {
+    match told_words(alloc, line)? {
         Some(words) => read_later_words(alloc, roster, made, words.as_slice()),
         None => Ok(None),
     }
