@@ -2,7 +2,7 @@
 ghost use Rattle.std.specs.Prelude.{◌≡◌, ◌+◌, ◌<◌, ◌≤◌, ◌^◌, true, Some, None, IsTrue, IsSome, IfOk, is_some, filter};
 ghost use Rattle.fed_record.specs.declared.askers.Who.{Who};
 ghost use Rattle.fed_record.specs.declared.terms.TheConstants.{MAX_TERM};
-ghost use Rattle.fed_record.specs.Body.{Body.Release, Body.Set};
+ghost use Rattle.fed_record.specs.Body.{Body.Finish, Body.Release, Body.Set};
 ghost use Rattle.fed_record.specs.Hold.{has_kind};
 ghost use Rattle.fed_record.specs.JobRecord.{reads as reads_job};
 ghost use Rattle.fed_record.specs.Letter.{is_submitted};
@@ -143,6 +143,16 @@ fn release(
     })
 }
 
+/// The operation of a Finish.
+fn finish(job: JobId, moment: Moment, status: u8) -> Operation
+    ensures { body_of result ≡ Finish job (record { moment = moment; status = status }) }
+{
+    Operation::Finish {
+        job,
+        ending: Ending { moment, status },
+    }
+}
+
 /// Whether a command that isn't refused adds an operation.
 pub(crate) fn adds(board: &Board, command: &Command) -> bool
     requires { MayBeDone (reads board.now) command.now }
@@ -197,13 +207,7 @@ pub(crate) fn operation(
             job,
             moment,
             status,
-        } => Operation::Finish {
-            job: *job,
-            ending: Ending {
-                moment: *moment,
-                status: *status,
-            },
-        },
+        } => finish(*job, *moment, *status),
         Command::Reserve { window } => Operation::Reserve { window: *window },
         Command::Cancel { reservation } => Operation::Cancel {
             reservation: *reservation,
