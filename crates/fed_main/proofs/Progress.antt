@@ -6,7 +6,7 @@ use Rattle.std.specs.Option.{option_map_or}
 use Rattle.std.specs.Str.Lines.{lines}
 use Rattle.std.proofs.lemmas.List.{length-append, take-append-le, take_all}
 use Rattle.fed_main.specs.Ends.{HasSaid}
-use Rattle.fed_main.specs.Said.{Said, answers, ends_before, said, said_first, said_from}
+use Rattle.fed_main.specs.Said.{Said, answers, ends_before, said_first, said_from}
 use Rattle.fed_main.specs.Script.{Answered, State, answered, says}
 use Rattle.fed_main.proofs.Written.{Appends-more, Appends-none}
 

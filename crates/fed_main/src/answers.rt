@@ -1,5 +1,6 @@
 //! The texts that answer events.
 ghost use Rattle.std.specs.Prelude.{◌≡◌, ◌++◌, codes, IfOk, string_bytes};
+ghost use Rattle.std.specs.Cow.{cow_str_bytes};
 ghost use Rattle.std.specs.Fmt.{decimal};
 ghost use Rattle.fed_words.specs.Fault.{fault_number};
 ghost use Rattle.fed_world.specs.declared.outcomes.Outcome.TheVariants.{Gap};
@@ -11,69 +12,64 @@ use fed_stamp::{Roster, SiteId};
 use fed_words::UsageFault;
 use fed_world::Outcome;
 use std::alloc::{AllocError, Global};
+use std::borrow::CowStr;
 
-/// A word, in a text that has room for the end of the line behind it.
-fn word_text(alloc: Global, word: &str) -> Result<String, AllocError>
-    ensures { IfOk result (λ text. string_bytes text ≡ word.now) }
+/// The text that answers a line of a script.
+pub(crate) type Answer = CowStr<'static>;
+
+/// A text, and the end of the line behind it.
+fn ended(text: String) -> Result<Answer, AllocError>
+    ensures { IfOk result (λ line. cow_str_bytes line ≡ answer_line (string_bytes text)) }
 {
-    let mut text = String::with_capacity(alloc, word.len() + 1)?;
-    text.push_str(word)?;
-    Ok(text)
+    let mut line = text;
+    line.push('\n')?;
+    Ok(CowStr::Owned(line))
 }
 
-/// What a site replies to a command that it doesn't refuse.
-fn reply_text(alloc: Global, roster: &Roster, reply: Reply) -> Result<String, AllocError>
-    ensures { IfOk result (λ text. string_bytes text ≡ text_of_reply roster.now reply) }
+/// The line of what a site replies to a command that it doesn't refuse.
+fn reply_line(alloc: Global, roster: &Roster, reply: Reply) -> Result<Answer, AllocError>
+    ensures { IfOk result (λ line. cow_str_bytes line ≡ answer_line (text_of_reply roster.now reply)) }
 {
     match reply {
-        Reply::Submitted(job) => identifier_text(alloc, roster, job),
-        Reply::Done => word_text(alloc, "done"),
-        Reply::Granted => word_text(alloc, "granted"),
-        Reply::Yours => word_text(alloc, "yours"),
-        Reply::Reserved(name) => identifier_text(alloc, roster, name),
+        Reply::Submitted(job) => ended(identifier_text(alloc, roster, job)?),
+        Reply::Done => Ok(CowStr::Borrowed("done\n")),
+        Reply::Granted => Ok(CowStr::Borrowed("granted\n")),
+        Reply::Yours => Ok(CowStr::Borrowed("yours\n")),
+        Reply::Reserved(name) => ended(identifier_text(alloc, roster, name)?),
     }
 }
 
-/// The name of the site that lacks something, behind the word that says so.
-fn gap_text(alloc: Global, roster: &Roster, site: SiteId) -> Result<String, AllocError>
-    ensures { IfOk result (λ text. string_bytes text ≡ text_of_outcome roster.now (Gap site)) }
+/// The line that names the site that lacks something, behind the word that says so.
+fn gap_line(alloc: Global, roster: &Roster, site: SiteId) -> Result<Answer, AllocError>
+    ensures { IfOk result (λ line. cow_str_bytes line ≡ answer_line (text_of_outcome roster.now (Gap site))) }
 {
     let name = site_text(alloc, roster, site)?;
-    format!(in alloc; "gap {name}")
+    ended(format!(in alloc; "gap {name}")?)
 }
 
-/// What is answered to an event.
-fn outcome_text(alloc: Global, roster: &Roster, outcome: Outcome) -> Result<String, AllocError>
-    ensures { IfOk result (λ text. string_bytes text ≡ text_of_outcome roster.now outcome) }
-{
-    match outcome {
-        Outcome::Replied(reply) => reply_text(alloc, roster, reply),
-        Outcome::Refused(refusal) => format!(in alloc; "refused {}", refusal.number()),
-        Outcome::Packet(number) => format!(in alloc; "packet {number}"),
-        Outcome::Taken(taken) => {
-            if taken.grew {
-                word_text(alloc, "taken")
-            } else {
-                word_text(alloc, "known")
-            }
-        }
-        Outcome::Gap(site) => gap_text(alloc, roster, site),
-        Outcome::NoPacket => String::from_str(alloc, "no packet"),
-        Outcome::NoSite => String::from_str(alloc, "no site"),
-    }
-}
-
-/// The line that answers an event.
+/// The line that answers an event. One that is the same for all events of its kind takes no memory.
 pub(crate) fn outcome_line(
     alloc: Global,
     roster: &Roster,
     outcome: Outcome,
-) -> Result<String, AllocError>
-    ensures { IfOk result (λ text. string_bytes text ≡ answer_line (text_of_outcome roster.now outcome)) }
+) -> Result<Answer, AllocError>
+    ensures { IfOk result (λ line. cow_str_bytes line ≡ answer_line (text_of_outcome roster.now outcome)) }
 {
-    let mut text = outcome_text(alloc, roster, outcome)?;
-    text.push('\n')?;
-    Ok(text)
+    match outcome {
+        Outcome::Replied(reply) => reply_line(alloc, roster, reply),
+        Outcome::Refused(refusal) => ended(format!(in alloc; "refused {}", refusal.number())?),
+        Outcome::Packet(number) => ended(format!(in alloc; "packet {number}")?),
+        Outcome::Taken(taken) => {
+            if taken.grew {
+                Ok(CowStr::Borrowed("taken\n"))
+            } else {
+                Ok(CowStr::Borrowed("known\n"))
+            }
+        }
+        Outcome::Gap(site) => gap_line(alloc, roster, site),
+        Outcome::NoPacket => Ok(CowStr::Borrowed("no packet\n")),
+        Outcome::NoSite => Ok(CowStr::Borrowed("no site\n")),
+    }
 }
 
 /// The line that answers words of a utility that ask nothing.

@@ -1,5 +1,6 @@
 //! The federation of a script.
 ghost use Rattle.std.specs.Prelude.{◌≡◌, ◌<◌, [], ◌++◌, codes, IfOk, MatchResult, length, option_map, Some, string_bytes};
+ghost use Rattle.std.specs.Cow.{cow_str_bytes};
 ghost use Rattle.std.specs.Fmt.{decimal};
 ghost use Rattle.fed_stamp.specs.Roster.{IsRoster};
 ghost use Rattle.fed_board.specs.Board.{reads as reads_board};
@@ -13,7 +14,7 @@ ghost use Rattle.fed_main.specs.Outcome.{answer_line, outcome_text};
 ghost use Rattle.fed_main.specs.Planned.{planned};
 ghost use Rattle.fed_main.specs.Script.{after_commands, after_event, answered, compared, later, lines_of, says, view_at};
 
-use crate::answers::{outcome_line, usage_line};
+use crate::answers::{Answer, outcome_line, usage_line};
 use crate::plans::site_plan_text;
 use fed_board::Board;
 use fed_lattice::NoMemory;
@@ -23,7 +24,8 @@ use fed_script::laws::lines_name_sites_of_the_roster;
 use fed_script::{HeldRoster, Line, read_later_line};
 use fed_stamp::{JobId, Roster, SiteId};
 use fed_world::{Event, Outcome, World};
-use std::alloc::{AllocError, Global};
+use std::alloc::Global;
+use std::borrow::CowStr;
 use std::marker::Model;
 
 /// The sites that a script names, and the world of its run so far. It is seen as the roster and the events of the run.
@@ -73,9 +75,9 @@ impl Federation {
     }
 
     /// The line that answers an event, where memory was not refused to it.
-    fn answer(&self, alloc: Global, outcome: Result<Outcome, NoMemory>) -> Result<String, NoMemory>
+    fn answer(&self, alloc: Global, outcome: Result<Outcome, NoMemory>) -> Result<Answer, NoMemory>
         ensures { IfOk result (λ text. MatchResult outcome
-            (λ o. string_bytes text ≡ answer_line (outcome_text self.now.roster o)) (λ _. ⊥)) }
+            (λ o. cow_str_bytes text ≡ answer_line (outcome_text self.now.roster o)) (λ _. ⊥)) }
     {
         match outcome {
             Ok(outcome) => Ok(outcome_line(alloc, self.roster(), outcome)?),
@@ -84,9 +86,9 @@ impl Federation {
     }
 
     /// One event more.
-    fn happen(&mut self, alloc: Global, event: &Event) -> Result<String, NoMemory>
+    fn happen(&mut self, alloc: Global, event: &Event) -> Result<Answer, NoMemory>
         ensures { IfOk result (λ text.
-            after_event (reads self.old) event.now ≡ says (reads self.new) (string_bytes text)) }
+            after_event (reads self.old) event.now ≡ says (reads self.new) (cow_str_bytes text)) }
     {
         let outcome = self.world.step(event);
         self.answer(alloc, outcome)
@@ -99,9 +101,9 @@ impl Federation {
         site: SiteId,
         who: &Who,
         command: &Command,
-    ) -> Result<String, NoMemory>
+    ) -> Result<Answer, NoMemory>
         ensures { IfOk result (λ text.
-            after_event (reads self.old) (Do site who.now command.now) ≡ says (reads self.new) (string_bytes text)) }
+            after_event (reads self.old) (Do site who.now command.now) ≡ says (reads self.new) (cow_str_bytes text)) }
     {
         let event = Event::Do {
             site,
@@ -137,13 +139,13 @@ impl Federation {
         site: SiteId,
         who: &Who,
         commands: &[Command],
-    ) -> Result<String, NoMemory>
+    ) -> Result<Answer, NoMemory>
         ensures { IfOk result (λ text.
-            after_commands (reads self.old) site who.now commands.now ≡ says (reads self.new) (string_bytes text)) }
+            after_commands (reads self.old) site who.now commands.now ≡ says (reads self.new) (cow_str_bytes text)) }
     {
         match commands {
             [command] => self.ask(alloc, site, who, command),
-            _ => self.ask_each(alloc, site, who, commands),
+            _ => Ok(CowStr::Owned(self.ask_each(alloc, site, who, commands)?)),
         }
     }
 
@@ -176,40 +178,42 @@ impl Federation {
     }
 
     /// Whether the boards of two sites are equal, which their versions tell.
-    fn compare(&self, alloc: Global, site: SiteId, other: SiteId) -> Result<String, AllocError>
+    fn compare(&self, site: SiteId, other: SiteId) -> &'static str
         requires site { site < length self.now.roster }
         requires other { other < length self.now.roster }
-        ensures { IfOk result (λ text. string_bytes text ≡ answer_line (compared (reads self.now) site other)) }
+        ensures { result.now ≡ answer_line (compared (reads self.now) site other) }
     {
         let here = self.board(site).version();
         let there = self.board(other).version();
         if here.le(&there) && there.le(&here) {
-            String::from_str(alloc, "equal\n")
+            "equal\n"
         } else {
-            String::from_str(alloc, "different\n")
+            "different\n"
         }
     }
 
     /// Does what a line says, and gives the text that answers it.
-    fn do_line(&mut self, alloc: Global, line: Line) -> Result<String, NoMemory>
+    fn do_line(&mut self, alloc: Global, line: Line) -> Result<Answer, NoMemory>
         requires { HasSites (length self.old.roster) (said_by line) }
         ensures { IfOk result (λ text.
-            later (reads self.old) (said_by line) ≡ says (reads self.new) (string_bytes text)) }
+            later (reads self.old) (said_by line) ≡ says (reads self.new) (cow_str_bytes text)) }
     {
         match line {
-            Line::Skip => Ok(String::new(alloc)),
-            Line::Begin { .. } => Ok(String::new(alloc)),
+            Line::Skip => Ok(CowStr::Borrowed("")),
+            Line::Begin { .. } => Ok(CowStr::Borrowed("")),
             Line::Act {
                 site,
                 who,
                 commands,
             } => self.act(alloc, site, &who, &commands),
-            Line::List { site, full, jobs } => self.list(alloc, site, full, &jobs),
-            Line::Misuse { fault, .. } => Ok(usage_line(alloc, fault)?),
+            Line::List { site, full, jobs } => {
+                Ok(CowStr::Owned(self.list(alloc, site, full, &jobs)?))
+            }
+            Line::Misuse { fault, .. } => Ok(CowStr::Owned(usage_line(alloc, fault)?)),
             Line::Ship { site, to } => self.happen(alloc, &Event::Ship { site, to }),
             Line::Take { site, packet } => self.happen(alloc, &Event::Take { site, packet }),
-            Line::Plan { site, moment } => self.plan(alloc, site, moment),
-            Line::Compare { site, other } => Ok(self.compare(alloc, site, other)?),
+            Line::Plan { site, moment } => Ok(CowStr::Owned(self.plan(alloc, site, moment)?)),
+            Line::Compare { site, other } => Ok(CowStr::Borrowed(self.compare(site, other))),
         }
     }
 
@@ -219,8 +223,8 @@ impl Federation {
         &mut self,
         alloc: Global,
         bytes: &[u8],
-    ) -> Result<Option<String>, NoMemory>
-        ensures { IfOk result (λ text. option_map (λ t. says (Some (reads self.new)) (string_bytes t)) text ≡
+    ) -> Result<Option<Answer>, NoMemory>
+        ensures { IfOk result (λ text. option_map (λ t. says (Some (reads self.new)) (cow_str_bytes t)) text ≡
             answered (Some (reads self.old)) bytes.now) }
     {
         lines_name_sites_of_the_roster();

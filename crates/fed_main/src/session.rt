@@ -1,12 +1,15 @@
 //! What the lines of a script do, one after another.
-ghost use Rattle.std.specs.Prelude.{◌≡◌, IfOk, None, option_map, string_bytes};
+ghost use Rattle.std.specs.Prelude.{◌≡◌, IfOk, None, option_map};
+ghost use Rattle.std.specs.Cow.{cow_str_bytes};
 ghost use Rattle.fed_main.specs.Federation.{state_of};
 ghost use Rattle.fed_main.specs.Script.{answered, says};
 
+use crate::answers::Answer;
 use crate::federation::Federation;
 use fed_lattice::NoMemory;
 use fed_script::{Line, read_first_line};
 use std::alloc::Global;
+use std::borrow::CowStr;
 
 /// A script's state: no federation before the line that names its sites.
 #[derive(Drop)]
@@ -24,17 +27,17 @@ impl Session {
     }
 
     /// Runs a line where no line has named the sites yet.
-    fn run_first(&mut self, alloc: Global, bytes: &[u8]) -> Result<Option<String>, NoMemory>
+    fn run_first(&mut self, alloc: Global, bytes: &[u8]) -> Result<Option<Answer>, NoMemory>
         requires { self.old.federation ≡ None }
-        ensures { IfOk result (λ text. option_map (λ t. says (state_of self.new.federation) (string_bytes t)) text ≡
+        ensures { IfOk result (λ text. option_map (λ t. says (state_of self.new.federation) (cow_str_bytes t)) text ≡
             answered None bytes.now) }
     {
         match read_first_line(alloc, bytes)? {
             Some(Line::Begin { roster }) => {
                 self.federation = Some(Federation::new(alloc, roster)?);
-                Ok(Some(String::new(alloc)))
+                Ok(Some(CowStr::Borrowed("")))
             }
-            Some(_) => Ok(Some(String::new(alloc))),
+            Some(_) => Ok(Some(CowStr::Borrowed(""))),
             None => Ok(None),
         }
     }
@@ -44,8 +47,8 @@ impl Session {
         &mut self,
         alloc: Global,
         bytes: &[u8],
-    ) -> Result<Option<String>, NoMemory>
-        ensures { IfOk result (λ text. option_map (λ t. says (state_of self.new.federation) (string_bytes t)) text ≡
+    ) -> Result<Option<Answer>, NoMemory>
+        ensures { IfOk result (λ text. option_map (λ t. says (state_of self.new.federation) (cow_str_bytes t)) text ≡
             answered (state_of self.old.federation) bytes.now) }
     {
         match &mut self.federation {
