@@ -190,9 +190,8 @@ impl Board {
             (self.new ≡ changed_job ⟦<JobRecord as Causal>⟧.applied self.old at operation.now job) }
         ensures unchanged { OnErr result (self.new ≡ self.old) }
     {
-        let version = self.version.with(at);
         change_at(&mut self.jobs, &mut self.job_counts, job, at, operation)?;
-        self.version = version;
+        self.version.raise(at);
         Ok(())
     }
 
@@ -208,7 +207,6 @@ impl Board {
         ensures changed { OnOk result (self.new ≡ changed_reservation self.old at operation.now name) }
         ensures unchanged { OnErr result (self.new ≡ self.old) }
     {
-        let version = self.version.with(at);
         change_at(
             &mut self.reservations,
             &mut self.reservation_counts,
@@ -216,7 +214,7 @@ impl Board {
             at,
             operation,
         )?;
-        self.version = version;
+        self.version.raise(at);
         Ok(())
     }
 

@@ -105,6 +105,10 @@ fn stamps_and_versions(rt: HostRuntime) {
     let none = Version::new([0; 16]).unwrap();
     let seen = none.with(five);
     assert!(rt; seen.covers(five) && !seen.covers(six) && !seen.covers(five_before));
+    let mut raised = none;
+    raised.raise(five);
+    raised.raise(five_before);
+    assert!(rt; raised.get(b) == 5 && raised.get(a) == 5 && !raised.covers(six));
     assert!(rt; seen.next(a) == Ok(six));
     assert!(rt; none.le(&seen) && !seen.le(&none));
     let both = none.with(six).join(&seen);

@@ -181,7 +181,7 @@ impl Causal for JobRecord {
         change_tags(self.alloc, &mut self.holds, &mut self.sites, at, change)?;
         apply_inline(&mut self.fields, at, &field_changes(change));
         apply_inline(&mut self.stages, at, &stage_changes(at, change));
-        self.touched = self.touched.with(at);
+        self.touched.raise(at);
         Ok(())
     }
 

@@ -10,10 +10,10 @@ invariant_of-self-2 c =
     let b : BoardValue = record { version = c.self.inside.version; jobs = c.self.inside.jobs; reservations = c.self.inside.reservations } in
     let at = c.args.at in
     let op = c.args.operation.now in
-    let seen = subst (λ v. covers v at ≡ true) c.with-version.ensures.raised c.with-version.ensures.seen in
+    let seen = subst (λ v. covers v at ≡ true) c.raise.ensures.raised c.raise.ensures.seen in
     let named = subst (λ x. HasNamed x (body_of op)) (sym c.self.view_is) c.requires.named in
-    let keeps = changed_reservation_keeps b at c.args.name op c.self.invariant.0 c.with-version.ensures.site seen c.requires.of named in
-    let version = sym c.with-version.ensures.raised in
+    let keeps = changed_reservation_keeps b at c.args.name op c.self.invariant.0 c.raise.ensures.site seen c.requires.of named in
+    let version = sym c.raise.ensures.raised in
     let reservations = sym c.in_ok-change_at.ensures.applied in (
       subst IsBoard (λ i. record { version = version i; jobs = b.jobs; reservations = reservations i }) keeps,
       c.self.invariant.1,

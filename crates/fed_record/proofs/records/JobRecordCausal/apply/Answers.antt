@@ -10,10 +10,10 @@ use Rattle.fed_record.proofs.records.JobRecordCausal.apply.Goals as goal
 pub invariant_of-self-2 : goal.invariant_of-self-2
 invariant_of-self-2 c =
     let own : IsCoveredStamp (raised c.self.inside.touched c.args.at) c.args.at =
-    (c.with-self-inside.ensures.site, subst (λ v. covers v c.args.at ≡ true) c.with-self-inside.ensures.raised c.with-self-inside.ensures.seen) in (
-      covered_same c.with-self-inside.ensures.raised c.in_ok-change_tags.ensures.holds
+    (c.raise.ensures.site, subst (λ v. covers v c.args.at ≡ true) c.raise.ensures.raised c.raise.ensures.seen) in (
+      covered_same c.raise.ensures.raised c.in_ok-change_tags.ensures.holds
           (covered_applied _ hold_order hold_exact _ _ _ (hold_change c.args.change.now) own c.self.invariant.0),
-      covered_same c.with-self-inside.ensures.raised c.in_ok-change_tags.ensures.sites
+      covered_same c.raise.ensures.raised c.in_ok-change_tags.ensures.sites
           (covered_applied _ site_order site_exact _ _ _ (site_change c.args.change.now) own c.self.invariant.1),
     )
 
@@ -26,5 +26,5 @@ returns-clause-applied c =
       holds = c.in_ok-change_tags.ensures.holds i;
       sites = c.in_ok-change_tags.ensures.sites i;
       stages = stages i;
-      touched = c.with-self-inside.ensures.raised i;
+      touched = c.raise.ensures.raised i;
     })
