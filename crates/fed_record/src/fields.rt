@@ -14,7 +14,12 @@ use std::alloc::Global;
 /// The fields of a job side by side: each part is a value that changes and joins by its own laws.
 #[derive(Drop, PartialEq, Eq, Debug)]
 pub struct Fields<Owner, Name, Priority, Nodes, Limit, Account> {
-    // the owner is looked at by each alteration, most of which set one of the next three: these lie side by side
+    /// Its name.
+    pub name: Name,
+    /// What it is charged to.
+    pub account: Account,
+    // the owner is looked at by each alteration, most of which set one of the next three: these lie side by side, and
+    // next to the stages, which are looked at too
     /// Who submitted it.
     pub owner: Owner,
     /// How soon it is wanted.
@@ -23,10 +28,6 @@ pub struct Fields<Owner, Name, Priority, Nodes, Limit, Account> {
     pub nodes: Nodes,
     /// How long it may run.
     pub limit: Limit,
-    /// Its name.
-    pub name: Name,
-    /// What it is charged to.
-    pub account: Account,
 }
 
 /// A change of the fields: of each that it has a change for.
