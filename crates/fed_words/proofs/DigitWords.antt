@@ -1,18 +1,18 @@
 -- What `parse` gives of a word of digits.
-use Rattle.std.proofs.Common.{◌≡◌, ℕ, ◌<◌, ◌-◌, ◌^◌, inl, inr, Bool, true, false, ◌&&◌, nat_lt, List, length, Some, None, Result, Ok, Err, refl, ap, sym, arith, rules, ℤ, pos, negsuc, FitsSigned}
-use Rattle.std.specs.Prelude.{if◌then◌else◌, option_and_then}
+use Rattle.std.proofs.Common.{◌≡◌, ◌≢◌, ℕ, ◌<◌, ◌-◌, ◌^◌, inl, inr, Bool, true, false, ◌&&◌, nat_lt, List, length, Some, None, Result, Ok, Err, refl, ap, sym, arith, rules, ℤ, pos, negsuc, FitsSigned}
+use Rattle.std.specs.Prelude.{if◌then◌else◌, option_and_then, slice_index}
 use Rattle.std.proofs.lemmas.Bool.{cases_lt}
 use Rattle.std.specs.Char.{is_ascii_digit}
 use Rattle.std.specs.List.{list_all}
 use Rattle.std.specs.Result.{result_ok, OkIff}
 use Rattle.std.specs.Str.Parse.{IsNumeral, ParsesUnsigned, digits_value, signed_digits_value, without_leading_sign}
-use Rattle.std.proofs.lemmas.Str.Parse.{IsNumeralModel, numerals_by_value, parse_digits}
+use Rattle.std.proofs.lemmas.Str.Parse.{IsNumeralModel, numerals_by_value, parse_plain}
 use Rattle.std.proofs.lemmas.Bool.Decides.{nat_tests}
 use Rattle.std.proofs.lemmas.Int.{ints}
 use borrow.Author.Tests.{ltb-true}
 use Rattle.std.specs.Int.{w16}
 use Rattle.fed_words.specs.Priority.{is_priority, priority_in}
-use Rattle.fed_words.specs.Number.{is_numeral, is_within, number_in}
+use Rattle.fed_words.specs.Number.{is_numeral, is_within, number_in, decimal_in}
 
 numerals : IsNumeralModel (λ word. list_all is_ascii_digit word ≡ true) (digits_value 10)
 numerals = numerals_by_value (λ word. list_all is_ascii_digit word ≡ true) (search rules)
@@ -24,24 +24,36 @@ both false b e = absurd cc
 within_64 : (value : ℕ) → value < 2 ^ 64 → is_within 0 (2 ^ 64 - 1) value ≡ true
 within_64 value h = grind (arith, nat_tests)
 
+small_64 : (value : ℕ) → is_within 0 (2 ^ 64 - 1) value ≡ true → value < 2 ^ 64
+small_64 value e = grind (arith, nat_tests)
+
 beyond_64 : (value : ℕ) → ¬ (value < 2 ^ 64) → is_within 0 (2 ^ 64 - 1) value ≡ false
 beyond_64 value h = grind (arith, nat_tests)
 
 beyond : (least most value : ℕ) → most < 2 ^ 64 → 2 ^ 64 - 1 < value → is_within least most value ≡ false
 beyond least most value small h = grind (arith, nat_tests)
 
--- the option of a result that is `Ok` of a value of 64 bits
-pub ok_within : {E : Type 0} (r : Result ℕ E) (numeral : Bool) (few value : ℕ) → OkIff r ((0 < few) × (value < 2 ^ 64)) value → 0 < few → numeral ≡ true
-    → result_ok r ≡ (if numeral && is_within 0 (2 ^ 64 - 1) value then Some value else None)
-ok_within (Ok x) numeral few value h some e = rw (e, within_64 value h.0.1) (ap Some h.1)
-ok_within (Err y) numeral few value h some e = rw (e, beyond_64 value (λ small. h (some, small))) refl
+unless_both : {T : Type 0} (a b : Bool) (x : T) → (a ≡ true → b ≡ true → ⊥) → (if a && b then Some x else None) ≡ None
+unless_both true true x h = absurd (h refl refl)
+unless_both true false x h = refl
+unless_both false b x h = refl
 
--- `parse` reads a word of digits
-pub number_in-digits : {E : Type 0} (word : List ℕ) (r : Result ℕ E) → ParsesUnsigned 64 10 word r → is_numeral word ≡ true → result_ok r ≡ number_in 0 (2 ^ 64 - 1) word
-number_in-digits word r h e =
-    let parts = both (nat_lt 0 (length word)) (list_all is_ascii_digit word) e in
-    let some : 0 < length word = ltb-true 0 (length word) parts.0 in
-    ok_within r (is_numeral word) (length word) (digits_value 10 word) (parse_digits numerals 64 word r h parts.1) some e
+some : (few : ℕ) → 0 < few → nat_lt 0 few ≡ true
+some few h = grind (arith, nat_tests)
+
+-- the option of a result that is `Ok` of a value of 64 bits where digits write it
+ok_within : {E : Type 0} (r : Result ℕ E) (few value : ℕ) (digits : Bool)
+    → OkIff r ((digits ≡ true) × (0 < few) × (value < 2 ^ 64)) value
+    → result_ok r ≡ (if (nat_lt 0 few && digits) && is_within 0 (2 ^ 64 - 1) value then Some value else None)
+ok_within (Ok x) few value digits h = rw (some few h.0.1, h.0.0, within_64 value h.0.2) (ap Some h.1)
+ok_within (Err y) few value digits h = sym (unless_both (nat_lt 0 few && digits) (is_within 0 (2 ^ 64 - 1) value) value
+    (λ numeral small. let parts = both (nat_lt 0 few) digits numeral in h (parts.1, ltb-true 0 few parts.0, small_64 value small)))
+
+-- `parse` reads a word that doesn't begin with a plus sign
+pub number_in-parsed : {E : Type 0} (word : List ℕ) (r : Result ℕ E) → ParsesUnsigned 64 10 word r → slice_index word 0 ≢ 43
+    → result_ok r ≡ decimal_in word
+number_in-parsed word r h plain =
+    ok_within r (length word) (digits_value 10 word) (list_all is_ascii_digit word) (parse_plain numerals 64 word r h plain)
 
 -- a test of a number of 64 bits
 picked : (numeral : Bool) (least most value : ℕ) → most < 2 ^ 64 → option_and_then (λ n. if is_within least most n then Some n else None) (if numeral && is_within 0 (2 ^ 64 - 1) value then Some value else None) ≡ (if numeral && is_within least most value then Some value else None)
@@ -68,11 +80,6 @@ parts_numeral word h = let some : 0 < length word = h.0 in let tested : nat_lt 0
 fits_priority : (z : ℤ) → is_priority z ≡ true → FitsSigned w16 z
 fits_priority (pos n) e = grind (arith, ints, nat_tests)
 fits_priority (negsuc n) e = grind (arith, ints, nat_tests)
-
-unless_both : {T : Type 0} (a b : Bool) (x : T) → (a ≡ true → b ≡ true → ⊥) → (if a && b then Some x else None) ≡ None
-unless_both true true x h = absurd (h refl refl)
-unless_both true false x h = refl
-unless_both false b x h = refl
 
 -- `parse` reads a word that is a priority
 pub priority_in-number : (word : List ℕ) (z : ℤ) → IsNumeral 10 (without_leading_sign word) → z ≡ signed_digits_value 10 word → (if is_priority z then Some z else None) ≡ priority_in word

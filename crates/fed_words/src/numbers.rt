@@ -1,10 +1,8 @@
 //! Words that are numbers.
 ghost use Rattle.std.specs.Prelude.{◌≡◌};
-ghost use Rattle.std.specs.Char.{is_ascii_digit};
-ghost use Rattle.std.specs.List.{list_all};
 ghost use Rattle.fed_stamp.specs.declared.rosters.TheConstants.{MAX_NODES};
 ghost use Rattle.fed_record.specs.declared.limits.TheConstants.{MAX_LIMIT};
-ghost use Rattle.fed_words.specs.Number.{decimal_in, is_numeral as has_form_of_numeral, number_in};
+ghost use Rattle.fed_words.specs.Number.{decimal_in, number_in};
 
 use fed_record::{Limit, Nodes};
 
@@ -13,7 +11,8 @@ use fed_record::{Limit, Nodes};
 pub fn read_number(word: &str) -> Option<u64>
     ensures { result ≡ decimal_in word.now }
 {
-    if !is_numeral(word) {
+    // `parse` would read the digits behind a plus sign
+    if word.starts_with('+') {
         return None;
     }
     word.parse().ok()
@@ -33,17 +32,4 @@ pub fn read_limit(word: &str) -> Option<Limit>
     ensures { result ≡ number_in 1 MAX_LIMIT word.now }
 {
     Limit::new(read_number(word)?)
-}
-
-/// Whether a word is one or more decimal digits.
-fn is_numeral(word: &str) -> bool
-    ensures { result ≡ has_form_of_numeral word.now }
-{
-    !word.is_empty() && are_digits(word.as_bytes())
-}
-
-fn are_digits(bytes: &[u8]) -> bool
-    ensures { result ≡ list_all is_ascii_digit bytes.now }
-{
-    bytes.iter().all(|byte| byte.is_ascii_digit())
 }
