@@ -1,5 +1,5 @@
 -- What words are read as can be asked.
-use Rattle.std.proofs.Common.{◌≡◌, ℕ, zero, suc, ◌+◌, ◌<◌, ℤ, Bool, true, false, ◌&&◌, ◌||◌, List, [], ◌∷◌, length, drop, map, Option, Some, None, Ok, Err, refl, ap, sym, ◌∙◌, arith, inl, inr}
+use Rattle.std.proofs.Common.{◌≡◌, ℕ, suc, ◌<◌, ℤ, Bool, true, false, ◌&&◌, ◌||◌, List, [], ◌∷◌, length, drop, map, Option, Some, None, Ok, Err, refl, ap, sym, ◌∙◌, arith, inl, inr}
 use Rattle.std.specs.Prelude.{◌==◌, codes, if◌then◌else◌, is_some, nat_le, nat_lt, option_map, position}
 use Rattle.std.specs.List.{All, after_first, before_first, find, list_all, range_with_len, slice_split}
 use Rattle.std.specs.Option.{ok_or}
@@ -41,6 +41,7 @@ use Rattle.fed_words.specs.Request.{Asked, jobs_in, named_jobs, once, request_in
 use Rattle.fed_words.specs.Askable.{CanBeAsked, HasJobs, IsJob, IsOption, IsResourceInRange, IsInRange, ResourceArgument, OptionArgument, account, full, held, item_of, kinds, name, nodes, priority, resource_of, resources, setting_of, sites, walltime}
 use Rattle.fed_words.proofs.Cuts.{map-itself}
 use Rattle.fed_words.proofs.Each.{each-length}
+use Rattle.fed_words.proofs.SiteNames.{find_passes}
 
 bind_ok : {A B : Type 0} (a : Answer A) (f : A → Answer B) (y : B) → (a >>= f) ≡ Ok y → (x : A) × (a ≡ Ok x) × (f x ≡ Ok y)
 bind_ok (Ok x) f y e = (x, refl, e)
@@ -91,13 +92,6 @@ priority_found z word e =
     let found = when_some (is_numeral (without_leading_sign word) && is_priority (signed_digits_value 10 word)) (signed_digits_value 10 word) z e in
     rw (← found.1) (both (is_numeral (without_leading_sign word)) (is_priority (signed_digits_value 10 word)) found.0).1
 
-find_below : (test : ℕ → Bool) (a n k : ℕ) → find test (range_with_len a n) ≡ Some k → k < a + n
-find_below test a zero k e = absurd cc
-find_below test a (suc n) k e = elim (cases_Bool (test a)) [
-  | inl here ↦ let same : Some a ≡ Some k = (rw here at e) in let eq : a ≡ k = cc in omega arith
-  | inr later ↦ let rest = find_below test (a + 1) n k (rw later at e) in omega arith
-]
-
 abbrev answer : ℕ → Answer ℕ
 answer n = Ok n
 
@@ -105,8 +99,8 @@ module _ (roster : List (List ℕ × ℕ)) where
   site_found : (malformed : UsageFault) (text : List ℕ) (site : ℕ) → site_in malformed roster text ≡ Ok site → site < length roster
   site_found malformed text site e =
       let formed = when_ok (is_site_name text) (ok_or (find (is_named roster text) (range_with_len 0 (length roster))) UnknownSite) malformed site e in
-      let found = find_below (is_named roster text) 0 (length roster) site (ok_or_ok (find (is_named roster text) (range_with_len 0 (length roster))) UnknownSite site formed.1) in
-      omega arith
+      let found = find_passes (is_named roster text) 0 (length roster) site (ok_or_ok (find (is_named roster text) (range_with_len 0 (length roster))) UnknownSite site formed.1) in
+      let below = found.1 in omega arith
 
   sites_found : (text : List ℕ) (set : List Bool) → sites_in roster text ≡ Ok set → (argument : ResourceArgument) × IsResourceInRange roster argument × (resource_of argument ≡ Resource.Sites set)
   sites_found text set e =

@@ -13,4 +13,5 @@ pub mod Lines
 pub mod Cuts
 pub mod Texts
 pub mod Readback
+pub mod SiteNames
 pub mod Found
