@@ -1,5 +1,6 @@
 pub mod LineCuts
 pub mod ReadableLines
+pub mod Slashes
 pub mod SiteWords
 pub mod SitesOfLines
 pub mod WordCuts

@@ -33,10 +33,12 @@ fn read_user(role: Role, name: &str) -> Option<Who>
 pub(crate) fn read_who(word: &str) -> Option<Who>
     ensures { result ≡ who_in word.now }
 {
-    match word.split_once('/') {
-        Some((name, role)) => read_user(read_role(role)?, name),
-        None => read_user(Role::User, word),
+    // most words are the name of a user alone, and no name has a slash
+    if let Some(who) = read_user(Role::User, word) {
+        return Some(who);
     }
+    let (name, role) = word.split_once('/')?;
+    read_user(read_role(role)?, name)
 }
 
 /// The site's own scheduler.
