@@ -16,4 +16,4 @@ pub mod Numbers
 pub mod Courses
 pub mod Boards
 pub mod Answered
-pub mod Fields
+pub mod Fits

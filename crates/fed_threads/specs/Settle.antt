@@ -12,7 +12,7 @@ use Rattle.fed_threads.specs.declared.journal.Asked.{Asked}
 use Rattle.fed_threads.specs.declared.journal.Claim.{Claim}
 use Rattle.fed_threads.specs.declared.journal.Entry.{Entry}
 use Rattle.fed_threads.specs.declared.seat.Seat.{Seat}
-use Rattle.fed_threads.specs.Claims.{HasOutcome, HoldsThere, OnceAtMost, OnceAtLeast, FailsFirst}
+use Rattle.fed_threads.specs.Claims.{HasOutcome, HoldsIfAny, HoldsThere, OnceAtMost, OnceAtLeast, FailsFirst}
 use Rattle.fed_threads.specs.Placing.{entry_at, is_ready, none_placed, placed_after, with_next, IsPlacing}
 use Rattle.fed_threads.specs.Replay.{empty_at, replay_from}
 use Rattle.fed_threads.specs.Settled.{starts, shown, AllAgree, NextAgrees, point_after}
@@ -133,6 +133,34 @@ KeepsEventsIf journals (Some s) = KeepsEvents journals s
 abbrev pub AllKeepEvents : List (List Entry) → List Seat → Type 0
 AllKeepEvents journals seats = (number : ℕ) → KeepsEventsIf journals (slice_get seats number)
 
+-- the claim at this place of a seat, if there is one, is of an entry with its outcome, and with the event that the seat
+-- keeps beside it
+abbrev pub FitsAt : List (List Entry) → Option Seat → ℕ → Type 0
+FitsAt journals None place = Unit {0}
+FitsAt journals (Some s) place =
+    HoldsIfAny journals (slice_get s.claims.items place) ×
+    HasEventIf journals (slice_get s.claims.items place) (slice_get s.asked.items place)
+
+-- the claim at this place of this seat fits, if there is one
+abbrev pub FitsThere : List (List Entry) → List Seat → ℕ → ℕ → Type 0
+FitsThere journals seats number place = FitsAt journals (slice_get seats number) place
+
+abbrev pub AllFit : List (List Entry) → List Seat → Type 0
+AllFit journals seats = (number place : ℕ) → FitsThere journals seats number place
+
 -- the claims of seats
 abbrev pub claims_in : List Seat → List (List Claim)
 claims_in seats = map (λ (s : Seat). s.claims.items) seats
+
+-- why a federation is not closed: the first of these that is so
+abbrev pub IsCloseFaultOf : List (List Entry) → List Seat → CloseFault → Type 0
+IsCloseFaultOf journals seats (Strange seat place) = FailsFirst (FitsThere journals seats) seat place
+IsCloseFaultOf journals seats (Twice site index) =
+    AllFit journals seats × IsCloseFault journals (claims_in seats) (Twice site index)
+IsCloseFaultOf journals seats (Unclaimed site index) =
+    AllFit journals seats × IsCloseFault journals (claims_in seats) (Unclaimed site index)
+IsCloseFaultOf journals seats (NoOrder next) =
+    AllFit journals seats × IsCloseFault journals (claims_in seats) (NoOrder next)
+IsCloseFaultOf journals seats (Differs k) =
+    AllFit journals seats × IsCloseFault journals (claims_in seats) (Differs k)
+IsCloseFaultOf journals seats NoMemory = Unit {0}

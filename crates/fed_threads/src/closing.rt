@@ -1,9 +1,11 @@
 //! Closed federations.
-ghost use Rattle.std.specs.Prelude.{◌≡◌, ◌<◌, ◌≤◌, ◌↔◌, IfOk, IsTrue, MatchOption, length, option_copied, option_map, slice_get, vec_len};
+ghost use Rattle.std.specs.Prelude.{◌≡◌, ◌<◌, ◌≤◌, ◌↔◌, ℕ, List, Some, IfOk, IfErr, IsTrue, MatchOption, length, option_copied, option_map, slice_get, vec_len};
 ghost use Rattle.fed_board.specs.Board.{reads};
 ghost use Rattle.fed_board.specs.View.{view};
+ghost use Rattle.fed_threads.specs.Claims.{FailsFirst};
 ghost use Rattle.fed_threads.specs.Placing.{claims_of, entries_of, entry_at};
-ghost use Rattle.fed_threads.specs.Settle.{AllKeepEvents, AreReplays, HasEvent, IsSettled, KeepsEvents, claims_in as claims_of_seats};
+ghost use Rattle.fed_threads.specs.Settle.{AllFit, AllKeepEvents, AreReplays, FitsAt, FitsThere, HasEvent, IsCloseFaultOf, IsSettled, claims_in as claims_of_seats};
+ghost use Rattle.fed_threads.specs.declared.journal.Entry.{Entry};
 ghost use Rattle.fed_world.specs.Run.{run as run_of};
 
 use crate::claims::holds;
@@ -70,6 +72,9 @@ impl<G: Gate> Federation<G> {
             AreReplays (entries_of run.journals.items) (run_of run.world.sites run.world.events)) }
         ensures sites { IfOk result
             (λ run. (run.world.sites ≡ length self.roster) × (vec_len run.journals ≡ length self.roster)) }
+        // the journals are those that the locks held, of which nothing else is known
+        ensures fault { IfErr result (λ e. (journals : List (List Entry)) × (length journals ≡ length self.roster) ×
+            IsCloseFaultOf journals seats.items e) }
     {
         settled_boards_are_replays();
         let alloc = self.alloc();
@@ -114,7 +119,8 @@ fn claims_in(alloc: Global, seats: Vec<Seat>) -> Result<Vec<Vec<Claim>>, NoMemor
 /// The least claim, by seat and place, whose entry isn't in its journal with the claim's outcome and the event that its
 /// seat keeps.
 fn first_strange(journals: &[Vec<Entry>], seats: &[Seat]) -> Option<(usize, usize)>
-    ensures { MatchOption result (AllKeepEvents (entries_of journals.now) seats.now) (λ _. Unit {0}) }
+    ensures { MatchOption result (AllFit (entries_of journals.now) seats.now)
+        (λ r. FailsFirst (FitsThere (entries_of journals.now) seats.now) r.0 r.1) }
 {
     for (number, seat) in seats.iter().enumerate() {
         if let Some(place) = strange_in(journals, seat) {
@@ -126,7 +132,10 @@ fn first_strange(journals: &[Vec<Entry>], seats: &[Seat]) -> Option<(usize, usiz
 
 /// The first claim of a seat that is strange.
 fn strange_in(journals: &[Vec<Entry>], seat: &Seat) -> Option<usize>
-    ensures { MatchOption result (KeepsEvents (entries_of journals.now) seat.now) (λ _. Unit {0}) }
+    ensures { MatchOption result
+        ((b : ℕ) → FitsAt (entries_of journals.now) (Some seat.now) b)
+        (λ k. (FitsAt (entries_of journals.now) (Some seat.now) k → ⊥) ×
+        ((b : ℕ) → b < k → FitsAt (entries_of journals.now) (Some seat.now) b)) }
 {
     let asked = seat.asked();
     for (place, claim) in seat.claims().iter().enumerate() {
@@ -142,7 +151,7 @@ fn strange_in(journals: &[Vec<Entry>], seat: &Seat) -> Option<usize>
 
 /// Whether the entry that a claim names is in its journal, with this event.
 fn has_event(journals: &[Vec<Entry>], claim: &Claim, asked: &Asked) -> bool
-    ensures { IsTrue result →
+    ensures { IsTrue result ↔
         HasEvent (entry_at (entries_of journals.now) claim.now.site claim.now.index) asked.now }
 {
     let Some(journal) = journals.get(claim.site.get() as usize) else {

@@ -1,8 +1,7 @@
-use Rattle.std.proofs.Common.{◌<◌, ℕ}
-use Rattle.std.specs.List.{slice_get}
+use Rattle.std.proofs.Common.{◌<◌, ℕ, Some}
 use Rattle.fed_threads.specs.Placing.{entries_of}
-use Rattle.fed_threads.specs.Settle.{HasEventIf}
+use Rattle.fed_threads.specs.Settle.{FitsAt}
 use Rattle.fed_threads.proofs.closing.strange_in.Given as goal
 
 abbrev pub invariant-loop-place : goal.invariant-loop-place
-invariant-loop-place l = (b : ℕ) → b < l.place → HasEventIf (entries_of l.journals) (slice_get l.seat.claims.items b) (slice_get l.seat.asked.items b)
+invariant-loop-place l = (b : ℕ) → b < l.place → FitsAt (entries_of l.journals) (Some l.seat) b
