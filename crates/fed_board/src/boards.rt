@@ -308,7 +308,7 @@ impl Board {
     }
 }
 
-// Whether two values are identical.
+// Whether two values are identical. It stands apart for what its clauses say, from which `==` of boards is proved.
 fn is_same<V: ExactEq>(a: &V, b: &V) -> bool
     ensures by_parts { result ≡ V.eq a.now b.now }
     ensures same { IsTrue result ↔ (a.now ≡ b.now) }

@@ -13,6 +13,7 @@ use fed_stamp::{SITES, Stamp};
 pub(crate) fn count_names<V: Causal + Drop>(table: &Table<Stamp, V>) -> [u64; SITES]
     ensures { AreCounts result (keys_of table.now) }
 {
+    // the call tells that the table is well formed, as its type keeps it
     let _names = table.len();
     let mut counts = [0; SITES];
     for (name, _value) in table.iter() {
@@ -30,6 +31,7 @@ pub(crate) fn count_more<V: Causal + Drop>(
     requires { AreCounting counts names.now (keys_of table.now) }
     ensures { AreCounts result (keys_of table.now) }
 {
+    // the call tells that the table is well formed, as its type keeps it
     let _names = table.len();
     let mut more = counts;
     for name in names {

@@ -8,6 +8,7 @@ use crate::boards::Board;
 pub fn boards_that_read_the_same_are_equal(a: &Board, b: &Board)
     ensures { reads a.now ≡ reads b.now → a.now ≡ b.now }
 {
+    // what `version` ensures is the invariant of a board
     let _versions = (a.version(), b.version());
     a.see_tables();
     b.see_tables();

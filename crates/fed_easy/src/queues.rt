@@ -109,6 +109,7 @@ fn queued(id: JobId, held: &JobRecord, site: SiteId, capacity: u64) -> Option<Qu
     }
     let (_, nodes) = held.nodes();
     let (_, limit) = held.limit();
+    // what `get` ensures tells that the limit is in its range
     let _seconds = limit.get();
     if nodes.get() > capacity {
         return None;

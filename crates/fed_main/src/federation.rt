@@ -52,6 +52,7 @@ impl Federation {
     pub(crate) fn new(alloc: Global, roster: HeldRoster) -> Result<Federation, NoMemory>
         ensures { IfOk result (λ f. f ≡ record { roster = roster; events = [] }) }
     {
+        // what `len` ensures tells what a roster is
         let _sites = roster.get().len();
         let world = World::new(alloc, roster.get())?;
         Ok(Federation { roster, world })

@@ -112,6 +112,7 @@ fn list_all(
 ) -> Result<String, AllocError>
     ensures { IfOk result (λ text. string_bytes text ≡ listing (lines_in layout roster.now) (reads board.now) []) }
 {
+    // what `version` ensures is the invariant of a board
     let _version = board.version();
     let mut text = String::new(alloc);
     for (id, held) in board.jobs() {
@@ -131,6 +132,7 @@ fn list_named(
     requires { asked.now ≢ [] }
     ensures { IfOk result (λ text. string_bytes text ≡ listing (lines_in layout roster.now) (reads board.now) asked.now) }
 {
+    // what these ensure tells what a board is, and in what order its jobs stand
     let _version = board.version();
     let _jobs = board.jobs();
     let mut text = String::new(alloc);

@@ -129,6 +129,7 @@ pub fn commands_are_ranged(who: &Who, command: &Command)
         Command::Begin { moment, .. } => moment_is_ranged(*moment),
         Command::Finish { moment, status, .. } => {
             moment_is_ranged(*moment);
+            // it is read, which tells that it is a `u8`
             let _status = *status;
         }
         Command::Reserve { window } => site_is_ranged(window.site),

@@ -79,6 +79,7 @@ impl<G: Gate> Federation<G> {
         settled_boards_are_replays();
         let alloc = self.alloc();
         let (roster, sites) = self.into_parts();
+        // what `len` ensures tells that there are at most 16 sites
         let _count = roster.len();
         let journals = journals_in(alloc, sites)?;
         if let Some((seat, place)) = first_strange(&journals, &seats) {

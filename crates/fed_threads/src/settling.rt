@@ -43,6 +43,7 @@ pub(crate) fn settle_in(
     ensures sites { IfOk result (λ w. w.sites ≡ length roster.now) }
     ensures err { IfErr result (λ e. IsCloseFault (entries_of journals.now) (claims_of seats.now) e) }
 {
+    // what `len` ensures tells that there are at most 16 sites
     let _count = roster.len();
     let claimants = check_claims(alloc, journals, seats)?;
     let order = place_all(alloc, journals, seats, &claimants)?;

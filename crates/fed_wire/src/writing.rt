@@ -51,6 +51,7 @@ fn reservations(alloc: Global, delta: &Delta) -> Result<Value, AllocError>
 fn jobs(alloc: Global, delta: &Delta) -> Result<Value, AllocError>
     ensures { IfOk result (λ v. view v ≡ list_value (map (job_value Two) delta.now.changes.jobs)) }
 {
+    // what `reached` ensures tells that the changed records are those of a board
     let _reached = delta.reached();
     let mut values = Vec::new(alloc);
     for (id, job) in delta.jobs() {

@@ -10,9 +10,9 @@ use fed_stamp::{Roster, SiteId, is_site_name};
 pub fn read_site(malformed: UsageFault, roster: &Roster, name: &str) -> Result<SiteId, UsageFault>
     ensures { result ≡ site_in malformed roster.now name.now }
 {
+    // what `len` ensures tells that each name of a roster is of the form
     let _sites = roster.len();
     match roster.find(name) {
-        // each name that a roster has is of the form
         Some(site) => Ok(site),
         None if is_site_name(name) => Err(UsageFault::UnknownSite),
         None => Err(malformed),
