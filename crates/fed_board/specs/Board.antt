@@ -2,6 +2,7 @@
 use Rattle.std.specs.Prelude.{◌≡◌, ◌<◌, ℕ, true, false, replicate, List, [], None, IsSome}
 use Rattle.std.specs.Map.{lookup}
 use Rattle.std.specs.BTreeMap.{is_at}
+use Rattle.fed_stamp.specs.declared.sites.TheConstants.{SITES}
 use Rattle.fed_stamp.specs.Stamp.{StampValue}
 use Rattle.fed_stamp.specs.Version.{covers, joined, raised, is_below}
 use Rattle.fed_lattice.specs.Latest.{stamp_cmp}
@@ -31,7 +32,7 @@ no_operation = record {
   holds = [];
   sites = [];
   stages = record { deleted = false; grant = None; begun = None; finished = None };
-  touched = replicate 16 0;
+  touched = replicate SITES 0;
 }
 
 -- a board stands for a set of operations where it reads as the set's view. A job that is not on the board reads as
@@ -46,7 +47,7 @@ reads b = record {
 -- of a board of the version: the job's name is of one of the 16 sites and is covered, the job is submitted, its
 -- operations are covered, and so is, by the version of its operations, every stamp and every tag that is read of it
 pub record IsKnownJob (version : List ℕ) (job : StampValue) (r : JobRecordValue) : Type 0 where
-  pub placed : job.site < 16
+  pub placed : job.site < SITES
   pub named : covers version job ≡ true
   pub submitted : is_submitted (reads_job r) ≡ true
   pub touched : is_below r.touched version ≡ true
@@ -55,7 +56,7 @@ pub record IsKnownJob (version : List ℕ) (job : StampValue) (r : JobRecordValu
 -- the reservation's name is of one of the 16 sites and is covered, the reservation is made, and its greatest stamp is
 -- covered
 pub record IsKnownReservation (version : List ℕ) (name : StampValue) (r : ReservationView) : Type 0 where
-  pub placed : name.site < 16
+  pub placed : name.site < SITES
   pub named : covers version name ≡ true
   pub made : IsSome r
   pub stamp : IsCoveredRegister version r

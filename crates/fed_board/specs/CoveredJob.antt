@@ -1,5 +1,6 @@
 -- Every stamp that is read of a job is covered by the version of its operations.
 use Rattle.std.specs.Prelude.{◌≡◌, ℕ, Bool, true, List, length, Option, IfSome}
+use Rattle.fed_stamp.specs.declared.sites.TheConstants.{SITES}
 use Rattle.fed_stamp.specs.Stamp.{StampValue}
 use Rattle.fed_stamp.specs.Version.{covers}
 use Rattle.fed_record.specs.Grant.{stamp_of}
@@ -19,7 +20,7 @@ AreCoveredPairs {E} v is_live = (element : E) (tag : StampValue) → is_live ele
 
 -- the version has a counter for each of the 16 sites, and it covers every stamp
 pub record IsCoveredJob (j : JobView) : Type 0 where
-  pub counters : length j.touched ≡ 16
+  pub counters : length j.touched ≡ SITES
   pub owner : IsCoveredRegister j.touched j.owner
   pub name : IsCoveredRegister j.touched j.name
   pub priority : IsCoveredRegister j.touched j.priority

@@ -2,6 +2,7 @@
 -- stamps that its version covers are gone through, and those that name something are kept.
 use Rattle.std.specs.Prelude.{ℕ, suc, List, filter, flat_map, map, is_some}
 use Rattle.std.specs.List.{range_with_len}
+use Rattle.fed_stamp.specs.declared.sites.TheConstants.{SITES}
 use Rattle.fed_stamp.specs.Stamp.{StampValue}
 use Rattle.fed_stamp.specs.Version.{covers, greatest}
 use Rattle.fed_record.specs.Letter.{is_submitted}
@@ -9,7 +10,7 @@ use Rattle.fed_board.specs.View.{View}
 
 -- the stamps of one counter, site by site
 abbrev pub stamps_of : ℕ → List StampValue
-stamps_of counter = map (λ site. record { counter = counter; site = site }) (range_with_len 0 16)
+stamps_of counter = map (λ site. record { counter = counter; site = site }) (range_with_len 0 SITES)
 
 -- the stamps that the version covers, in their order: counter by counter
 abbrev pub covered_stamps : List ℕ → List StampValue

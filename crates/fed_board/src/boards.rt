@@ -5,6 +5,7 @@ ghost use Rattle.std.specs.BTreeMap.{is_at};
 ghost use Rattle.std.specs.List.Sorted.{IsStrictlySortedBy};
 ghost use Rattle.std.specs.Map.{keys_of, values_of, lookup};
 ghost use Rattle.std.specs.Map.Iter.{ShowsInOrder, deref_pair};
+ghost use Rattle.fed_stamp.specs.declared.sites.TheConstants.{SITES};
 ghost use Rattle.fed_stamp.specs.Stamp.{StampValue};
 ghost use Rattle.fed_stamp.specs.Version.{covers};
 ghost use Rattle.fed_lattice.specs.Sets.{Has};
@@ -57,7 +58,7 @@ impl Model for Board {
 impl Board {
     /// The board of no operation.
     pub fn new(alloc: Global) -> Board
-        ensures value { result ≡ record { version = replicate 16 0; jobs = []; reservations = [] } }
+        ensures value { result ≡ record { version = replicate SITES 0; jobs = []; reservations = [] } }
         ensures stands { reads result ≡ view [] }
     {
         Board {

@@ -1,6 +1,7 @@
 //! Laws of what is read of sets of operations, over every set that is as the law asks. Each function does nothing: its
 //! contract is the law.
 ghost use Rattle.std.specs.Prelude.{◌≡◌, ◌<◌, ◌↔◌, true, false, [], ◌∷◌, ◌++◌, IfSome, IsSome, IsTrue};
+ghost use Rattle.fed_stamp.specs.declared.sites.TheConstants.{SITES};
 ghost use Rattle.fed_stamp.specs.Stamp.{StampValue};
 ghost use Rattle.fed_stamp.specs.Version.{covers, is_below};
 ghost use Rattle.fed_lattice.specs.Sets.{IsSameSet};
@@ -51,7 +52,7 @@ pub fn covered_reservations_are_known()
 /// A lawful set stays lawful by one operation more, of a stamp that no operation has and of one of the 16
 /// sites, that rests on it and may follow it.
 pub fn lawful_sets_grow()
-    ensures { (ops : History Body) (e : StampValue × Body) → IsLawful ops → IsFresh e.0 ops → e.0.site < 16 →
+    ensures { (ops : History Body) (e : StampValue × Body) → IsLawful ops → IsFresh e.0 ops → e.0.site < SITES →
         IsGrounded (ops ++ e ∷ []) e.0 e.1 → MayFollow ops e.0 e.1 → IsLawful (ops ++ e ∷ []) }
 {}
 

@@ -5,6 +5,7 @@ use Rattle.serde_json.specs.Data.{Data, string}
 use Rattle.serde_json.specs.Find.{as_null}
 use Rattle.fed_stamp.specs.declared.rosters.TheConstants.{MAX_NODES}
 use Rattle.fed_record.specs.declared.moments.TheConstants.{MAX_END, MAX_MOMENT}
+use Rattle.fed_record.specs.declared.progress.TheConstants.{MAX_STATUS}
 use Rattle.fed_record.specs.declared.progress.Beginning.{Beginning}
 use Rattle.fed_json.specs.declared.flaws.Flaw.TheVariants.{Shape}
 use Rattle.fed_json.specs.Reading.{Reading, ◌>>=◌, mapped, both, where_true}
@@ -52,17 +53,17 @@ three a b c x y z p q r = rw (p, q, r) refl
 
 finished_takes : (a b c : Data) (f : Finished) → finished_of a b c ≡ Ok f → (a ∷ b ∷ c ∷ [] ≡ stamp_value f.0 ∷ natural_value f.1.moment ∷ natural_value f.1.status ∷ []) × IsFinished f
 finished_takes a b c f e =
-    let m = mapped_ok (both (stamp_of a) (both (natural_in 0 MAX_MOMENT b) (natural_in 0 255 c))) (λ p. (p.0, record { moment = p.1.0; status = p.1.1 })) f e in
-    let r = both_ok (stamp_of a) (both (natural_in 0 MAX_MOMENT b) (natural_in 0 255 c)) m.0 m.1 in
-    let q = both_ok (natural_in 0 MAX_MOMENT b) (natural_in 0 255 c) m.0.1 r.1 in
+    let m = mapped_ok (both (stamp_of a) (both (natural_in 0 MAX_MOMENT b) (natural_in 0 MAX_STATUS c))) (λ p. (p.0, record { moment = p.1.0; status = p.1.1 })) f e in
+    let r = both_ok (stamp_of a) (both (natural_in 0 MAX_MOMENT b) (natural_in 0 MAX_STATUS c)) m.0 m.1 in
+    let q = both_ok (natural_in 0 MAX_MOMENT b) (natural_in 0 MAX_STATUS c) m.0.1 r.1 in
     let s = (stamp_form).takes a m.0.0 r.0 in
     let k = (natural_form 0 MAX_MOMENT).takes b m.0.1.0 q.0 in
-    let n = (natural_form 0 255).takes c m.0.1.1 q.1 in
+    let n = (natural_form 0 MAX_STATUS).takes c m.0.1.1 q.1 in
     subst (λ (f : Finished). (a ∷ b ∷ c ∷ [] ≡ stamp_value f.0 ∷ natural_value f.1.moment ∷ natural_value f.1.status ∷ []) × IsFinished f) m.2
     (three a b c _ _ _ s.0 k.0 n.0, (s.1, k.1, n.1))
 
 finished_again : (f : Finished) → IsFinished f → finished_of (stamp_value f.0) (natural_value f.1.moment) (natural_value f.1.status) ≡ Ok f
-finished_again f h = rw ((stamp_form).again f.0 h.0, (natural_form 0 MAX_MOMENT).again f.1.moment h.1, (natural_form 0 255).again f.1.status h.2) refl
+finished_again f h = rw ((stamp_form).again f.0 h.0, (natural_form 0 MAX_MOMENT).again f.1.moment h.1, (natural_form 0 MAX_STATUS).again f.1.status h.2) refl
 
 abbrev IsDone : Begun × Option Finished → Type 0
 IsDone p = IsBegun p.0 × IfSome p.1 IsFinished

@@ -1,5 +1,6 @@
 -- Sites, stamps and versions are read as what they are the values of.
-use Rattle.std.proofs.Common.{◌≡◌, refl}
+use Rattle.std.proofs.Common.{◌≡◌, ◌-◌, refl}
+use Rattle.fed_stamp.specs.declared.sites.TheConstants.{SITES}
 use Rattle.fed_stamp.specs.declared.stamps.TheConstants.{MAX_COUNTER}
 use Rattle.fed_json.specs.Numbers.{natural_value, natural_in, IsFrom}
 use Rattle.fed_json.specs.Values.{pair_of, pair_value}
@@ -9,7 +10,7 @@ use Rattle.fed_json.proofs.FormLaws.{pair_form, mapped_form, row_form}
 use Rattle.fed_job_json.specs.Stamps.{site_of, IsSite, stamp_value, stamp_of, IsStamp, version_value, version_of, IsVersion}
 
 pub site_form : IsForm site_of natural_value IsSite
-site_form = natural_form 0 15
+site_form = natural_form 0 (SITES - 1)
 
 pub stamp_form : IsForm stamp_of stamp_value IsStamp
 stamp_form = mapped_form (pair_of (natural_in 1 MAX_COUNTER) site_of) (pair_value natural_value natural_value) (λ p. IsFrom 1 MAX_COUNTER p.0 × IsSite p.1) (λ p. record { counter = p.0; site = p.1 }) stamp_value IsStamp

@@ -4,6 +4,7 @@ use Rattle.serde_json.specs.Data.{Data, null, string}
 use Rattle.fed_stamp.specs.Stamp.{StampValue}
 use Rattle.fed_stamp.specs.declared.rosters.TheConstants.{MAX_NODES}
 use Rattle.fed_record.specs.declared.moments.TheConstants.{MAX_END, MAX_MOMENT}
+use Rattle.fed_record.specs.declared.progress.TheConstants.{MAX_STATUS}
 use Rattle.fed_record.specs.declared.progress.Beginning.{Beginning}
 use Rattle.fed_record.specs.declared.progress.Ending.{Ending}
 use Rattle.fed_json.specs.declared.flaws.Flaw.TheVariants.{Shape}
@@ -36,7 +37,7 @@ begun_of stamp moment nodes end = mapped (λ p. (p.0, record { moment = p.1.0; n
 
 abbrev pub finished_of : Data → Data → Data → Reading Finished
 finished_of stamp moment status = mapped (λ p. (p.0, record { moment = p.1.0; status = p.1.1 }))
-    (both (stamp_of stamp) (both (natural_in 0 MAX_MOMENT moment) (natural_in 0 255 status)))
+    (both (stamp_of stamp) (both (natural_in 0 MAX_MOMENT moment) (natural_in 0 MAX_STATUS status)))
 
 abbrev pub done_from : List Data → Reading (Begun × Option Finished)
 done_from (word ∷ a ∷ b ∷ c ∷ d ∷ []) = if is_word (codes "begun") word then mapped (λ p. (p, None)) (begun_of a b c d) else Err Shape
@@ -51,7 +52,7 @@ abbrev pub IsBegun : Begun → Type 0
 IsBegun b = IsStamp b.0 × IsFrom 0 MAX_MOMENT b.1.moment × IsFrom 1 MAX_NODES b.1.nodes × IsFrom 0 MAX_END b.1.end × (b.1.moment < b.1.end)
 
 abbrev pub IsFinished : Finished → Type 0
-IsFinished f = IsStamp f.0 × IsFrom 0 MAX_MOMENT f.1.moment × IsFrom 0 255 f.1.status
+IsFinished f = IsStamp f.0 × IsFrom 0 MAX_MOMENT f.1.moment × IsFrom 0 MAX_STATUS f.1.status
 
 -- how far a job has come: its Begin and its Finish, which comes after a Begin alone
 abbrev pub Steps : Type 0

@@ -1,6 +1,7 @@
 -- Sites, stamps and versions as JSON values.
-use Rattle.std.specs.Prelude.{◌≡◌, ℕ, List, [], ◌∷◌, length, map}
+use Rattle.std.specs.Prelude.{◌≡◌, ◌-◌, ℕ, List, [], ◌∷◌, length, map}
 use Rattle.std.specs.List.{AllByRecursion}
+use Rattle.fed_stamp.specs.declared.sites.TheConstants.{SITES}
 use Rattle.serde_json.specs.Data.{Data}
 use Rattle.fed_stamp.specs.Stamp.{StampValue}
 use Rattle.fed_stamp.specs.declared.stamps.TheConstants.{MAX_COUNTER}
@@ -9,10 +10,10 @@ use Rattle.fed_json.specs.Numbers.{natural_value, natural_in, IsFrom}
 use Rattle.fed_json.specs.Values.{list_value, pair_of, row_of}
 
 abbrev pub IsSite : ℕ → Type 0
-IsSite n = IsFrom 0 15 n
+IsSite n = IsFrom 0 (SITES - 1) n
 
 abbrev pub site_of : Data → Reading ℕ
-site_of d = natural_in 0 15 d
+site_of d = natural_in 0 (SITES - 1) d
 
 abbrev pub stamp_value : StampValue → Data
 stamp_value s = list_value (natural_value s.counter ∷ natural_value s.site ∷ [])
@@ -27,7 +28,7 @@ abbrev pub version_value : List ℕ → Data
 version_value v = list_value (map natural_value v)
 
 abbrev pub version_of : Data → Reading (List ℕ)
-version_of d = row_of 16 (natural_in 0 MAX_COUNTER) d
+version_of d = row_of SITES (natural_in 0 MAX_COUNTER) d
 
 abbrev pub IsVersion : List ℕ → Type 0
-IsVersion v = (length v ≡ 16) × AllByRecursion (IsFrom 0 MAX_COUNTER) v
+IsVersion v = (length v ≡ SITES) × AllByRecursion (IsFrom 0 MAX_COUNTER) v

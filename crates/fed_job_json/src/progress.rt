@@ -7,7 +7,7 @@ ghost use Rattle.fed_job_json.specs.Progress.{begun_of, finished_of, done_from, 
 
 use crate::stamps::read_stamp;
 use fed_json::{Flaw, both, elements, is_word, natural};
-use fed_record::{Beginning, Ending, MAX_END, MAX_MOMENT, Moment, Nodes, Progress};
+use fed_record::{Beginning, Ending, MAX_END, MAX_MOMENT, MAX_STATUS, Moment, Nodes, Progress};
 use fed_stamp::{MAX_NODES, Stamp};
 use serde_json::Value;
 
@@ -24,9 +24,9 @@ fn nodes(value: &Value) -> Result<Nodes, Flaw>
 }
 
 fn status(value: &Value) -> Result<u8, Flaw>
-    ensures { result ≡ natural_in 0 255 (view value.now) }
+    ensures { result ≡ natural_in 0 MAX_STATUS (view value.now) }
 {
-    let number = natural(value, 0, 255)?;
+    let number = natural(value, 0, u64::from(MAX_STATUS))?;
     Ok(number as u8)
 }
 

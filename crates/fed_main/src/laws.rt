@@ -1,5 +1,6 @@
 //! Laws of what scripts do. Each function does nothing: its contract is the law.
 ghost use Rattle.std.specs.Prelude.{◌≡◌, ◌↔◌, ◌≤◌, ℕ, List, None, Some, IsTrue};
+ghost use Rattle.fed_stamp.specs.declared.sites.TheConstants.{SITES};
 ghost use Rattle.fed_stamp.specs.Roster.{is_node_count};
 ghost use Rattle.fed_board.specs.View.{view};
 ghost use Rattle.fed_easy.specs.Machine.{first_fault, running_in};
@@ -24,6 +25,6 @@ pub fn boards_of_one_version_read_the_same()
 /// In a run of events whose values are in range nothing is wrong with the machine of a site, as long as its nodes are a
 /// site's: of each of the 16 sites there are 10,000 jobs at most, and what runs came of a Begin in range.
 pub fn machines_of_runs_are_never_refused()
-    ensures { (n : ℕ) (events : List Event) (site nodes : ℕ) → n ≤ 16 → AreRanged events → IsTrue (is_node_count nodes) →
+    ensures { (n : ℕ) (events : List Event) (site nodes : ℕ) → n ≤ SITES → AreRanged events → IsTrue (is_node_count nodes) →
         first_fault nodes (running_in site (view ((run n events).site site).set)) ≡ None }
 {}

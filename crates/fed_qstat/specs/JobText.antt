@@ -2,6 +2,7 @@
 use Rattle.std.specs.Prelude.{ℕ, Bool, false, List, [], ◌∷◌, ◌++◌, codes, filter, map, Option, Some, None, if◌then◌else◌}
 use Rattle.std.specs.List.{join_with_byte, range_with_len}
 use Rattle.std.specs.Fmt.{decimal}
+use Rattle.fed_stamp.specs.declared.sites.TheConstants.{SITES}
 use Rattle.fed_stamp.specs.Stamp.{StampValue}
 use Rattle.fed_record.specs.declared.holds.HoldKind.TheVariants.{User, Operator, System}
 use Rattle.fed_record.specs.declared.letters.Letter.{Letter}
@@ -59,7 +60,7 @@ holds_text j = hold_letters (has_hold j User) (has_hold j Operator) (has_hold j 
 
 -- the sites that the job may run at, in the order of their numbers
 abbrev pub sites_of : JobView → List ℕ
-sites_of j = filter (has_site j) (range_with_len 0 16)
+sites_of j = filter (has_site j) (range_with_len 0 SITES)
 
 -- their names, joined by `+`, or `-` where there is none
 abbrev pub sites_text : List (List ℕ × ℕ) → JobView → List ℕ

@@ -1,6 +1,7 @@
 -- What an operation changes in each part of a job's record.
 use Rattle.std.specs.Prelude.{ℕ, ℤ, List, [], ◌∷◌, Option, Some, filter}
 use Rattle.std.specs.List.{range_with_len}
+use Rattle.fed_stamp.specs.declared.sites.TheConstants.{SITES}
 use Rattle.fed_stamp.specs.Stamp.{StampValue}
 use Rattle.fed_lattice.specs.History.{History}
 use Rattle.fed_lattice.specs.Part.{part}
@@ -61,7 +62,7 @@ hold_change c = (filter (adds_hold (body_of c)) all_kinds, removed_holds c)
 
 -- the sites that it adds, and the pairs that it removes
 abbrev pub site_change : Operation → List ℕ × List (ℕ × StampValue)
-site_change c = (filter (adds_site (body_of c)) (range_with_len 0 16), removed_sites c)
+site_change c = (filter (adds_site (body_of c)) (range_with_len 0 SITES), removed_sites c)
 
 -- each change of a history changes each part
 abbrev pub always : {C D : Type 0} → (C → D) → C → Option D

@@ -3,6 +3,7 @@ use Rattle.std.specs.Prelude.{ℕ, List, [], true, false, ◌||◌, Option, Some
 use Rattle.std.specs.Option.{option_cmp}
 use Rattle.std.specs.Ordering.{ord_max, nat_cmp, int_cmp}
 use Rattle.std.specs.declared.cmp.Ordering.{Ordering}
+use Rattle.fed_stamp.specs.declared.sites.TheConstants.{SITES}
 use Rattle.fed_stamp.specs.Stamp.{StampValue}
 use Rattle.fed_lattice.specs.Both.{applied_option}
 use Rattle.fed_lattice.specs.Flag.{flag_stands_for}
@@ -103,7 +104,7 @@ abbrev pub IsJobRecord : JobRecordValue → Type 0
 IsJobRecord = IsRecord AreFields AreStages
 
 abbrev pub empty_record : JobRecordValue
-empty_record = record { fields = empty_fields; holds = []; sites = []; stages = empty_stages; touched = replicate 16 0 }
+empty_record = record { fields = empty_fields; holds = []; sites = []; stages = empty_stages; touched = replicate SITES 0 }
 
 abbrev pub changed_record : JobRecordValue → StampValue → Operation → JobRecordValue
 changed_record = applied_record changed_fields changed_stages

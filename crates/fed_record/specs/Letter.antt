@@ -1,6 +1,7 @@
 -- The letter of a job.
 use Rattle.std.specs.Prelude.{ℕ, zero, suc, Bool, false, ◌&&◌, ◌||◌, List, if◌then◌else◌, Option, Some, None, is_some, is_none, nat_eq}
 use Rattle.std.specs.Option.{option_eq}
+use Rattle.fed_stamp.specs.declared.sites.TheConstants.{SITES}
 use Rattle.fed_stamp.specs.Stamp.{StampValue}
 use Rattle.fed_stamp.specs.Version.{counter_of}
 use Rattle.fed_record.specs.declared.grants.GrantStage.{GrantStage}
@@ -18,7 +19,7 @@ any_below (suc n) test = test n || any_below n test
 
 -- whether a stamp that the version covers passes the test
 abbrev pub any_covered : List ℕ → (StampValue → Bool) → Bool
-any_covered v test = any_below 16
+any_covered v test = any_below SITES
     (λ site. any_below (suc (counter_of v site)) (λ counter. test (record { counter = counter; site = site })))
 
 -- an element is present where it has a live pair, whose tag is the stamp of an operation of the job

@@ -1,5 +1,6 @@
 -- A record of a job, over its fields F and its stages G.
 use Rattle.std.specs.Prelude.{◌≡◌, ◌<◌, ℕ, List, true}
+use Rattle.fed_stamp.specs.declared.sites.TheConstants.{SITES}
 use Rattle.fed_stamp.specs.Stamp.{StampValue}
 use Rattle.fed_stamp.specs.Version.{covers}
 use Rattle.fed_lattice.specs.Sets.{Has}
@@ -15,7 +16,7 @@ pub record RecordValue (F G : Type 0) : Type 0 where
 
 -- each pair's tag is the stamp of one of the 16 sites, and the version covers it
 abbrev pub IsCoveredStamp : List ℕ → StampValue → Type 0
-IsCoveredStamp v s = (s.site < 16) × (covers v s ≡ true)
+IsCoveredStamp v s = (s.site < SITES) × (covers v s ≡ true)
 
 abbrev pub AreCovered : {T : Type 0} → List ℕ → List (T × StampValue) → Type 0
 AreCovered {T} v xs = (p : T × StampValue) → Has xs p → IsCoveredStamp v p.1

@@ -4,6 +4,7 @@ use Rattle.std.specs.Cmp.Lexicographic.{pointwise}
 use Rattle.std.specs.Ordering.{nat_cmp, eq_by_cmp}
 use Rattle.std.proofs.Common.{◌≡◌, ℕ, List, [], ◌++◌, Ordering, Bool, true, nat_eq, replicate, refl, sym, ap, ap₂, subst, ◌∙◌}
 use Rattle.std.proofs.lemmas.Map.Lookups.{CmpEqualImpliesEq, exact_unsigned}
+use Rattle.fed_stamp.specs.declared.sites.TheConstants.{SITES}
 use Rattle.fed_stamp.specs.Stamp.{StampValue}
 use Rattle.fed_stamp.specs.Version.{covers, joined as joined_versions, raised}
 use Rattle.fed_stamp.proofs.VersionLaws.{joined-assoc, joined-comm, joined-itself}
@@ -93,7 +94,7 @@ module _ {C : Type 0} where
 -- ---- records, from the laws of their fields and of their stages
 module _ {F G : Type 0} (are_fields : F → Type 0) (are_stages : G → Type 0) where
   pub bottom_is_record : (fields : F) (stages : G) → are_fields fields → are_stages stages
-      → IsRecord are_fields are_stages (record { fields = fields; holds = []; sites = []; stages = stages; touched = replicate 16 0 })
+      → IsRecord are_fields are_stages (record { fields = fields; holds = []; sites = []; stages = stages; touched = replicate SITES 0 })
   bottom_is_record fields stages p q = (p, q, sorted_empty (pair_cmp kind_cmp), sorted_empty (pair_cmp nat_cmp))
 
   pub applied_is_record : (apply_fields : F → StampValue → JobFieldChanges → F) (apply_stages : G → StampValue → JobStageChanges → G)
@@ -150,19 +151,19 @@ module _ {F G : Type 0} (are_fields : F → Type 0) (are_stages : G → Type 0)
 
 pub bottom_records_join : {F G : Type 0} (fields : F) (stages : G) (join_fields : F → List ℕ → F → List ℕ → F) (join_stages : G → List ℕ → G → List ℕ → G)
     → BottomsJoin fields join_fields → BottomsJoin stages join_stages
-    → BottomsJoin {X = RecordValue F G} (record { fields = fields; holds = []; sites = []; stages = stages; touched = replicate 16 0 }) (joined_records join_fields join_stages)
+    → BottomsJoin {X = RecordValue F G} (record { fields = fields; holds = []; sites = []; stages = stages; touched = replicate SITES 0 }) (joined_records join_fields join_stages)
 bottom_records_join fields stages join_fields join_stages f g v w = λ i. record {
   fields = f v w i;
   holds = [];
   sites = [];
   stages = g v w i;
-  touched = joined_zeros 16 (replicate 16 0) refl i;
+  touched = joined_zeros SITES (replicate SITES 0) refl i;
 }
 
 -- ---- what records read as
 pub bottom_record_stands : {F G : Type 0} (fields : F) (stages : G) (fields_stand_for : F → History JobFieldChanges → Type 0) (stages_stand_for : G → History JobStageChanges → Type 0)
     → fields_stand_for fields [] → stages_stand_for stages []
-    → record_stands_for fields_stand_for stages_stand_for (record { fields = fields; holds = []; sites = []; stages = stages; touched = replicate 16 0 }) []
+    → record_stands_for fields_stand_for stages_stand_for (record { fields = fields; holds = []; sites = []; stages = stages; touched = replicate SITES 0 }) []
 bottom_record_stands fields stages fields_stand_for stages_stand_for p q = (p, q, empty_tags_stand, empty_tags_stand, refl)
 
 module _ {F G : Type 0} (are_fields : F → Type 0) (are_stages : G → Type 0)

@@ -1,6 +1,7 @@
 //! What an operation changes in each part of a job's record.
 ghost use Rattle.std.specs.Prelude.{◌≡◌, ℕ, IfOk, filter};
 ghost use Rattle.std.specs.List.{range_with_len};
+ghost use Rattle.fed_stamp.specs.declared.sites.TheConstants.{SITES};
 ghost use Rattle.fed_record.specs.Operation.{body_of};
 ghost use Rattle.fed_stamp.specs.SiteSet.{has as has_site};
 ghost use Rattle.fed_record.specs.Pairs.{adds_hold as is_hold_added, adds_site as is_site_added, is_site_named};
@@ -124,7 +125,7 @@ fn named_sites(operation: &Operation) -> Option<SiteSet>
 
 /// The sites of a set, in the order of their numbers.
 fn members(alloc: Global, sites: &SiteSet) -> Result<Vec<SiteId>, NoMemory>
-    ensures { IfOk result (λ v. v.items ≡ filter (has_site sites.now) (range_with_len 0 16)) }
+    ensures { IfOk result (λ v. v.items ≡ filter (has_site sites.now) (range_with_len 0 SITES)) }
 {
     let mut members = Vec::new(alloc);
     for number in 0..SITES as u8 {
@@ -152,7 +153,7 @@ pub(crate) fn added_holds(alloc: Global, operation: &Operation) -> Result<Vec<Ho
 
 /// The sites that the operation adds.
 pub(crate) fn added_sites(alloc: Global, operation: &Operation) -> Result<Vec<SiteId>, NoMemory>
-    ensures { IfOk result (λ v. v.items ≡ filter (is_site_added (body_of operation.now)) (range_with_len 0 16)) }
+    ensures { IfOk result (λ v. v.items ≡ filter (is_site_added (body_of operation.now)) (range_with_len 0 SITES)) }
 {
     match named_sites(operation) {
         Some(sites) => members(alloc, &sites),

@@ -56,7 +56,7 @@ pub enum Command {
         job: JobId,
         /// When it finished, in seconds.
         moment: Moment,
-        /// The status that it gave, from 0 to 255.
+        /// The status that it gave, from 0 to `MAX_STATUS`.
         status: u8,
     },
     /// Make a reservation.

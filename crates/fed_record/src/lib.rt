@@ -75,7 +75,7 @@ pub use moments::{MAX_END, MAX_MOMENT, Moment};
 pub use node_counts::Nodes;
 pub use operations::Operation;
 pub use priorities::{MAX_PRIORITY, MIN_PRIORITY, Priority};
-pub use progress::{Beginning, Ending};
+pub use progress::{Beginning, Ending, MAX_STATUS};
 pub use records::JobRecord;
 pub use refusals::Refusal;
 pub use replies::Reply;

@@ -32,11 +32,14 @@ impl Beginning {
     }
 }
 
+/// The greatest status that a job gives.
+pub const MAX_STATUS: u8 = 255;
+
 /// When a job finished, and the status that it gave.
 #[derive(Clone, Copy, PartialEq, Eq, PartialOrd, Ord, Debug)]
 pub struct Ending {
     /// When the job finished, in seconds. It isn't compared with the Begin's.
     pub moment: Moment,
-    /// The status that it gave, from 0 to 255.
+    /// The status that it gave, from 0 to `MAX_STATUS`.
     pub status: u8,
 }

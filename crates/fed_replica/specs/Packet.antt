@@ -1,5 +1,6 @@
 -- What a site holds, and the packets between sites. Here a packet gives the sender's whole set.
 use Rattle.std.specs.Prelude.{ℕ, Bool, not, nat_lt, replicate, List, [], ◌++◌, Option, Some, None}
+use Rattle.fed_stamp.specs.declared.sites.TheConstants.{SITES}
 use Rattle.fed_stamp.specs.Indexes.{least_index, put}
 use Rattle.fed_stamp.specs.Version.{counter_of, is_below, joined}
 use Rattle.fed_lattice.specs.History.{History}
@@ -13,7 +14,7 @@ pub record Site : Type 0 where
 
 -- a site that holds nothing and has heard nothing
 abbrev pub new_site : Site
-new_site = record { set = []; heard = λ from. replicate 16 0 }
+new_site = record { set = []; heard = λ from. replicate SITES 0 }
 
 -- A packet is for a site that has what is needed, and brings it to what was reached.
 pub record Packet : Type 0 where
@@ -28,7 +29,7 @@ shipped here s to = record { sender = here; need = s.heard to; reached = version
 
 -- the least of the 16 sites of which more is needed than the version has
 abbrev pub missing : List ℕ → List ℕ → Option ℕ
-missing need version = least_index (λ site. nat_lt (counter_of version site) (counter_of need site)) 16
+missing need version = least_index (λ site. nat_lt (counter_of version site) (counter_of need site)) SITES
 
 -- the packet reaches beyond what the site has
 abbrev pub grows : Site → Packet → Bool

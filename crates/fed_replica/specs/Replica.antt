@@ -1,5 +1,6 @@
 -- Replicas: what a site keeps, and what is left where it answers a command.
 use Rattle.std.specs.Prelude.{◌≡◌, ℕ, replicate, List, Some, None, Result, Ok, Err, MatchResult, slice_index_or}
+use Rattle.fed_stamp.specs.declared.sites.TheConstants.{SITES}
 use Rattle.fed_record.specs.declared.refusals.Refusal.{Refusal}
 use Rattle.fed_record.specs.declared.replies.Reply.{Reply}
 use Rattle.fed_board.specs.Board.{BoardValue}
@@ -15,7 +16,7 @@ pub record ReplicaValue : Type 0 where
 
 -- the version that was heard from a site
 abbrev pub heard_from : ReplicaValue → ℕ → List ℕ
-heard_from r from = slice_index_or r.heard from (replicate 16 0)
+heard_from r from = slice_index_or r.heard from (replicate SITES 0)
 
 -- What comes of an answer, where the board read as `before`: what is said, and what the board reads as then. Memory may
 -- be refused only where an operation is added.

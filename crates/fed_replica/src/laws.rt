@@ -1,6 +1,7 @@
 //! Laws of what sites answer, over every set of operations that is as the law asks. Each function does nothing: its
 //! contract is the law.
 ghost use Rattle.std.specs.Prelude.{◌≡◌, ◌<◌, ◌≤◌, ℕ, true, false, [], ◌∷◌, ◌++◌, Ok, Some};
+ghost use Rattle.fed_stamp.specs.declared.sites.TheConstants.{SITES};
 ghost use Rattle.fed_stamp.specs.Stamp.{StampValue};
 ghost use Rattle.fed_stamp.specs.Version.{covers, next_stamp};
 ghost use Rattle.fed_lattice.specs.Sets.{Has, IsSameSet};
@@ -50,7 +51,7 @@ pub fn answers_keep_sets_lawful()
         (new : StampValue × Body) → IsLawful ops → answer ops here who command ≡ Replies reply (Some new) →
         IsGrounded ops new.0 new.1 × MayFollow ops new.0 new.1 }
     ensures lawful { (ops : History Body) (here : ℕ) (who : Who) (command : Command) (reply : Reply)
-        (new : StampValue × Body) → IsLawful ops → here < 16 → answer ops here who command ≡ Replies reply (Some new) →
+        (new : StampValue × Body) → IsLawful ops → here < SITES → answer ops here who command ≡ Replies reply (Some new) →
         IsLawful (ops ++ new ∷ []) }
 {}
 

@@ -1,5 +1,6 @@
 //! Replicas: the boards of sites, and what was heard from other sites.
 ghost use Rattle.std.specs.Prelude.{◌≡◌, ◌<◌, ◌++◌, ℕ, [], not, replicate, IfOk, IfErr, OnOk, OnErr, IsTrue};
+ghost use Rattle.fed_stamp.specs.declared.sites.TheConstants.{SITES};
 ghost use Rattle.fed_stamp.specs.Version.{is_below, joined, met};
 ghost use Rattle.fed_lattice.specs.History.{History};
 ghost use Rattle.fed_record.specs.Body.{Body};
@@ -36,13 +37,14 @@ pub struct Replica {
 
 impl Model for Replica {
     ghost use Rattle.std.specs.Prelude.{◌≡◌, length};
+    ghost use Rattle.fed_stamp.specs.declared.sites.TheConstants.{SITES};
     ghost use Rattle.fed_replica.specs.Replica.{ReplicaValue};
 
     ghost Value = { ReplicaValue };
 
     ghost view = { λ r. record { site = r.site; board = r.board; heard = r.heard } };
 
-    ghost invariant = { λ r. length r.heard ≡ 16 };
+    ghost invariant = { λ r. length r.heard ≡ SITES };
 }
 
 impl Replica {
@@ -51,8 +53,8 @@ impl Replica {
     /// The replica of a site that has no operation and has heard nothing.
     pub fn new(alloc: Global, site: SiteId) -> Replica
         ensures site { result.site ≡ site }
-        ensures board { result.board ≡ record { version = replicate 16 0; jobs = []; reservations = [] } }
-        ensures heard { result.heard ≡ replicate 16 (replicate 16 0) }
+        ensures board { result.board ≡ record { version = replicate SITES 0; jobs = []; reservations = [] } }
+        ensures heard { result.heard ≡ replicate SITES (replicate SITES 0) }
         ensures stands { reads result.board ≡ view [] }
     {
         Replica {
@@ -117,7 +119,7 @@ impl Replica {
         ensures stands { OnOk result ((ops others : History Body) → AreKin ops others →
             reads self.old.board ≡ view ops → reads packet.now.delta.changes ≡ cut (view others) packet.now.delta.need →
             reads self.new.board ≡ view (ops ++ others)) }
-        ensures heard { OnOk result ((from : ℕ) → from < 16 → heard_from self.new from ≡
+        ensures heard { OnOk result ((from : ℕ) → from < SITES → heard_from self.new from ≡
             put (heard_from self.old) packet.now.sender
             (joined (heard_from self.old packet.now.sender) packet.now.delta.changes.version) from) }
         ensures site { self.new.site ≡ self.old.site }

@@ -3,6 +3,7 @@ use Rattle.std.specs.Prelude.{ℕ, List}
 use Rattle.std.specs.Result.{result_ok}
 use Rattle.fed_stamp.specs.Stamp.{StampValue}
 use Rattle.fed_record.specs.declared.moments.TheConstants.{MAX_MOMENT}
+use Rattle.fed_record.specs.declared.progress.TheConstants.{MAX_STATUS}
 use Rattle.fed_words.specs.Identifier.{job_in}
 use Rattle.fed_words.specs.Number.{decimal_in, number_in}
 use Rattle.fed_words.specs.Site.{site_named}
@@ -25,7 +26,7 @@ moment word = number_in 0 MAX_MOMENT word
 
 -- the status that a job gave
 abbrev pub status : Reads ℕ
-status word = number_in 0 255 word
+status word = number_in 0 MAX_STATUS word
 
 -- the number of a packet, where so many were made
 abbrev pub packet : ℕ → Reads ℕ

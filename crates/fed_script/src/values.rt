@@ -20,7 +20,7 @@ pub(crate) fn read_moment(word: &str) -> Option<Moment>
     Moment::new(read_number(word)?)
 }
 
-/// The status that a job gave, from 0 to 255.
+/// The status that a job gave, from 0 to `MAX_STATUS`.
 pub(crate) fn read_status(word: &str) -> Option<u8>
     ensures { result ≡ status word.now }
 {

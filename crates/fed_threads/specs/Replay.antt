@@ -1,5 +1,6 @@
 -- A site's journal, run again from the site's empty replica.
 use Rattle.std.specs.Prelude.{◌≡◌, ℕ, ◌+◌, ◌<◌, not, replicate, List, [], ◌∷◌, ◌++◌, length, Option, Some, None, Result, Ok, Err}
+use Rattle.fed_stamp.specs.declared.sites.TheConstants.{SITES}
 use Rattle.fed_stamp.specs.Indexes.{put}
 use Rattle.fed_stamp.specs.Version.{is_below, joined, met}
 use Rattle.fed_record.specs.declared.refusals.Refusal.{Refusal}
@@ -30,11 +31,11 @@ pub record State : Type 0 where
 pub record IsState (r : ReplicaValue) (s : State) : Type 0 where
   pub site : r.site ≡ s.site
   pub board : reads r.board ≡ s.view
-  pub heard : (from : ℕ) → from < 16 → heard_from r from ≡ s.heard from
+  pub heard : (from : ℕ) → from < SITES → heard_from r from ≡ s.heard from
 
 -- a site's empty replica
 abbrev pub empty_at : ℕ → State
-empty_at site = record { site = site; view = view []; heard = λ from. replicate 16 0 }
+empty_at site = record { site = site; view = view []; heard = λ from. replicate SITES 0 }
 
 -- what an answer to a command leaves
 abbrev pub after_answer : State → Answer → State
@@ -121,7 +122,7 @@ outcome_of_receipt (Receipt.Gap lacks) = Outcome.Gap lacks
 -- what `take` says, but for want of memory; a site is one of the 16
 abbrev pub IsReceiptOf : Result Taken Absorb → Receipt → Type 0
 IsReceiptOf (Ok taken) receipt = receipt ≡ Receipt.Taken taken
-IsReceiptOf (Err (Absorb.Gap lacks)) receipt = (receipt ≡ Receipt.Gap lacks) × (lacks < 16)
+IsReceiptOf (Err (Absorb.Gap lacks)) receipt = (receipt ≡ Receipt.Gap lacks) × (lacks < SITES)
 IsReceiptOf (Err Absorb.NoMemory) receipt = ⊥
 
 -- the packet is what the replica tells of what it hasn't heard from a site

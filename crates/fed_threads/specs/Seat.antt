@@ -1,5 +1,6 @@
 -- What a seat has seen of each site, and what it claims.
 use Rattle.std.specs.Prelude.{◌≡◌, ◌<◌, ◌≤◌, ◌+◌, ◌⊎◌, ℕ, true, replicate, List, [], ◌∷◌, ◌++◌, slice_index, slice_index_or, slice_set}
+use Rattle.fed_stamp.specs.declared.sites.TheConstants.{SITES}
 use Rattle.fed_stamp.specs.Version.{covers, is_below}
 use Rattle.fed_record.specs.declared.replies.Reply.{Reply}
 use Rattle.fed_world.specs.declared.outcomes.Outcome.{Outcome}
@@ -21,13 +22,13 @@ known_by s = record { seen = s.seen; versions = s.versions; claims = s.claims.it
 
 -- nothing seen, and no claims
 abbrev pub starts : Known
-starts = record { seen = replicate 16 0; versions = replicate 16 (replicate 16 0); claims = []; asked = [] }
+starts = record { seen = replicate SITES 0; versions = replicate SITES (replicate SITES 0); claims = []; asked = [] }
 
 abbrev pub seen_of : Known → ℕ → ℕ
 seen_of k site = slice_index k.seen site
 
 abbrev pub version_of : Known → ℕ → List ℕ
-version_of k site = slice_index_or k.versions site (replicate 16 0)
+version_of k site = slice_index_or k.versions site (replicate SITES 0)
 
 -- a claim more: the journal was seen as far as its entry
 abbrev pub claimed : Known → Claim → List ℕ → Asked → Known
@@ -68,6 +69,6 @@ Covers version _ = Unit {0}
 
 -- an identifier that was answered is of one of the 16 sites
 abbrev pub NamesSite : Outcome → Type 0
-NamesSite (Outcome.Replied (Reply.Submitted job)) = job.site < 16
-NamesSite (Outcome.Replied (Reply.Reserved name)) = name.site < 16
+NamesSite (Outcome.Replied (Reply.Submitted job)) = job.site < SITES
+NamesSite (Outcome.Replied (Reply.Reserved name)) = name.site < SITES
 NamesSite _ = Unit {0}

@@ -1,5 +1,6 @@
 //! Federations whose sites run at the same time.
 ghost use Rattle.std.specs.Prelude.{◌≡◌, ◌≢◌, ◌<◌, ◌≤◌, ◌+◌, ◌^◌, ◌↔◌, ◌⊎◌, ℕ, None, Some, Ok, Err, IfOk, OnErr, IfErr, length, vec_len};
+ghost use Rattle.fed_stamp.specs.declared.sites.TheConstants.{SITES};
 ghost use Rattle.fed_board.specs.Board.{reads};
 ghost use Rattle.fed_record.specs.declared.refusals.Refusal.{Refusal};
 ghost use Rattle.fed_threads.specs.Calls.{AddsClaim, OnlyBehind, Looks, MeetsNext};
@@ -81,7 +82,7 @@ pub struct Federation<G> {
 }
 
 fn new_sites(alloc: Global, count: usize) -> Result<Vec<Mutex<Site>>, NoMemory>
-    requires { count ≤ 16 }
+    requires { count ≤ SITES }
     ensures { IfOk result (λ v. vec_len v ≡ count) }
 {
     let mut sites = Vec::new(alloc);

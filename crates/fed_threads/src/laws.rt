@@ -1,5 +1,6 @@
 //! Laws of settled lists. Each function does nothing: its contract is the law.
 ghost use Rattle.std.specs.Prelude.{◌≡◌, ◌≤◌, ℕ, Bool, List, length};
+ghost use Rattle.fed_stamp.specs.declared.sites.TheConstants.{SITES};
 ghost use Rattle.fed_world.specs.declared.events.Event.{Event};
 ghost use Rattle.fed_world.specs.Run.{run};
 ghost use Rattle.fed_threads.specs.declared.journal.Claim.{Claim};
@@ -17,7 +18,7 @@ pub fn there_is_one_placing()
 
 /// Where entries are settled, the board of each site, once the events are run, is that of the replay of its journal.
 pub fn settled_boards_are_replays()
-    ensures { (journals : List (List Entry)) (seats : List (List Claim)) (events : List Event) → length journals ≤ 16 →
+    ensures { (journals : List (List Entry)) (seats : List (List Claim)) (events : List Event) → length journals ≤ SITES →
         IsSettled journals seats events → AreReplays journals (run (length journals) events) }
 {}
 

@@ -1,5 +1,6 @@
 //! The entries of all journals as one list of events.
 ghost use Rattle.std.specs.Prelude.{◌≡◌, ◌<◌, ◌≤◌, ◌↔◌, ℕ, IfOk, IfErr, IsTrue, length, slice_index};
+ghost use Rattle.fed_stamp.specs.declared.sites.TheConstants.{SITES};
 ghost use Rattle.fed_threads.specs.Placing.{claims_of, entries_of};
 ghost use Rattle.fed_threads.specs.Settle.{IsCloseFault, IsRunFault, IsSettled, IsWhole, RunsAll};
 
@@ -71,7 +72,7 @@ fn has_all(journals: &[Vec<Entry>], placed: &[usize]) -> bool
 
 /// How many are placed of each of the 16 sites: of one that is not there none are.
 fn numbers_of_all(placed: &[usize]) -> [u64; SITES]
-    requires { length placed.now ≤ 16 }
+    requires { length placed.now ≤ SITES }
     ensures numbers { (s : ℕ) → s < length placed.now → slice_index result s ≡ slice_index placed.now s }
     ensures others { (s : ℕ) → length placed.now ≤ s → slice_index result s ≡ 0 }
 {

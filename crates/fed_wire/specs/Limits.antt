@@ -6,6 +6,7 @@ use Rattle.fed_lattice.specs.Sets.{Has}
 use Rattle.fed_lattice.specs.History.{History}
 use Rattle.fed_record.specs.declared.limits.TheConstants.{MAX_LIMIT}
 use Rattle.fed_record.specs.declared.moments.TheConstants.{MAX_END, MAX_MOMENT}
+use Rattle.fed_record.specs.declared.progress.TheConstants.{MAX_STATUS}
 use Rattle.fed_record.specs.declared.progress.Beginning.{Beginning}
 use Rattle.fed_record.specs.declared.progress.Ending.{Ending}
 use Rattle.fed_record.specs.declared.terms.TheConstants.{MAX_TERM}
@@ -41,7 +42,7 @@ abbrev pub IsBeginning : Beginning → Type 0
 IsBeginning b = IsFrom 0 MAX_MOMENT b.moment × IsFrom 1 MAX_NODES b.nodes × IsFrom 0 MAX_END b.end × (b.moment < b.end)
 
 abbrev pub IsEnding : Ending → Type 0
-IsEnding e = IsFrom 0 MAX_MOMENT e.moment × IsFrom 0 255 e.status
+IsEnding e = IsFrom 0 MAX_MOMENT e.moment × IsFrom 0 MAX_STATUS e.status
 
 -- the values of an operation are in range
 abbrev pub IsInRange : Body → Type 0

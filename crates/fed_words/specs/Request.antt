@@ -1,5 +1,5 @@
 -- What words ask.
-use Rattle.std.specs.Prelude.{ℕ, pos, Bool, true, false, not, List, [], ◌∷◌, length, map, filter, codes, None, unwrap_or, Ok, Err}
+use Rattle.std.specs.Prelude.{ℕ, Bool, true, false, not, List, [], ◌∷◌, length, map, filter, codes, None, unwrap_or, Ok, Err}
 use Rattle.std.specs.List.{range_with_len}
 use Rattle.std.specs.Option.{ok_or}
 use Rattle.fed_stamp.specs.SiteSet.{set_of}
@@ -11,6 +11,7 @@ use Rattle.fed_record.specs.declared.values.Changes.{Changes}
 use Rattle.fed_record.specs.declared.values.JobValues.{JobValues}
 use Rattle.fed_record.specs.Hold.{sum_of_bits}
 use Rattle.fed_words.specs.declared.faults.UsageFault.TheVariants.{UnknownUtility, MissingOperand}
+use Rattle.fed_words.specs.declared.requests.TheConstants.{DEFAULT_PRIORITY, DEFAULT_NODES, DEFAULT_LIMIT}
 use Rattle.fed_words.specs.declared.resources.Resources.{Resources}
 use Rattle.fed_words.specs.declared.settings.Settings.{Settings}
 use Rattle.fed_words.specs.declared.utilities.Utility.{Utility}
@@ -37,9 +38,9 @@ resources_given s = unwrap_or s.resources (last_resources [])
 abbrev pub values_of : List (List ℕ × ℕ) → Settings → JobValues
 values_of roster s = record {
   name = unwrap_or s.name (codes "STDIN");
-  priority = unwrap_or s.priority (pos 0);
-  nodes = unwrap_or (resources_given s).nodes 1;
-  limit = unwrap_or (resources_given s).limit 3600;
+  priority = unwrap_or s.priority DEFAULT_PRIORITY;
+  nodes = unwrap_or (resources_given s).nodes DEFAULT_NODES;
+  limit = unwrap_or (resources_given s).limit DEFAULT_LIMIT;
   account = unwrap_or s.account None;
   sites = unwrap_or (resources_given s).sites (all_sites roster);
 }

@@ -19,6 +19,15 @@ use fed_record::{
 use fed_stamp::{JobId, Roster, SITES, SiteId, SiteSet, Word};
 use std::alloc::{AllocError, Global};
 
+/// The priority of a job that is submitted without one.
+const DEFAULT_PRIORITY: i16 = 0;
+
+/// How many nodes a job asks for that is submitted without a number of them.
+const DEFAULT_NODES: u64 = 1;
+
+/// The time limit of a job that is submitted without one, in seconds.
+const DEFAULT_LIMIT: u64 = 3600;
+
 /// What words ask.
 #[derive(Drop, Debug)]
 pub enum Request {
@@ -78,9 +87,15 @@ fn values(roster: &Roster, settings: &Settings) -> JobValues
     };
     JobValues {
         name: settings.name.unwrap_or(Word::new("STDIN").unwrap()),
-        priority: settings.priority.unwrap_or(Priority::new(0).unwrap()),
-        nodes: resources.nodes.unwrap_or(Nodes::new(1).unwrap()),
-        limit: resources.limit.unwrap_or(Limit::new(3600).unwrap()),
+        priority: settings
+            .priority
+            .unwrap_or(Priority::new(DEFAULT_PRIORITY).unwrap()),
+        nodes: resources
+            .nodes
+            .unwrap_or(Nodes::new(DEFAULT_NODES).unwrap()),
+        limit: resources
+            .limit
+            .unwrap_or(Limit::new(DEFAULT_LIMIT).unwrap()),
         account: settings.account.unwrap_or(Account::EMPTY),
         sites,
     }

@@ -1,5 +1,6 @@
 -- What the code keeps of a run: replicas that stand for the sites, and the texts of the packets made.
 use Rattle.std.specs.Prelude.{◌≡◌, ℕ, ◌<◌, ◌≤◌, List, [], ◌∷◌, length, slice_index_or, Some}
+use Rattle.fed_stamp.specs.declared.sites.TheConstants.{SITES}
 use Rattle.fed_board.specs.Board.{reads}
 use Rattle.fed_board.specs.View.{view}
 use Rattle.fed_delta.specs.Cut.{cut}
@@ -22,7 +23,7 @@ pub record WorldValue : Type 0 where
 pub record IsReplica (i : ℕ) (s : Site) (r : ReplicaValue) : Type 0 where
   pub site : r.site ≡ i
   pub board : reads r.board ≡ view s.set
-  pub heard : (from : ℕ) → from < 16 → heard_from r from ≡ s.heard from
+  pub heard : (from : ℕ) → from < SITES → heard_from r from ≡ s.heard from
 
 -- each of the n sites has its replica
 pub record AreReplicas (n : ℕ) (w : World) (replicas : List ReplicaValue) : Type 0 where
@@ -31,7 +32,7 @@ pub record AreReplicas (n : ℕ) (w : World) (replicas : List ReplicaValue) : Ty
 
 -- what is sent of a packet is cut from what it gives
 pub record IsSentOf (p : Packet) (sent : PacketValue) : Type 0 where
-  pub small : p.sender < 16
+  pub small : p.sender < SITES
   pub sender : sent.sender ≡ p.sender
   pub need : sent.delta.need ≡ p.need
   pub cut : reads sent.delta.changes ≡ cut (view p.gives) p.need
@@ -51,7 +52,7 @@ AreTexts _ _ = ⊥
 
 -- the values of the events are in range, and the replicas and the texts are those of a run of them
 pub record IsKept (n : ℕ) (events : List Event) (all : List ReplicaValue) (sent : List (List ℕ)) : Type 0 where
-  pub few : n ≤ 16
+  pub few : n ≤ SITES
   pub ranged : AreRanged events
   pub replicas : AreReplicas n (run n events) all
   pub texts : AreTexts (run n events).packets sent

@@ -1,5 +1,6 @@
 //! That sites which hold the same operations have equal boards, and that an exchange brings all sites there.
 ghost use Rattle.std.specs.Prelude.{◌≡◌, ◌<◌, ◌≤◌, ◌++◌, ℕ, List};
+ghost use Rattle.fed_stamp.specs.declared.sites.TheConstants.{SITES};
 ghost use Rattle.fed_lattice.specs.Sets.{IsSameSet};
 ghost use Rattle.fed_lattice.specs.VersionOf.{version_of};
 ghost use Rattle.fed_board.specs.Board.{reads};
@@ -15,7 +16,7 @@ use fed_wire::Packet;
 
 /// Where two sites hold the same operations, their boards are equal, however the operations came.
 pub fn same_sets_have_equal_boards(x: &Board, y: &Board)
-    ensures { (n : ℕ) (events : List Event) → n ≤ 16 → (a b : ℕ) → reads x.now ≡ view ((run n events).site a).set →
+    ensures { (n : ℕ) (events : List Event) → n ≤ SITES → (a b : ℕ) → reads x.now ≡ view ((run n events).site a).set →
         reads y.now ≡ view ((run n events).site b).set →
         IsSameSet ((run n events).site a).set ((run n events).site b).set → x.now ≡ y.now }
 {
@@ -25,10 +26,10 @@ pub fn same_sets_have_equal_boards(x: &Board, y: &Board)
 /// Where the versions of two sites are the same, the sites hold the same operations. So versions alone tell whether two
 /// sites have equal boards.
 pub fn versions_tell_equal_boards(x: &Board, y: &Board)
-    ensures sets { (n : ℕ) (events : List Event) → n ≤ 16 → (a b : ℕ) →
+    ensures sets { (n : ℕ) (events : List Event) → n ≤ SITES → (a b : ℕ) →
         version_of ((run n events).site a).set ≡ version_of ((run n events).site b).set →
         IsSameSet ((run n events).site a).set ((run n events).site b).set }
-    ensures boards { (n : ℕ) (events : List Event) → n ≤ 16 → (a b : ℕ) → reads x.now ≡ view ((run n events).site a).set →
+    ensures boards { (n : ℕ) (events : List Event) → n ≤ SITES → (a b : ℕ) → reads x.now ≡ view ((run n events).site a).set →
         reads y.now ≡ view ((run n events).site b).set → x.now.version ≡ y.now.version → x.now ≡ y.now }
 {
     same_sets_have_equal_boards(x, y);
@@ -44,13 +45,13 @@ pub fn one_packet_is_sent(x: &Packet, y: &Packet)
 /// Once no command is done any more and each site has made a packet for each other, which took it, all sites hold the
 /// same operations, whatever was lost, repeated or reordered before and meanwhile.
 pub fn exchanges_converge()
-    ensures { (n : ℕ) (early late : List Event) → n ≤ 16 → IsExchange n early late → (a b : ℕ) → a < n → b < n →
+    ensures { (n : ℕ) (early late : List Event) → n ≤ SITES → IsExchange n early late → (a b : ℕ) → a < n → b < n →
         IsSameSet ((run n (early ++ late)).site a).set ((run n (early ++ late)).site b).set }
 {}
 
 /// So all their boards are equal.
 pub fn exchanged_boards_are_equal(x: &Board, y: &Board)
-    ensures { (n : ℕ) (early late : List Event) → n ≤ 16 → IsExchange n early late → (a b : ℕ) → a < n → b < n →
+    ensures { (n : ℕ) (early late : List Event) → n ≤ SITES → IsExchange n early late → (a b : ℕ) → a < n → b < n →
         reads x.now ≡ view ((run n (early ++ late)).site a).set →
         reads y.now ≡ view ((run n (early ++ late)).site b).set → x.now ≡ y.now }
 {

@@ -1,6 +1,7 @@
 //! Laws of whole runs, over every list of events in a federation of n sites, of which there are at most 16. Each
 //! function does nothing: its contract is the law.
 ghost use Rattle.std.specs.Prelude.{◌≡◌, ◌≢◌, ◌<◌, ◌≤◌, ℕ, [], ◌∷◌, ◌++◌, List, Some};
+ghost use Rattle.fed_stamp.specs.declared.sites.TheConstants.{SITES};
 ghost use Rattle.fed_stamp.specs.Stamp.{StampValue};
 ghost use Rattle.fed_lattice.specs.Sets.{Has, Includes};
 ghost use Rattle.fed_record.specs.declared.askers.Who.{Who};
@@ -31,10 +32,10 @@ pub fn runs_go_on()
 /// In every run the operations of all sites together are a lawful set, any two sites hold kin sets, and so are what a
 /// site holds and what a packet gives.
 pub fn sites_stay_kin()
-    ensures lawful { (n : ℕ) (events : List Event) → n ≤ 16 → IsLawful (all_operations (run n events) n) }
-    ensures kin { (n : ℕ) (events : List Event) (a b : ℕ) → n ≤ 16 →
+    ensures lawful { (n : ℕ) (events : List Event) → n ≤ SITES → IsLawful (all_operations (run n events) n) }
+    ensures kin { (n : ℕ) (events : List Event) (a b : ℕ) → n ≤ SITES →
         AreKin ((run n events).site a).set ((run n events).site b).set }
-    ensures packets { (n : ℕ) (events : List Event) (site k : ℕ) (p : Packet) → n ≤ 16 →
+    ensures packets { (n : ℕ) (events : List Event) (site k : ℕ) (p : Packet) → n ≤ SITES →
         packet (run n events) k ≡ Some p → AreKin ((run n events).site site).set p.gives }
 {}
 
@@ -56,7 +57,7 @@ pub fn packets_add_whole_sets()
 
 /// The site that a packet was made for never lacks what the packet needs: it takes the packet, however late.
 pub fn no_gap_at_the_addressee()
-    ensures { (n : ℕ) (early late : List Event) (site to k : ℕ) → n ≤ 16 →
+    ensures { (n : ℕ) (early late : List Event) (site to k : ℕ) → n ≤ SITES →
         (step n (run n early) (Ship site to)).outcome ≡ Outcome.Packet k →
         (taken : Taken) ×
         ((step n (run n (early ++ Ship site to ∷ late)) (Take to k)).outcome ≡ Outcome.Taken taken) }
@@ -64,30 +65,30 @@ pub fn no_gap_at_the_addressee()
 
 /// Of each term a job has one grant at most, among the operations of all sites, and the job's origin made it.
 pub fn one_grant_a_term()
-    ensures one { (n : ℕ) (events : List Event) → n ≤ 16 → (job s t : StampValue) (a b term : ℕ) →
+    ensures one { (n : ℕ) (events : List Event) → n ≤ SITES → (job s t : StampValue) (a b term : ℕ) →
         Has (all_operations (run n events) n) (s, Grant job a term) →
         Has (all_operations (run n events) n) (t, Grant job b term) → (s ≡ t) × (a ≡ b) }
-    ensures by_origin { (n : ℕ) (events : List Event) → n ≤ 16 → (job s : StampValue) (a term : ℕ) →
+    ensures by_origin { (n : ℕ) (events : List Event) → n ≤ SITES → (job s : StampValue) (a term : ℕ) →
         Has (all_operations (run n events) n) (s, Grant job a term) → s.site ≡ job.site }
 {}
 
 /// At no point do two sites each have, in their own set, a grant of one job to themselves that isn't handed back
 /// there.
 pub fn grants_are_held_by_one()
-    ensures { (n : ℕ) (events : List Event) → n ≤ 16 → (job : StampValue) (a b : ℕ) →
+    ensures { (n : ℕ) (events : List Event) → n ≤ SITES → (job : StampValue) (a b : ℕ) →
         HasOpenGrant ((run n events).site a).set job a → HasOpenGrant ((run n events).site b).set job b → a ≡ b }
 {}
 
 /// No job begins at two sites, or twice: among the operations of all sites it has one Begin at most, made by the site
 /// that holds its grant.
 pub fn jobs_begin_once()
-    ensures one { (n : ℕ) (events : List Event) → n ≤ 16 → (job s t : StampValue) (a b : Beginning) →
+    ensures one { (n : ℕ) (events : List Event) → n ≤ SITES → (job s t : StampValue) (a b : Beginning) →
         Has (all_operations (run n events) n) (s, Begin job a) →
         Has (all_operations (run n events) n) (t, Begin job b) → (s ≡ t) × (a ≡ b) }
-    ensures by_holder { (n : ℕ) (events : List Event) → n ≤ 16 → (job s : StampValue) (a : Beginning) →
+    ensures by_holder { (n : ℕ) (events : List Event) → n ≤ SITES → (job s : StampValue) (a : Beginning) →
         Has (all_operations (run n events) n) (s, Begin job a) →
         IsHolder (all_operations (run n events) n) job s.site }
-    ensures at_one_site { (n : ℕ) (events : List Event) → n ≤ 16 → (x y : ℕ) (job s t : StampValue)
+    ensures at_one_site { (n : ℕ) (events : List Event) → n ≤ SITES → (x y : ℕ) (job s t : StampValue)
         (a b : Beginning) → Has ((run n events).site x).set (s, Begin job a) →
         Has ((run n events).site y).set (t, Begin job b) → s.site ≡ t.site }
 {}
@@ -95,7 +96,7 @@ pub fn jobs_begin_once()
 /// Of all requests to begin a job one at most is done, at whatever sites and however often it is asked.
 pub fn begins_are_done_once()
     ensures { (n : ℕ) (early between : List Event) (site other : ℕ) (who asker : Who) (job : StampValue)
-        (moment later : ℕ) (reply again : Reply) → n ≤ 16 →
+        (moment later : ℕ) (reply again : Reply) → n ≤ SITES →
         (step n (run n early) (Do site who (Command.Begin job moment))).outcome ≡ Outcome.Replied reply →
         (step n (run n (early ++ Do site who (Command.Begin job moment) ∷ between))
         (Do other asker (Command.Begin job later))).outcome ≢ Outcome.Replied again }
@@ -105,9 +106,9 @@ pub fn begins_are_done_once()
 /// holds are within limits, and so is what each packet gives: values, terms and windows are in range, a job that begins
 /// ends later, and of no site there are more than 10,000 jobs and 1,000 reservations.
 pub fn sets_stay_within_limits()
-    ensures sites { (n : ℕ) (events : List Event) → n ≤ 16 → AreRanged events → (site : ℕ) →
+    ensures sites { (n : ℕ) (events : List Event) → n ≤ SITES → AreRanged events → (site : ℕ) →
         IsWithinLimits ((run n events).site site).set }
-    ensures packets { (n : ℕ) (events : List Event) → n ≤ 16 → AreRanged events → (k : ℕ) (p : Packet) →
+    ensures packets { (n : ℕ) (events : List Event) → n ≤ SITES → AreRanged events → (k : ℕ) (p : Packet) →
         packet (run n events) k ≡ Some p → IsWithinLimits p.gives }
 {}
 

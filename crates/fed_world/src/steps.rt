@@ -1,5 +1,6 @@
 //! What an event does to the replicas and the packets of a world.
 ghost use Rattle.std.specs.Prelude.{◌≡◌, ◌≤◌, ℕ, List, length, IfOk, OnErr};
+ghost use Rattle.fed_stamp.specs.declared.sites.TheConstants.{SITES};
 ghost use Rattle.fed_world.specs.declared.events.Event.{Event};
 ghost use Rattle.fed_world.specs.declared.events.Event.TheVariants.{Do, Ship, Take};
 ghost use Rattle.fed_world.specs.Kept.{AreReplicas, AreTexts};
@@ -24,7 +25,7 @@ pub(crate) fn act_at(
     who: &Who,
     command: &Command,
 ) -> Result<Outcome, NoMemory>
-    ensures done { IfOk result (λ o. (n : ℕ) (events : List Event) → n ≤ 16 → AreReplicas n (run n events) replicas.old →
+    ensures done { IfOk result (λ o. (n : ℕ) (events : List Event) → n ≤ SITES → AreReplicas n (run n events) replicas.old →
         (o ≡ (step n (run n events) (Do site who.now command.now)).outcome) ×
         AreReplicas n (step n (run n events) (Do site who.now command.now)).after replicas.new) }
     ensures unchanged { OnErr result (replicas.new ≡ replicas.old) }
@@ -50,7 +51,7 @@ pub(crate) fn ship_at(
     site: SiteId,
     to: SiteId,
 ) -> Result<Outcome, NoMemory>
-    ensures done { IfOk result (λ o. (n : ℕ) (events : List Event) → n ≤ 16 → AreRanged events →
+    ensures done { IfOk result (λ o. (n : ℕ) (events : List Event) → n ≤ SITES → AreRanged events →
         AreReplicas n (run n events) replicas.now → AreTexts (run n events).packets texts.old.items →
         (o ≡ (step n (run n events) (Ship site to)).outcome) ×
         AreTexts (step n (run n events) (Ship site to)).after.packets texts.new.items) }
@@ -76,7 +77,7 @@ pub(crate) fn take_at(
     site: SiteId,
     number: u64,
 ) -> Result<Outcome, NoMemory>
-    ensures done { IfOk result (λ o. (n : ℕ) (events : List Event) → n ≤ 16 → AreReplicas n (run n events) replicas.old →
+    ensures done { IfOk result (λ o. (n : ℕ) (events : List Event) → n ≤ SITES → AreReplicas n (run n events) replicas.old →
         AreTexts (run n events).packets texts.now →
         (o ≡ (step n (run n events) (Take site number)).outcome) ×
         AreReplicas n (step n (run n events) (Take site number)).after replicas.new) }
@@ -110,7 +111,7 @@ pub(crate) fn run_event(
     texts: &mut Vec<Text>,
     event: &Event,
 ) -> Result<Outcome, NoMemory>
-    ensures done { IfOk result (λ o. (n : ℕ) (events : List Event) → n ≤ 16 → AreRanged events →
+    ensures done { IfOk result (λ o. (n : ℕ) (events : List Event) → n ≤ SITES → AreRanged events →
         AreReplicas n (run n events) replicas.old → AreTexts (run n events).packets texts.old.items →
         (o ≡ (step n (run n events) event.now).outcome) ×
         AreReplicas n (step n (run n events) event.now).after replicas.new ×

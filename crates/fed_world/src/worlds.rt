@@ -1,5 +1,6 @@
 //! Worlds: all sites of a federation and the packets between them.
 ghost use Rattle.std.specs.Prelude.{◌≡◌, ◌<◌, ◌≤◌, ◌++◌, ◌∷◌, [], ℕ, length, IfOk, None, Some, OnOk, OnErr, MatchOption, option_copied, vec_capacity, vec_len};
+ghost use Rattle.fed_stamp.specs.declared.sites.TheConstants.{SITES};
 ghost use Rattle.fed_board.specs.Board.{reads};
 ghost use Rattle.fed_board.specs.View.{view};
 ghost use Rattle.fed_wire.specs.Limits.{IsWithinLimits};
@@ -43,7 +44,7 @@ impl Model for World {
 
 /// A replica for each site of the roster, that has no operation.
 fn new_replicas(alloc: Global, roster: &Roster) -> Result<Vec<Replica>, NoMemory>
-    ensures few { length roster.now ≤ 16 }
+    ensures few { length roster.now ≤ SITES }
     ensures replicas { IfOk result (λ v. AreReplicas (length roster.now) start v.items) }
 {
     let mut replicas = Vec::new(alloc);
