@@ -5,15 +5,12 @@ use Rattle.std.specs.List.{filter_map, list_all, list_any}
 use Rattle.std.proofs.lemmas.List.{take_more, map-append, length-map, get_or-map}
 use Rattle.std.proofs.lemmas.List.Elements.{filter_map-append}
 use Rattle.std.proofs.lemmas.List.Folds.{list_all-append, list_all_at}
+use Rattle.fed_words.proofs.Given.{when_some}
 use Rattle.fed_script.specs.Rosters.{site_of, sites_in}
-
-chosen : {T : Type 0} (b : Bool) (x y : T) → (if b then Some x else None) ≡ Some y → (b ≡ true) × (x ≡ y)
-chosen true x y e = (refl, cc)
-chosen false x y e = absurd cc
 
 more : (words : List (List ℕ)) (word : List ℕ) (sites : List (List ℕ × ℕ)) (site : List ℕ × ℕ) → sites_in words ≡ Some sites → site_of word ≡ Some site → sites_in (words ++ word ∷ []) ≡ Some (sites ++ site ∷ [])
 more words word sites site before here =
-    let parts = chosen (list_all (λ w. is_some (site_of w)) words) (filter_map site_of words) sites before in
+    let parts = when_some (list_all (λ w. is_some (site_of w)) words) (filter_map site_of words) sites before in
     let all : list_all (λ w. is_some (site_of w)) (words ++ word ∷ []) ≡ true = list_all-append (λ w. is_some (site_of w)) words (word ∷ []) ∙ rw (parts.0, here) refl in
     let named : filter_map site_of (words ++ word ∷ []) ≡ sites ++ site ∷ [] = filter_map-append site_of words (word ∷ []) ∙ rw (parts.1, here) refl in
     rw (all, named) refl

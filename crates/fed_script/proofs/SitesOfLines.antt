@@ -10,6 +10,7 @@ use Rattle.fed_record.specs.declared.askers.Who.{Who}
 use Rattle.fed_record.specs.declared.commands.Command.{Command}
 use Rattle.fed_words.specs.Fault.{Answer}
 use Rattle.fed_words.specs.Request.{Asked, acts as acts_of, list as list_of, request_in}
+use Rattle.fed_words.proofs.SiteNames.{found_in_range}
 use Rattle.fed_script.specs.declared.verbs.Verb.{Verb}
 use Rattle.fed_script.specs.declared.verbs.Verb.TheVariants.{Grant, Begin, Finish, HandBack, Ship, Take, Plan}
 use Rattle.fed_script.specs.Asker.{scheduler, who_in}
@@ -19,17 +20,9 @@ use Rattle.fed_script.specs.LineSites.{HasSites}
 use Rattle.fed_script.specs.Values.{moment, packet, site}
 use Rattle.fed_script.specs.Verb.{verb_named}
 
--- what is found in a range lies in it
-found_below : (test : ℕ → Bool) (a n i : ℕ) → find test (range_with_len a n) ≡ Some i → i < a + n
-found_below test a zero i e = cc
-found_below test a (suc n) i e = elim (cases_Bool (test a)) [
-  | inl t ↦ let same : a ≡ i = (let s = rw (t) at e in cc) in omega arith
-  | inr f ↦ let later : i < (a + 1) + n = found_below test (a + 1) n i (rw (f) at e) in omega arith
-]
-
 site_below : (roster : List (List ℕ × ℕ)) (word : List ℕ) (i : ℕ) → site roster word ≡ Some i → i < length roster
 site_below roster word i e =
-    let below : i < 0 + length roster = found_below (is_named roster word) 0 (length roster) i e in omega arith
+    let below = (found_in_range (is_named roster word) 0 (length roster) i e).1 in omega arith
 
 act_sites : (n here : ℕ) (who : Who) (command : Option Command) (line : Line) → here < n → act here who command ≡ Some line → HasSites n line
 act_sites n here who None line h e = cc

@@ -1,7 +1,7 @@
 -- What `parse` gives of a word of digits.
 use Rattle.std.proofs.Common.{◌≡◌, ◌≢◌, ℕ, ◌<◌, ◌-◌, ◌^◌, inl, inr, Bool, true, false, ◌&&◌, nat_lt, List, length, Some, None, Result, Ok, Err, refl, ap, sym, arith, rules, ℤ, pos, negsuc, FitsSigned}
 use Rattle.std.specs.Prelude.{if◌then◌else◌, option_and_then, slice_index}
-use Rattle.std.proofs.lemmas.Bool.{cases_lt}
+use Rattle.std.proofs.lemmas.Bool.{and_parts, cases_lt}
 use Rattle.std.specs.Char.{is_ascii_digit}
 use Rattle.std.specs.List.{list_all}
 use Rattle.std.specs.Result.{result_ok, OkIff}
@@ -16,10 +16,6 @@ use Rattle.fed_words.specs.Number.{is_numeral, is_within, number_in, decimal_in}
 
 numerals : IsNumeralModel (λ word. list_all is_ascii_digit word ≡ true) (digits_value 10)
 numerals = numerals_by_value (λ word. list_all is_ascii_digit word ≡ true) (search rules)
-
-both : (a b : Bool) → (a && b) ≡ true → (a ≡ true) × (b ≡ true)
-both true b e = (refl, e)
-both false b e = absurd cc
 
 within_64 : (value : ℕ) → value < 2 ^ 64 → is_within 0 (2 ^ 64 - 1) value ≡ true
 within_64 value h = grind (arith, nat_tests)
@@ -47,7 +43,7 @@ ok_within : {E : Type 0} (r : Result ℕ E) (few value : ℕ) (digits : Bool)
     → result_ok r ≡ (if (nat_lt 0 few && digits) && is_within 0 (2 ^ 64 - 1) value then Some value else None)
 ok_within (Ok x) few value digits h = rw (some few h.0.1, h.0.0, within_64 value h.0.2) (ap Some h.1)
 ok_within (Err y) few value digits h = sym (unless_both (nat_lt 0 few && digits) (is_within 0 (2 ^ 64 - 1) value) value
-    (λ numeral small. let parts = both (nat_lt 0 few) digits numeral in h (parts.1, ltb-true 0 few parts.0, small_64 value small)))
+    (λ numeral small. let parts = and_parts (nat_lt 0 few) digits numeral in h (parts.1, ltb-true 0 few parts.0, small_64 value small)))
 
 -- `parse` reads a word that doesn't begin with a plus sign
 pub number_in-parsed : {E : Type 0} (word : List ℕ) (r : Result ℕ E) → ParsesUnsigned 64 10 word r → slice_index word 0 ≢ 43
@@ -72,7 +68,7 @@ narrower least most n word small e = rw (← e) at (number_in-narrower least mos
 
 -- the form that `parse` asks for, of a word that is one or more digits
 numeral_parts : (word : List ℕ) → is_numeral word ≡ true → IsNumeral 10 word
-numeral_parts word e = let parts = both (nat_lt 0 (length word)) (list_all is_ascii_digit word) e in (ltb-true 0 (length word) parts.0, numerals.to word parts.1)
+numeral_parts word e = let parts = and_parts (nat_lt 0 (length word)) (list_all is_ascii_digit word) e in (ltb-true 0 (length word) parts.0, numerals.to word parts.1)
 
 pub parts_numeral : (word : List ℕ) → IsNumeral 10 word → is_numeral word ≡ true
 parts_numeral word h = let some : 0 < length word = h.0 in let tested : nat_lt 0 (length word) ≡ true = grind (arith, nat_tests) in rw (tested, numerals.from word h.1) refl

@@ -5,7 +5,7 @@ use Rattle.std.specs.List.{All, after_first, before_first, find, list_all, range
 use Rattle.std.specs.Option.{ok_or}
 use Rattle.std.specs.Str.{bytes_eq}
 use Rattle.std.specs.Str.Parse.{digits_value, signed_digits_value, without_leading_sign}
-use Rattle.std.proofs.lemmas.Bool.{cases_Bool}
+use Rattle.std.proofs.lemmas.Bool.{and_parts, cases_Bool}
 use Rattle.std.proofs.lemmas.List.Elements.{All-append, All-cons, All-from_recursion, All-head, All-nil, All-tail, All-weaker}
 use Rattle.std.proofs.lemmas.List.Splits.{length-slice_split}
 use Rattle.fed_stamp.specs.declared.rosters.TheConstants.{MAX_NODES}
@@ -41,7 +41,8 @@ use Rattle.fed_words.specs.Request.{Asked, jobs_in, named_jobs, once, request_in
 use Rattle.fed_words.specs.Askable.{CanBeAsked, HasJobs, IsJob, IsOption, IsResourceInRange, IsInRange, ResourceArgument, OptionArgument, account, full, held, item_of, kinds, name, nodes, priority, resource_of, resources, setting_of, sites, walltime}
 use Rattle.fed_words.proofs.Cuts.{map-itself}
 use Rattle.fed_words.proofs.Each.{each-length}
-use Rattle.fed_words.proofs.SiteNames.{find_passes}
+use Rattle.fed_words.proofs.Given.{option_map_some, when_some}
+use Rattle.fed_words.proofs.SiteNames.{found_in_range}
 
 bind_ok : {A B : Type 0} (a : Answer A) (f : A → Answer B) (y : B) → (a >>= f) ≡ Ok y → (x : A) × (a ≡ Ok x) × (f x ≡ Ok y)
 bind_ok (Ok x) f y e = (x, refl, e)
@@ -55,21 +56,9 @@ ok_or_ok : {A : Type 0} (o : Option A) (fault : UsageFault) (y : A) → ok_or o 
 ok_or_ok (Some x) fault y e = let same : x ≡ y = cc in ap Some same
 ok_or_ok None fault y e = absurd cc
 
-option_map_some : {A B : Type 0} (f : A → B) (o : Option A) (y : B) → option_map f o ≡ Some y → (x : A) × (o ≡ Some x) × (f x ≡ y)
-option_map_some f (Some x) y e = (x, refl, cc)
-option_map_some f None y e = absurd cc
-
 when_ok : {A : Type 0} (test : Bool) (a : Answer A) (fault : UsageFault) (y : A) → (if test then a else Err fault) ≡ Ok y → (test ≡ true) × (a ≡ Ok y)
 when_ok true a fault y e = (refl, e)
 when_ok false a fault y e = absurd cc
-
-when_some : {A : Type 0} (test : Bool) (x y : A) → (if test then Some x else None) ≡ Some y → (test ≡ true) × (x ≡ y)
-when_some true x y e = (refl, cc)
-when_some false x y e = absurd cc
-
-both : (a b : Bool) → (a && b) ≡ true → (a ≡ true) × (b ≡ true)
-both true b e = (refl, e)
-both false b e = absurd cc
 
 -- each value found is of a argument
 pub each_found : {W A B : Type 0} (says : A → Answer B) (means : W → B) (Q : W → Type 0) → ((x : A) (y : B) → says x ≡ Ok y → (w : W) × Q w × (means w ≡ y)) → (xs : List A) (ys : List B) → each says xs ≡ Ok ys → (ws : List W) × All Q ws × (map means ws ≡ ys)
@@ -85,12 +74,12 @@ each_found says means Q h (x ∷ xs) ys e =
 number_found : (least most n : ℕ) (word : List ℕ) → number_in least most word ≡ Some n → is_within least most n ≡ true
 number_found least most n word e =
     let found = when_some (is_numeral word && is_within least most (digits_value 10 word)) (digits_value 10 word) n e in
-    rw (← found.1) (both (is_numeral word) (is_within least most (digits_value 10 word)) found.0).1
+    rw (← found.1) (and_parts (is_numeral word) (is_within least most (digits_value 10 word)) found.0).1
 
 priority_found : (z : ℤ) (word : List ℕ) → priority_in word ≡ Some z → is_priority z ≡ true
 priority_found z word e =
     let found = when_some (is_numeral (without_leading_sign word) && is_priority (signed_digits_value 10 word)) (signed_digits_value 10 word) z e in
-    rw (← found.1) (both (is_numeral (without_leading_sign word)) (is_priority (signed_digits_value 10 word)) found.0).1
+    rw (← found.1) (and_parts (is_numeral (without_leading_sign word)) (is_priority (signed_digits_value 10 word)) found.0).1
 
 abbrev answer : ℕ → Answer ℕ
 answer n = Ok n
@@ -99,7 +88,7 @@ module _ (roster : List (List ℕ × ℕ)) where
   site_found : (malformed : UsageFault) (text : List ℕ) (site : ℕ) → site_in malformed roster text ≡ Ok site → site < length roster
   site_found malformed text site e =
       let formed = when_ok (is_site_name text) (ok_or (find (is_named roster text) (range_with_len 0 (length roster))) UnknownSite) malformed site e in
-      let found = find_passes (is_named roster text) 0 (length roster) site (ok_or_ok (find (is_named roster text) (range_with_len 0 (length roster))) UnknownSite site formed.1) in
+      let found = found_in_range (is_named roster text) 0 (length roster) site (ok_or_ok (find (is_named roster text) (range_with_len 0 (length roster))) UnknownSite site formed.1) in
       let below = found.1 in omega arith
 
   sites_found : (text : List ℕ) (set : List Bool) → sites_in roster text ≡ Ok set → (argument : ResourceArgument) × IsResourceInRange roster argument × (resource_of argument ≡ Resource.Sites set)
@@ -179,7 +168,7 @@ module _ (roster : List (List ℕ × ℕ)) where
   kinds_found [] found e = absurd cc
   kinds_found (b ∷ text) found e =
       let read = when_some (nat_lt 0 (length (b ∷ text)) && list_all is_kind_letter (b ∷ text)) (record { 0 = sum_of_bits (has_letter 117 (b ∷ text)) (has_letter 111 (b ∷ text)) (has_letter 115 (b ∷ text)) }) found e in
-      let letters = both (is_kind_letter b) (list_all is_kind_letter text) (both (nat_lt 0 (length (b ∷ text))) (list_all is_kind_letter (b ∷ text)) read.0).1 in (
+      let letters = and_parts (is_kind_letter b) (list_all is_kind_letter text) (and_parts (nat_lt 0 (length (b ∷ text))) (list_all is_kind_letter (b ∷ text)) read.0).1 in (
         kinds (has_letter 117 (b ∷ text)) (has_letter 111 (b ∷ text)) (has_letter 115 (b ∷ text)),
         any_kind (b == 117) (b == 111) (b == 115) (has_letter 117 text) (has_letter 111 text) (has_letter 115 text) letters.0,
         ap Setting.Kinds read.1,

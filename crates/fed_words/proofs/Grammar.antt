@@ -14,6 +14,7 @@ use Rattle.fed_words.specs.declared.utilities.Utility.TheVariants.{Qsub, Qalter,
 use Rattle.fed_words.specs.Spelling.{Item, Spelling, before, group, is_options, spelling, with_item}
 use Rattle.fed_words.specs.Syntax.{Argued, Ending, HasOption, IsEnding, IsLast, IsLine, IsOptionWord, Line, OptionWord, attached, bare, delimited, item_of_last, items_of_ending, items_of_flags, items_of_option, letters, missing, rest_of_ending, separate, unknown, words_behind, words_of_ending, words_of_line, words_of_option}
 use Rattle.fed_words.specs.Utility.{choice_of, choices, letter_of, takes_argument}
+use Rattle.fed_words.proofs.Given.{option_map_some}
 use Rattle.fed_words.proofs.Spellings.{Words, with_items}
 
 -- ---- lines are read
@@ -124,16 +125,12 @@ lettered Qrls = All-from_recursion (λ t. t.0 ≡ letter_of t.1) (choices Qrls) 
 lettered Qdel = All-from_recursion (λ t. t.0 ≡ letter_of t.1) (choices Qdel) tt
 lettered Qstat = All-from_recursion (λ t. t.0 ≡ letter_of t.1) (choices Qstat) (refl, tt)
 
-chosen : {A B : Type 0} (f : A → B) (o : Option A) (y : B) → option_map f o ≡ Some y → (x : A) × (o ≡ Some x) × (f x ≡ y)
-chosen f (Some x) y e = (x, refl, cc)
-chosen f None y e = absurd cc
-
 equal_from : (m n : ℕ) → (m == n) ≡ true → m ≡ n
 equal_from m n e = grind (arith, nat_tests)
 
 letter_from : (utility : Utility) (letter : ℕ) (option : Choice) → choice_of utility letter ≡ Some option → letter ≡ letter_of option
 letter_from utility letter option e =
-    let found = chosen (λ c. c.1) (find (λ c. letter == c.0) (choices utility)) option e in
+    let found = option_map_some (λ c. c.1) (find (λ c. letter == c.0) (choices utility)) option e in
     let at = find_passes (λ t. t.0 ≡ letter_of t.1) (λ c. letter == c.0) (choices utility) found.0 found.1 (lettered utility) in
     equal_from letter (found.0).0 at.0 ∙ at.1 ∙ ap letter_of found.2
 

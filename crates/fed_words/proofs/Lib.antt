@@ -8,6 +8,7 @@ pub mod Onces
 pub mod SiteSteps
 pub mod Answering
 pub mod Scenes
+pub mod Given
 pub mod Grammar
 pub mod Lines
 pub mod Cuts

@@ -2,14 +2,10 @@
 use Rattle.std.proofs.Common.{◌≡◌, ℕ, Bool, true, false, not, ◌&&◌, List, [], ◌∷◌, ◌++◌, filter, map, refl, ap, sym, ◌∙◌, arith, inl, inr}
 use Rattle.std.specs.Prelude.{◌==◌, if◌then◌else◌}
 use Rattle.std.specs.List.{list_any}
-use Rattle.std.proofs.lemmas.Bool.{cases_Bool}
+use Rattle.std.proofs.lemmas.Bool.{and_parts, cases_Bool}
 use Rattle.std.proofs.lemmas.Bool.Decides.{nat_tests}
 use Rattle.fed_stamp.specs.Stamp.{StampValue, same_stamp}
 use Rattle.fed_words.specs.Request.{once}
-
-both : (a b : Bool) → (a && b) ≡ true → (a ≡ true) × (b ≡ true)
-both true b e = (refl, e)
-both false b e = absurd cc
 
 eq_from : (m n : ℕ) → (m == n) ≡ true → m ≡ n
 eq_from m n e = grind (arith, nat_tests)
@@ -19,7 +15,7 @@ eq_itself n = grind (arith, nat_tests)
 
 pub same_from : (a b : StampValue) → same_stamp a b ≡ true → a ≡ b
 same_from a b e =
-    let parts = both (a.counter == b.counter) (a.site == b.site) e in
+    let parts = and_parts (a.counter == b.counter) (a.site == b.site) e in
     let counters : a.counter ≡ b.counter = eq_from a.counter b.counter parts.0 in
     let sites : a.site ≡ b.site = eq_from a.site b.site parts.1 in
     λ i. record { counter = counters i; site = sites i }

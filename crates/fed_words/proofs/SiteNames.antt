@@ -8,18 +8,18 @@ use Rattle.fed_words.specs.declared.faults.UsageFault.{UsageFault}
 use Rattle.fed_words.specs.Site.{site_in, site_named}
 
 -- what is found in a range passes, and lies in it
-pub find_passes : (test : ℕ → Bool) (a n k : ℕ) → find test (range_with_len a n) ≡ Some k → (test k ≡ true) × (k < a + n)
-find_passes test a zero k e = absurd cc
-find_passes test a (suc n) k e = elim (cases_Bool (test a)) [
+pub found_in_range : (test : ℕ → Bool) (a n k : ℕ) → find test (range_with_len a n) ≡ Some k → (test k ≡ true) × (k < a + n)
+found_in_range test a zero k e = absurd cc
+found_in_range test a (suc n) k e = elim (cases_Bool (test a)) [
   | inl here ↦ let same : Some a ≡ Some k = (rw here at e) in let eq : a ≡ k = cc in (subst (λ i. test i ≡ true) eq here, omega arith)
-  | inr later ↦ let rest = find_passes test (a + 1) n k (rw later at e) in (rest.0, let within = rest.1 in omega arith)
+  | inr later ↦ let rest = found_in_range test (a + 1) n k (rw later at e) in (rest.0, let within = rest.1 in omega arith)
 ]
 
 pub site_in-named : (malformed : UsageFault) (roster : List (List ℕ × ℕ)) → IsRoster roster → (name : List ℕ) (site : ℕ)
     → site_named roster name ≡ Some site
     → site_in malformed roster name ≡ Ok site
 site_in-named malformed roster lawful name site e =
-    let found = find_passes (is_named roster name) 0 (length roster) site e in
+    let found = found_in_range (is_named roster name) 0 (length roster) site e in
     let below : site < length roster = let within = found.1 in omega arith in
     let same = same_text (name_at roster site) name (sym found.0) in
     let formed = subst (λ text. is_site_name text ≡ true) same (lawful.named site ([], 0) below) in
