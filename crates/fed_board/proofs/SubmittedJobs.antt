@@ -1,7 +1,7 @@
 -- Jobs that are submitted stay so.
 use Rattle.std.specs.Option.{option_cmp}
 use Rattle.std.specs.Ordering.{is_lt, nat_cmp, int_cmp}
-use Rattle.std.proofs.Common.{◌≡◌, ℕ, List, Bool, true, false, cond, ◌&&◌, Option, Some, None, is_some, Ordering, refl, ap₂}
+use Rattle.std.proofs.Common.{◌≡◌, ℕ, List, Bool, true, false, cond, Option, Some, None, is_some, Ordering, refl}
 use Rattle.std.proofs.lemmas.Bool.{and_parts}
 use Rattle.fed_stamp.specs.Stamp.{StampValue}
 use Rattle.fed_lattice.specs.ExactLaws.{and_both}

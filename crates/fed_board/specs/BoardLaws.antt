@@ -1,5 +1,5 @@
 -- That equality of boards tells all boards apart.
-use Rattle.std.specs.Prelude.{◌≡◌, ◌&&◌, nat_eq, Bool, List}
+use Rattle.std.specs.Prelude.{◌&&◌, nat_eq, Bool, List}
 use Rattle.std.specs.Cmp.{IsPartialEquivalence, both_ways}
 use Rattle.std.specs.Cmp.Lexicographic.{pointwise}
 use Rattle.std.proofs.Common.{ap, sym, ◌∙◌}

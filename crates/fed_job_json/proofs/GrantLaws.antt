@@ -1,23 +1,21 @@
 -- Stages of grants are read as what they are the values of.
-use Rattle.std.proofs.Common.{◌≡◌, length, ℕ, Bool, true, false, cond, List, [], ◌∷◌, Option, Some, None, Ok, Err, refl, sym, ap, subst, ◌∙◌, arith}
+use Rattle.std.proofs.Common.{◌≡◌, length, ℕ, false, List, [], ◌∷◌, Ok, Err, refl, sym, ap, subst, ◌∙◌, arith}
 use Rattle.std.specs.Prelude.{codes, is_some}
 use Rattle.serde_json.specs.Find.{as_null}
-use Rattle.serde_json.specs.Data.{Data, string}
-use Rattle.fed_stamp.specs.Stamp.{StampValue}
+use Rattle.serde_json.specs.Data.{Data}
 use Rattle.fed_record.specs.declared.grants.GrantStage.{GrantStage}
 use Rattle.fed_record.specs.declared.grants.GrantStage.TheVariants.{Open, Returned}
 use Rattle.fed_record.specs.declared.terms.TheConstants.{MAX_TERM}
 use Rattle.fed_json.specs.declared.flaws.Flaw.TheVariants.{Shape}
-use Rattle.fed_json.specs.Reading.{Reading, both}
+use Rattle.fed_json.specs.Reading.{both}
 use Rattle.fed_json.specs.Values.{list_value, elements_of, is_word}
-use Rattle.fed_json.specs.Numbers.{natural_value}
 use Rattle.fed_json.specs.Forms.{IsForm}
-use Rattle.fed_json.proofs.Steps.{bind_ok, mapped_ok, both_ok, when_ok, ok_is}
+use Rattle.fed_json.proofs.Steps.{bind_ok, mapped_ok, both_ok, when_ok}
 use Rattle.fed_json.proofs.NumberLaws.{natural_form}
 use Rattle.fed_json.proofs.FormLaws.{elements_takes, word_takes, or_null_form}
 use Rattle.fed_job_json.specs.declared.formats.Format.{Format}
 use Rattle.fed_job_json.specs.declared.formats.Format.TheVariants.{One, Two}
-use Rattle.fed_job_json.specs.Stamps.{stamp_value, stamp_of, site_of}
+use Rattle.fed_job_json.specs.Stamps.{stamp_of, site_of}
 use Rattle.fed_job_json.specs.Grants.{stage_value, term_of, open_of, returned_of, stage_from, stage_of, IsStage, grant_value, grant_of, IsGrant}
 use Rattle.fed_job_json.proofs.StampLaws.{site_form, stamp_form}
 

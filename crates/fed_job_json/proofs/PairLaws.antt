@@ -1,14 +1,13 @@
 -- Live pairs are read as what they are the values of.
-use Rattle.std.proofs.Common.{◌≡◌, ℕ, Bool, true, false, cond, List, [], ◌∷◌, map, Ok, Err, refl, subst, ◌∙◌, sym, ap}
-use Rattle.std.specs.Prelude.{codes, ◌&&◌}
+use Rattle.std.proofs.Common.{◌≡◌, Bool, true, false, cond, List, [], ◌∷◌, Ok, Err, refl, subst}
+use Rattle.std.specs.Prelude.{codes}
 use Rattle.std.specs.List.{AllByRecursion, list_all}
 use Rattle.std.specs.List.Sorted.{IsStrictlySortedBy}
 use Rattle.std.specs.declared.cmp.Ordering.{Ordering}
 use Rattle.std.specs.declared.cmp.Ordering.TheVariants.{Less, Equal, Greater}
 use Rattle.std.specs.Ordering.{is_lt, nat_cmp}
-use Rattle.std.proofs.lemmas.Bool.{and_parts, and_from}
+use Rattle.std.proofs.lemmas.Bool.{and_parts}
 use Rattle.serde_json.specs.Data.{Data}
-use Rattle.fed_stamp.specs.Stamp.{StampValue}
 use Rattle.fed_tags.specs.Tags.{pair_cmp}
 use Rattle.fed_record.specs.declared.holds.HoldKind.{HoldKind}
 use Rattle.fed_record.specs.declared.holds.HoldKind.TheVariants.{User, Operator, System}
@@ -16,7 +15,7 @@ use Rattle.fed_record.specs.Hold.{kind_cmp}
 use Rattle.fed_json.specs.declared.flaws.Flaw.TheVariants.{Shape}
 use Rattle.fed_json.specs.Reading.{Reading}
 use Rattle.fed_json.specs.Numbers.{natural_value}
-use Rattle.fed_json.specs.Values.{list_value, is_word, pair_of, pair_value, array_of}
+use Rattle.fed_json.specs.Values.{is_word, pair_of, pair_value, array_of}
 use Rattle.fed_json.specs.Forms.{IsForm}
 use Rattle.fed_json.proofs.Steps.{ok_is}
 use Rattle.fed_json.proofs.FormLaws.{pair_form, array_form, tested_form, word_takes}

@@ -1,14 +1,13 @@
 -- How far a job has come is read as what it is the value of.
-use Rattle.std.proofs.Common.{◌≡◌, length, ℕ, ◌<◌, Bool, true, false, cond, ltb, List, [], ◌∷◌, Option, Some, None, Ok, Err, refl, sym, ap, subst, ◌∙◌, arith}
+use Rattle.std.proofs.Common.{◌≡◌, length, ℕ, ◌<◌, true, false, ltb, List, [], ◌∷◌, Option, Some, None, Ok, Err, refl, sym, ap, subst, ◌∙◌, arith}
 use Rattle.std.specs.Prelude.{codes, is_some, IfSome}
 use Rattle.serde_json.specs.Data.{Data, string}
 use Rattle.serde_json.specs.Find.{as_null}
 use Rattle.fed_stamp.specs.declared.rosters.TheConstants.{MAX_NODES}
 use Rattle.fed_record.specs.declared.moments.TheConstants.{MAX_END, MAX_MOMENT}
 use Rattle.fed_record.specs.declared.progress.TheConstants.{MAX_STATUS}
-use Rattle.fed_record.specs.declared.progress.Beginning.{Beginning}
 use Rattle.fed_json.specs.declared.flaws.Flaw.TheVariants.{Shape}
-use Rattle.fed_json.specs.Reading.{Reading, ◌>>=◌, mapped, both, where_true}
+use Rattle.fed_json.specs.Reading.{mapped, both, where_true}
 use Rattle.fed_json.specs.Values.{list_value, elements_of, is_word, or_null, null_or}
 use Rattle.fed_json.specs.Numbers.{natural_value, natural_in}
 use Rattle.fed_json.specs.Forms.{IsForm}

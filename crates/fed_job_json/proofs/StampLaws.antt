@@ -1,5 +1,5 @@
 -- Sites, stamps and versions are read as what they are the values of.
-use Rattle.std.proofs.Common.{◌≡◌, ◌-◌, refl}
+use Rattle.std.proofs.Common.{◌-◌, refl}
 use Rattle.fed_stamp.specs.declared.sites.TheConstants.{SITES}
 use Rattle.fed_stamp.specs.declared.stamps.TheConstants.{MAX_COUNTER}
 use Rattle.fed_json.specs.Numbers.{natural_value, natural_in, IsFrom}

@@ -1,11 +1,10 @@
 -- Versions that are read.
-use Rattle.std.proofs.Common.{◌≡◌, ℕ, suc, zero, ◌≤◌, ◌<◌, eqb, true, cond, length, List, [], ◌∷◌, Option, Some, None, Ok, Err, refl, sym, ap, ◌∙◌, arith}
+use Rattle.std.proofs.Common.{◌≡◌, ℕ, suc, zero, ◌≤◌, eqb, true, length, List, [], ◌∷◌, Option, Some, None, Ok, refl, sym, ap, ◌∙◌, arith}
 use Rattle.std.specs.Prelude.{All, IsSome, IfSome}
 use Rattle.std.specs.Option.{ok_or}
 use Rattle.std.specs.List.{AllByRecursion}
 use Rattle.serde_json.specs.Data.{Data}
 use Rattle.fed_stamp.specs.declared.stamps.TheConstants.{MAX_COUNTER}
-use Rattle.fed_json.specs.declared.flaws.Flaw.{Flaw}
 use Rattle.fed_json.specs.declared.flaws.Flaw.TheVariants.{Range}
 use Rattle.fed_json.specs.Numbers.{natural_value, natural_in, IsFrom}
 use Rattle.fed_json.specs.Values.{elements_of, all_of}

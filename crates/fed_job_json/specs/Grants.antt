@@ -1,7 +1,6 @@
 -- The stage of a job's grants as a JSON value. In format 1 an open grant is one of term 1.
-use Rattle.std.specs.Prelude.{◌≡◌, ℕ, List, [], ◌∷◌, codes, if◌then◌else◌, Option, IfSome, Ok, Err}
-use Rattle.serde_json.specs.Data.{Data, null, string}
-use Rattle.fed_stamp.specs.Stamp.{StampValue}
+use Rattle.std.specs.Prelude.{◌≡◌, ℕ, List, [], ◌∷◌, codes, if◌then◌else◌, Option, IfSome, Err}
+use Rattle.serde_json.specs.Data.{Data, string}
 use Rattle.fed_record.specs.declared.grants.GrantStage.{GrantStage}
 use Rattle.fed_record.specs.declared.grants.GrantStage.TheVariants.{Open, Returned}
 use Rattle.fed_record.specs.declared.terms.TheConstants.{MAX_TERM}

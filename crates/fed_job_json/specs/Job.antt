@@ -1,11 +1,10 @@
 -- Jobs as JSON values: a name and a record.
-use Rattle.std.specs.Prelude.{◌≡◌, ℕ, true, List, [], ◌∷◌, ◌++◌, codes, map, if◌then◌else◌, Option, Some, None, Err}
+use Rattle.std.specs.Prelude.{◌≡◌, ℕ, true, List, [], ◌∷◌, ◌++◌, codes, if◌then◌else◌, Option, Some, None, Err}
 use Rattle.std.specs.Ordering.{nat_cmp}
 use Rattle.serde_json.specs.Data.{Data, boolean, string}
 use Rattle.fed_stamp.specs.Stamp.{StampValue}
 use Rattle.fed_record.specs.Hold.{kind_cmp}
 use Rattle.fed_record.specs.JobRecord.{JobRecordValue, FieldsValue, StagesValue, reads}
-use Rattle.fed_record.specs.Record.{RecordValue}
 use Rattle.fed_json.specs.declared.flaws.Flaw.TheVariants.{Shape}
 use Rattle.fed_json.specs.Reading.{Reading, ◌>>=◌, mapped, both, where_true}
 use Rattle.fed_json.specs.Numbers.{natural_value, integer_value, IsFrom}
@@ -13,14 +12,13 @@ use Rattle.fed_json.specs.Values.{truth_of}
 use Rattle.fed_json.specs.Objects.{Named, object_value, has_names, member_of}
 use Rattle.fed_stamp.specs.declared.rosters.TheConstants.{MAX_NODES}
 use Rattle.fed_record.specs.declared.limits.TheConstants.{MAX_LIMIT}
-use Rattle.fed_record.specs.declared.grants.GrantStage.{GrantStage}
 use Rattle.fed_record.specs.declared.holds.HoldKind.{HoldKind}
 use Rattle.fed_job_json.specs.declared.formats.Format.{Format}
 use Rattle.fed_job_json.specs.declared.formats.Format.TheVariants.{One, Two}
 use Rattle.fed_job_json.specs.Stamps.{stamp_value, stamp_of, IsStamp, version_value, version_of, IsVersion, IsSite}
 use Rattle.fed_job_json.specs.Fields.{field_value, field_of, IsField, name_of, IsName, priority_of, IsPriority, nodes_of, limit_of, account_value, account_in, IsAccount}
 use Rattle.fed_job_json.specs.Grants.{grant_value, grant_of, IsGrant}
-use Rattle.fed_job_json.specs.Progress.{Steps, progress_value, progress_of, IsProgress}
+use Rattle.fed_job_json.specs.Progress.{progress_value, progress_of, IsProgress}
 use Rattle.fed_job_json.specs.Pairs.{holds_value, holds_of, sites_value, sites_of, ArePairs}
 use Rattle.fed_job_json.specs.Covers.{covers_job}
 

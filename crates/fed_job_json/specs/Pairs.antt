@@ -1,7 +1,6 @@
 -- The live pairs of a job's holds and sites as JSON values.
 use Rattle.std.specs.Prelude.{◌≡◌, ℕ, Bool, true, ◌&&◌, List, [], ◌∷◌, codes, map, if◌then◌else◌, Ok, Err}
 use Rattle.std.specs.List.{AllByRecursion, list_all}
-use Rattle.std.specs.List.Sorted.{IsStrictlySortedBy}
 use Rattle.std.specs.declared.cmp.Ordering.{Ordering}
 use Rattle.std.specs.Ordering.{is_lt, nat_cmp}
 use Rattle.serde_json.specs.Data.{Data, string}
@@ -14,7 +13,7 @@ use Rattle.fed_json.specs.declared.flaws.Flaw.TheVariants.{Shape}
 use Rattle.fed_json.specs.Reading.{Reading, ◌>>=◌, where_true}
 use Rattle.fed_json.specs.Numbers.{natural_value}
 use Rattle.fed_json.specs.Values.{list_value, is_word, pair_of, pair_value, array_of}
-use Rattle.fed_job_json.specs.Stamps.{stamp_value, stamp_of, IsStamp, site_of, IsSite}
+use Rattle.fed_job_json.specs.Stamps.{stamp_value, stamp_of, IsStamp, site_of}
 
 -- each is below all that come after it
 abbrev pub ascends : {A : Type 0} → (A → A → Ordering) → List A → Bool

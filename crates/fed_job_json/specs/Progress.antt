@@ -1,5 +1,5 @@
 -- The Begin and the Finish of a job as a JSON value.
-use Rattle.std.specs.Prelude.{ℕ, ◌<◌, Bool, nat_lt, List, [], ◌∷◌, codes, if◌then◌else◌, Option, Some, None, Err}
+use Rattle.std.specs.Prelude.{◌<◌, Bool, nat_lt, List, [], ◌∷◌, codes, if◌then◌else◌, Option, Some, None, Err}
 use Rattle.serde_json.specs.Data.{Data, null, string}
 use Rattle.fed_stamp.specs.Stamp.{StampValue}
 use Rattle.fed_stamp.specs.declared.rosters.TheConstants.{MAX_NODES}
@@ -10,7 +10,7 @@ use Rattle.fed_record.specs.declared.progress.Ending.{Ending}
 use Rattle.fed_json.specs.declared.flaws.Flaw.TheVariants.{Shape}
 use Rattle.fed_json.specs.Reading.{Reading, ◌>>=◌, mapped, both, where_true}
 use Rattle.fed_json.specs.Numbers.{natural_value, natural_in, IsFrom}
-use Rattle.fed_json.specs.Values.{list_value, elements_of, is_word, or_null, null_or}
+use Rattle.fed_json.specs.Values.{list_value, elements_of, is_word, or_null}
 use Rattle.fed_job_json.specs.Stamps.{stamp_value, stamp_of, IsStamp}
 
 abbrev pub Begun : Type 0

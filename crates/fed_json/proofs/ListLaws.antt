@@ -5,7 +5,6 @@ use Rattle.std.proofs.lemmas.List.{drop_all, append-nil}
 use Rattle.serde_json.specs.Data.{Data}
 use Rattle.serde_json.specs.View.{view}
 use Rattle.serde_json.specs.declared.value.Value.{Value}
-use Rattle.fed_json.specs.declared.flaws.Flaw.{Flaw}
 use Rattle.fed_json.specs.declared.flaws.Flaw.TheVariants.{Shape, Range}
 use Rattle.fed_json.specs.Reading.{Reading, mapped, both}
 use Rattle.fed_json.specs.Values.{all_of}

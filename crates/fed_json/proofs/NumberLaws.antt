@@ -1,7 +1,7 @@
 -- Whole numbers are read as what they are the values of.
-use Rattle.std.proofs.Common.{◌≡◌, ℕ, ◌≤◌, Bool, true, false, cond, leb, Ok, refl, ap, arith}
+use Rattle.std.proofs.Common.{◌≡◌, ℕ, ◌≤◌, true, leb, Ok, refl, arith}
 use Rattle.std.specs.Prelude.{ℤ, pos, negsuc, ◌&&◌}
-use Rattle.std.proofs.lemmas.Bool.{and_parts, and_from}
+use Rattle.std.proofs.lemmas.Bool.{and_parts}
 use Rattle.serde_json.specs.Data.{Data, null, boolean, number, string, array, object, unsigned, negative, float}
 use Rattle.fed_json.specs.declared.flaws.Flaw.TheVariants.{Range}
 use Rattle.fed_json.specs.Numbers.{natural_value, integer_value, natural_in, integer_of, IsFrom}

@@ -1,6 +1,5 @@
 -- Arrays of so many values in memory.
-use Rattle.std.proofs.Common.{◌≡◌, length, map, List, [], ◌∷◌, slice_index_or, refl, sym, arith}
-use Rattle.serde_json.specs.Data.{Data}
+use Rattle.std.proofs.Common.{◌≡◌, length, map, List, [], ◌∷◌, slice_index_or, refl, arith}
 use Rattle.serde_json.specs.View.{view}
 use Rattle.serde_json.specs.declared.value.Value.{Value}
 

@@ -1,12 +1,12 @@
 -- What a board tells that stands for a set within limits is a packet within limits.
-use Rattle.std.specs.Prelude.{filter, count_by, is_some, IfSome, MatchOption}
+use Rattle.std.specs.Prelude.{filter, is_some, IfSome}
 use Rattle.std.specs.BTreeMap.{is_at}
 use Rattle.std.specs.Cmp.{nat_cmp_total}
-use Rattle.std.specs.List.{AllByRecursion, Contains}
+use Rattle.std.specs.List.{AllByRecursion}
 use Rattle.std.specs.List.Sorted.{IsStrictlySortedBy}
 use Rattle.std.specs.Map.{keys_of, values_of, lookup}
 use Rattle.std.specs.Ordering.{nat_cmp}
-use Rattle.std.proofs.Common.{◌≡◌, ◌==◌, ◌≤◌, ◌<◌, ◌+◌, ◌&&◌, ℕ, List, [], ◌∷◌, Bool, true, false, cond, length, All, Option, Some, None, unwrap_or, refl, sym, ap, subst, ◌∙◌, arith, inl, inr}
+use Rattle.std.proofs.Common.{◌≡◌, ◌==◌, ◌≤◌, ◌<◌, ◌+◌, ◌&&◌, ℕ, List, [], ◌∷◌, Bool, true, false, cond, All, Option, Some, None, unwrap_or, refl, sym, ap, subst, ◌∙◌, arith, inl, inr}
 use Rattle.std.proofs.lemmas.Bool.{and_parts, and_from}
 use Rattle.std.proofs.lemmas.Cmp.{eq_by_cmp_equiv}
 use Rattle.std.proofs.lemmas.List.Elements.{All-head, All-tail, All-weaker, All-contains_itself}
@@ -29,7 +29,7 @@ use Rattle.fed_tags.specs.TagLaws.{pair_total, exact_pair, has_member}
 use Rattle.fed_stamp.specs.declared.rosters.TheConstants.{MAX_NODES}
 use Rattle.fed_record.specs.declared.limits.TheConstants.{MAX_LIMIT}
 use Rattle.fed_record.specs.Body.{Body, Body.Submit, Body.Reserve, is_of_job, of_job, is_of_reservation, of_reservation}
-use Rattle.fed_record.specs.Field.{owner_in, name_in, priority_in, nodes_in, limit_in, account_in, begin_in, finish_in, window_in, field}
+use Rattle.fed_record.specs.Field.{owner_in, name_in, priority_in, nodes_in, limit_in, account_in, window_in, field}
 use Rattle.fed_record.specs.Hold.{kind_cmp}
 use Rattle.fed_record.specs.HoldLaws.{kind_total, exact_kind}
 use Rattle.fed_record.specs.JobRecord.{JobRecordValue, reads as reads_job}
@@ -39,7 +39,7 @@ use Rattle.fed_record.specs.Pairs.{adds_site, removes_site, adds_hold, removes_h
 use Rattle.fed_record.specs.Reservation.{ReservationView}
 use Rattle.fed_lattice.specs.ExactLaws.{same_stamp_itself}
 use Rattle.fed_board.specs.Board.{BoardValue, IsBoard, IsKnownJob, IsKnownReservation, no_operation, reads}
-use Rattle.fed_board.specs.CoveredJob.{IsCoveredAt, AreCoveredPairs}
+use Rattle.fed_board.specs.CoveredJob.{IsCoveredAt}
 use Rattle.fed_board.specs.Counts.{names_of}
 use Rattle.fed_board.specs.Lawful.{IsLawful}
 use Rattle.fed_board.specs.Names.{covered_stamps, jobs_in, reservations_in}
@@ -50,14 +50,14 @@ use Rattle.fed_board.proofs.SubmitLaws.{submit_of, reserve_of}
 use Rattle.fed_delta.specs.Cut.{cut, is_changed_job, is_changed_reservation}
 use Rattle.fed_json.specs.Numbers.{IsFrom}
 use Rattle.fed_job_json.specs.declared.formats.Format.TheVariants.{Two}
-use Rattle.fed_job_json.specs.Covers.{covers_at, covers_field, covers_pairs, covers_job}
+use Rattle.fed_job_json.specs.Covers.{covers_at, covers_pairs, covers_job}
 use Rattle.fed_job_json.specs.Fields.{IsField, IsName, IsPriority, IsAccount}
-use Rattle.fed_job_json.specs.Job.{Job, IsJob, IsJobIn}
-use Rattle.fed_job_json.specs.Stamps.{IsSite, IsStamp, IsVersion}
+use Rattle.fed_job_json.specs.Job.{IsJob, IsJobIn}
+use Rattle.fed_job_json.specs.Stamps.{IsSite, IsVersion}
 use Rattle.fed_wire.specs.Limits.{IsInRange, IsWithinLimits}
-use Rattle.fed_wire.specs.Packet.{PacketValue, IsPacket, AllStand, job_stands, reservation_stands, may_stand, covers_window}
-use Rattle.fed_wire.specs.Reservations.{Reserved, IsReservation, IsWindow}
-use Rattle.fed_wire.proofs.RangeLaws.{owner_ranged, name_ranged, priority_ranged, nodes_ranged, limit_ranged, account_ranged, window_ranged, added_site, set_field, grant_is, version_is, pairs_are, progress_is, of_all, field_ranged}
+use Rattle.fed_wire.specs.Packet.{PacketValue, IsPacket, job_stands, reservation_stands, covers_window}
+use Rattle.fed_wire.specs.Reservations.{IsReservation, IsWindow}
+use Rattle.fed_wire.proofs.RangeLaws.{owner_ranged, name_ranged, priority_ranged, nodes_ranged, limit_ranged, account_ranged, window_ranged, added_site, set_field, grant_is, version_is, pairs_are, progress_is, of_all}
 use Rattle.fed_wire.proofs.StandingLaws.{all_stand}
 
 -- ---- stamps that are covered, by the tests of packets

@@ -2,11 +2,11 @@
 use Rattle.std.specs.Prelude.{IfSome, is_some, nat_lt}
 use Rattle.std.specs.List.{AllByRecursion, list_any, list_all}
 use Rattle.std.specs.List.Sorted.{IsStrictlySortedBy}
-use Rattle.std.specs.Ordering.{is_lt, nat_cmp}
-use Rattle.std.specs.Cmp.{IsTotalOrder, nat_cmp_total}
-use Rattle.std.proofs.Common.{◌≡◌, ◌≤◌, ◌<◌, ℕ, zero, suc, List, [], ◌∷◌, Bool, true, false, ◌&&◌, Option, Some, None, Ordering, Less, refl, sym, ap, subst, ◌∙◌, arith, inl, inr}
+use Rattle.std.specs.Ordering.{is_lt}
+use Rattle.std.specs.Cmp.{IsTotalOrder}
+use Rattle.std.proofs.Common.{◌≡◌, ◌≤◌, ◌<◌, ℕ, suc, List, [], ◌∷◌, Bool, true, false, ◌&&◌, Option, Some, None, Ordering, Less, refl, sym, ap, subst, ◌∙◌, arith, inl, inr}
 use Rattle.std.proofs.lemmas.Bool.{and_parts, and_from, ltb-true}
-use Rattle.std.proofs.lemmas.Map.Lookups.{CmpEqualImpliesEq, exact_unsigned}
+use Rattle.std.proofs.lemmas.Map.Lookups.{CmpEqualImpliesEq}
 use Rattle.fed_stamp.specs.Stamp.{StampValue, same_stamp}
 use Rattle.fed_stamp.specs.Version.{counter_of}
 use Rattle.fed_stamp.specs.declared.rosters.TheConstants.{MAX_NODES}
@@ -20,15 +20,13 @@ use Rattle.fed_lattice.proofs.VersionOfLaws.{length-version_of, version_of-most}
 use Rattle.fed_tags.specs.Tags.{pair_cmp, has}
 use Rattle.fed_tags.specs.TagLaws.{pair_total, exact_pair, has_member}
 use Rattle.fed_record.specs.declared.grants.GrantStage.{GrantStage}
-use Rattle.fed_record.specs.declared.holds.HoldKind.{HoldKind}
 use Rattle.fed_record.specs.declared.limits.TheConstants.{MAX_LIMIT}
 use Rattle.fed_record.specs.declared.progress.Beginning.{Beginning}
 use Rattle.fed_record.specs.declared.progress.Ending.{Ending}
-use Rattle.fed_record.specs.declared.windows.Window.{Window}
 use Rattle.fed_record.specs.Body.{Body, Body.Submit, Body.Set, Body.Hold, Body.Release, Body.Delete, Body.Grant, Body.HandBack, Body.Begin, Body.Finish, Body.Reserve, Body.Cancel, is_of_job, of_job}
 use Rattle.fed_record.specs.Field.{owner_in, name_in, priority_in, nodes_in, limit_in, account_in, begin_in, finish_in, window_in, field}
 use Rattle.fed_record.specs.Grant.{grant_in, grant_stage}
-use Rattle.fed_record.specs.Pairs.{adds_pair, adds_site, adds_hold, is_live, is_site_named}
+use Rattle.fed_record.specs.Pairs.{adds_pair, adds_site, is_live, is_site_named}
 use Rattle.fed_record.proofs.FoundLaws.{field_found, grant_found, said_found}
 use Rattle.fed_lattice.specs.ExactLaws.{same_stamp_itself}
 use Rattle.fed_lattice.specs.ExactLaws.{same_stamp_is}

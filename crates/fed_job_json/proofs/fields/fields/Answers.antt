@@ -2,7 +2,7 @@ use Rattle.std.proofs.Common.{◌≡◌, ap, sym, ◌∙◌, refl}
 use Rattle.serde_json.specs.View.{view}
 use Rattle.fed_json.specs.Reading.{mapped, both}
 use Rattle.fed_job_json.specs.Parts.{fields_value}
-use Rattle.fed_job_json.proofs.PartLaws.{all_fields, fields_read}
+use Rattle.fed_job_json.proofs.PartLaws.{fields_read}
 use Rattle.fed_job_json.proofs.fields.fields.Goals as goal
 
 pub returns-in-Ok : goal.returns-in-Ok

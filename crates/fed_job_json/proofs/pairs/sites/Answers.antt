@@ -1,10 +1,8 @@
 use Rattle.std.proofs.Common.{◌≡◌, map, true, sym, ap, ◌∙◌}
 use Rattle.std.specs.Ordering.{nat_cmp}
 use Rattle.serde_json.specs.View.{view}
-use Rattle.fed_record.specs.Hold.{kind_cmp}
 use Rattle.fed_json.specs.Reading.{mapped}
 use Rattle.fed_job_json.specs.Stamps.{site_of}
-use Rattle.fed_job_json.specs.Pairs.{kind_of}
 use Rattle.fed_job_json.proofs.JobReads.{pairs_then, pairs_else}
 use Rattle.fed_job_json.proofs.pairs.sites.Goals as goal
 

@@ -1,4 +1,3 @@
-use Rattle.std.proofs.Common.{◌≡◌, sym}
 use Rattle.fed_json.proofs.RowLaws.{eight_are}
 use Rattle.fed_job_json.proofs.progress.eight.Goals as goal
 

@@ -1,11 +1,8 @@
-use Rattle.std.proofs.Common.{◌≡◌, ◌≤◌, map, length, ℕ, ◌<◌, ◌+◌, ◌++◌, drop, slice_set, take, Bool, true, false, List, ◌∷◌, [], Ok, Err, refl, sym, ap, ◌∙◌, subst, arith}
+use Rattle.std.proofs.Common.{◌≡◌, ◌≤◌, length, ℕ, ◌<◌, ◌+◌, ◌++◌, slice_set, take, Bool, List, ◌∷◌, [], Err, refl, sym, ◌∙◌, arith}
 use Rattle.std.proofs.lemmas.List.{take_more_set, take_all, length-set}
-use Rattle.serde_json.specs.Data.{Data}
 use Rattle.serde_json.specs.View.{view}
-use Rattle.serde_json.specs.declared.value.Value.{Value}
 use Rattle.fed_json.specs.declared.flaws.Flaw.TheVariants.{Shape}
 use Rattle.fed_json.specs.Numbers.{natural_in}
-use Rattle.fed_json.specs.Values.{all_of}
 use Rattle.fed_json.specs.Reading.{Reading}
 use Rattle.fed_json.proofs.ListLaws.{after, after_none, step_good, step_range, step_shape, end_good, end_bad}
 use Rattle.fed_stamp.specs.declared.stamps.TheConstants.{MAX_COUNTER}

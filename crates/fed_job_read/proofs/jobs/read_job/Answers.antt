@@ -1,4 +1,4 @@
-use Rattle.std.proofs.Common.{◌≡◌, true, Ok, sym, ap, ◌∙◌}
+use Rattle.std.proofs.Common.{Ok, sym, ap, ◌∙◌}
 use Rattle.serde_json.specs.View.{view}
 use Rattle.fed_json.specs.Reading.{mapped}
 use Rattle.fed_job_json.specs.Parts.{job_from}

@@ -1,4 +1,3 @@
-use Rattle.std.proofs.Common.{◌≡◌}
 use Rattle.std.specs.Ordering.{nat_cmp}
 use Rattle.fed_tags.specs.Tags.{pair_cmp}
 use Rattle.fed_record.specs.Hold.{kind_cmp}

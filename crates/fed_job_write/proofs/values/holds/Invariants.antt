@@ -1,6 +1,5 @@
 use Rattle.std.proofs.Common.{◌≡◌, map, ◌++◌}
 use Rattle.serde_json.specs.View.{view}
-use Rattle.fed_json.specs.Numbers.{natural_value}
 use Rattle.fed_json.specs.Values.{pair_value}
 use Rattle.fed_job_json.specs.Stamps.{stamp_value}
 use Rattle.fed_job_json.specs.Pairs.{kind_value}

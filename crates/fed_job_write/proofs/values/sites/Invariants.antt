@@ -3,7 +3,6 @@ use Rattle.serde_json.specs.View.{view}
 use Rattle.fed_json.specs.Numbers.{natural_value}
 use Rattle.fed_json.specs.Values.{pair_value}
 use Rattle.fed_job_json.specs.Stamps.{stamp_value}
-use Rattle.fed_job_json.specs.Pairs.{kind_value}
 use Rattle.fed_job_write.proofs.values.sites.Given as goal
 
 abbrev pub invariant-loop-number : goal.invariant-loop-number

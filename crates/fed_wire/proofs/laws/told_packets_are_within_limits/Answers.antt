@@ -1,10 +1,8 @@
-use Rattle.std.specs.BTreeMap.{is_at}
 use Rattle.std.specs.List.Sorted.{IsStrictlySortedBy}
-use Rattle.std.specs.Map.{keys_of, values_of}
-use Rattle.std.proofs.Common.{◌≡◌, All, ap, subst, ◌∙◌, arith}
+use Rattle.std.specs.Map.{keys_of}
+use Rattle.std.proofs.Common.{◌≡◌, ap, subst, ◌∙◌, arith}
 use Rattle.fed_stamp.specs.Version.{IsVersion}
 use Rattle.fed_lattice.specs.Latest.{stamp_cmp}
-use Rattle.fed_record.specs.JobRecord.{JobRecordValue}
 use Rattle.fed_board.specs.Board.{BoardValue, IsBoard, reads}
 use Rattle.fed_board.specs.Names.{jobs_in, reservations_in}
 use Rattle.fed_delta.specs.Delta.{DeltaValue}
