@@ -63,6 +63,14 @@ covered_name : (v : List ℕ) (name : StampValue) (a : Option ReservationView) �
 covered_name v name None p e = cc
 covered_name v name (Some r) p e = (p.placed, p.named)
 
+pub known_job : (v : List ℕ) (job : StampValue) (a : Option JobRecordValue) → IfSome a (IsKnownJob v job) → is_submitted (reads_job (unwrap_or a no_operation)) ≡ true → (job.site < 16) × (covers v job ≡ true)
+known_job v job None p e = cc
+known_job v job (Some r) p e = (p.placed, p.named)
+
+pub known_reservation : (v : List ℕ) (name : StampValue) (a : Option ReservationView) → IfSome a (IsKnownReservation v name) → is_some (unwrap_or a None) ≡ true → (name.site < 16) × (covers v name ≡ true)
+known_reservation v name None p e = cc
+known_reservation v name (Some r) p e = (p.placed, p.named)
+
 -- names that ascend, are covered and are exactly those that pass a test
 names_are : (v : List ℕ) (p : StampValue → Bool) (names : List StampValue) → IsStrictlySortedBy stamp_cmp names → ((name : StampValue) → Has names name ↔ (p name ≡ true))
     → ((name : StampValue) → Has names name → (name.site < 16) × (covers v name ≡ true)) → names ≡ filter p (covered_stamps v)

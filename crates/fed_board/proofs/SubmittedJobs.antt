@@ -2,9 +2,8 @@
 use Rattle.std.specs.Option.{option_cmp}
 use Rattle.std.specs.Ordering.{is_lt, nat_cmp, int_cmp}
 use Rattle.std.proofs.Common.{◌≡◌, ℕ, List, Bool, true, false, cond, Option, Some, None, is_some, Ordering, refl}
-use Rattle.std.proofs.lemmas.Bool.{and_parts}
+use Rattle.std.proofs.lemmas.Bool.{and_parts, and_from}
 use Rattle.fed_stamp.specs.Stamp.{StampValue}
-use Rattle.fed_lattice.specs.ExactLaws.{and_both}
 use Rattle.fed_lattice.specs.Register.{stamped_cmp, joined_registers}
 use Rattle.fed_lattice.specs.Stamped.{with_stamp}
 use Rattle.fed_record.specs.declared.values.JobValues.{JobValues}
@@ -50,7 +49,7 @@ fields_of j e =
     record { owner = a.0; name = b.0; priority = c.0; nodes = d.0; limit = f.0; account = f.1 }
 
 from_fields : (j : JobView) → Fields j → is_submitted j ≡ true
-from_fields j f = and_both _ _ f.owner (and_both _ _ f.name (and_both _ _ f.priority (and_both _ _ f.nodes (and_both _ _ f.limit f.account))))
+from_fields j f = and_from _ _ f.owner (and_from _ _ f.name (and_from _ _ f.priority (and_from _ _ f.nodes (and_from _ _ f.limit f.account))))
 
 pub submitted_added : (s : StampValue) (b : Body) (j : JobView) → is_submitted j ≡ true → is_submitted (add_to_job s b j) ≡ true
 unfolding add_to_job

@@ -1,10 +1,10 @@
 -- What a version that has grown covers.
-use Rattle.std.proofs.Common.{◌≡◌, ℕ, zero, suc, ◌≤◌, ◌<◌, max, true, replicate, List, length, get_or-set_same, refl, subst, arith, inl, inr}
+use Rattle.std.proofs.Common.{◌≡◌, ℕ, ◌≤◌, ◌<◌, max, true, replicate, List, length, get_or-set_same, subst, arith, inl, inr}
 use Rattle.std.proofs.lemmas.Bool.{leb-true, le-leb}
 use Rattle.fed_stamp.specs.Stamp.{StampValue}
 use Rattle.fed_stamp.specs.Version.{counter_of, covers, joined, raised, is_below}
 use Rattle.fed_stamp.proofs.VersionLaws.{below_from_each, each_from_below, below_trans, below_joined_left, below_joined_right, covers_more, joined_least}
-use Rattle.fed_lattice.proofs.VersionOfLaws.{raised_cases}
+use Rattle.fed_lattice.proofs.VersionOfLaws.{raised_cases, counter_of_zeros}
 
 pub below_raised : (v : List ℕ) (s : StampValue) → is_below v (raised v s) ≡ true
 below_raised v s = below_from_each v (raised v s) (λ i. elim (raised_cases v s i) [
@@ -32,11 +32,6 @@ raised_below t v s seen below = below_from_each (raised t s) (raised v s) (λ i.
           let own : s.counter ≤ counter_of (raised v s) i = subst (λ j. s.counter ≤ counter_of (raised v s) j) e.0 (leb-true s.counter (counter_of (raised v s) s.site) seen) in
           omega (arith, e.1, more, less, own)
     ])
-
-counter_of_zeros : (n i : ℕ) → counter_of (replicate n 0) i ≡ 0
-counter_of_zeros zero i = refl
-counter_of_zeros (suc n) zero = refl
-counter_of_zeros (suc n) (suc i) = counter_of_zeros n i
 
 pub zeros_below : (n : ℕ) (w : List ℕ) → is_below (replicate n 0) w ≡ true
 zeros_below n w = below_from_each (replicate n 0) w (λ i. omega (arith, counter_of_zeros n i))

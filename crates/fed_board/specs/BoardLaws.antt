@@ -3,10 +3,10 @@ use Rattle.std.specs.Prelude.{◌&&◌, nat_eq, Bool, List}
 use Rattle.std.specs.Cmp.{IsPartialEquivalence, both_ways}
 use Rattle.std.specs.Cmp.Lexicographic.{pointwise}
 use Rattle.std.proofs.Common.{ap, sym, ◌∙◌}
-use Rattle.std.proofs.lemmas.Bool.{and_parts}
+use Rattle.std.proofs.lemmas.Bool.{and_parts, and_from}
 use Rattle.fed_stamp.specs.Stamp.{StampValue, same_stamp}
 use Rattle.fed_lattice.specs.Exact.{TellsApart}
-use Rattle.fed_lattice.specs.ExactLaws.{and_both, tells_numbers, tells_stamps, tells_pairs, tells_lists}
+use Rattle.fed_lattice.specs.ExactLaws.{tells_numbers, tells_stamps, tells_pairs, tells_lists}
 use Rattle.fed_record.specs.JobRecord.{JobRecordValue}
 use Rattle.fed_record.specs.JobRecordLaws.{same_job_record, tells_job_records}
 use Rattle.fed_record.specs.Reservation.{ReservationView}
@@ -38,8 +38,8 @@ tells_boards b c = (
       let jobs = (tells_jobs b.jobs c.jobs).0 q.0 in
       let reservations = (tells_reservation_lists b.reservations c.reservations).0 q.1 in
       λ i. record { version = version i; jobs = jobs i; reservations = reservations i },
-  λ e. and_both _ _ ((tells_lists nat_eq tells_numbers b.version c.version).1 (ap (λ (x : BoardValue). x.version) e))
-      (and_both _ _ ((tells_jobs b.jobs c.jobs).1 (ap (λ (x : BoardValue). x.jobs) e)) ((tells_reservation_lists b.reservations c.reservations).1 (ap (λ (x : BoardValue). x.reservations) e))),
+  λ e. and_from _ _ ((tells_lists nat_eq tells_numbers b.version c.version).1 (ap (λ (x : BoardValue). x.version) e))
+      (and_from _ _ ((tells_jobs b.jobs c.jobs).1 (ap (λ (x : BoardValue). x.jobs) e)) ((tells_reservation_lists b.reservations c.reservations).1 (ap (λ (x : BoardValue). x.reservations) e))),
 )
 
 pub board_laws : IsPartialEquivalence same_board

@@ -1,5 +1,6 @@
 -- A cut of what a kin set tells, joined to what a set tells that has seen all that the cut needs, is the whole.
 use Rattle.std.proofs.Common.{◌≡◌, ℕ, List, [], ◌++◌, Bool, true, false, cond, not, Some, None, IfSome, refl, sym, ap, ◌∙◌}
+use Rattle.std.proofs.lemmas.Bool.{not-false}
 use Rattle.fed_stamp.specs.Stamp.{StampValue}
 use Rattle.fed_stamp.specs.Version.{covers, joined, is_below}
 use Rattle.fed_stamp.proofs.VersionLaws.{covers_more, below_trans}
@@ -22,14 +23,10 @@ use Rattle.fed_board.proofs.VersionGrowth.{zeros_below}
 use Rattle.fed_board.proofs.ViewLaws.{view_union}
 use Rattle.fed_delta.specs.Cut.{is_changed_job, is_changed_reservation, cut}
 
-from_not : (b : Bool) → not b ≡ false → b ≡ true
-from_not true e = refl
-from_not false e = cc
-
 -- what is not changed is covered
 covered : (need : List ℕ) (r : ReservationView) → is_changed_reservation need r ≡ false → IfSome r (λ latest. covers need latest.0 ≡ true)
 covered need None e = tt
-covered need (Some latest) e = from_not (covers need latest.0) e
+covered need (Some latest) e = not-false (covers need latest.0) e
 
 joined_none : (x : ReservationView) → joined_registers option_window_cmp x None ≡ x
 joined_none None = refl
@@ -58,7 +55,7 @@ module _ (ops others : History Body) (kin : AreKin ops others) (need : List ℕ)
   union_version = ap (λ (v : View). v.version) (view_union ops others kin)
 
   job_known : (name : StampValue) → is_changed_job need (theirs name) ≡ false → (view (ops ++ others)).job name ≡ mine name
-  job_known name e = untouched_job ops others kin name (below_trans (theirs name).touched need (version_of ops) (from_not (is_below (theirs name).touched need) e) below)
+  job_known name e = untouched_job ops others kin name (below_trans (theirs name).touched need (version_of ops) (not-false (is_below (theirs name).touched need) e) below)
 
   -- a job that was touched is submitted
   job_submitted : (name : StampValue) → is_changed_job need (theirs name) ≡ true → is_submitted (theirs name) ≡ true

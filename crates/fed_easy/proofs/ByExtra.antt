@@ -10,7 +10,7 @@ use Rattle.fed_easy.specs.Extra.{free_at, front_by_free, behind_by_free, ends_by
 use Rattle.fed_easy.specs.Promises.{Falls, IsIdleFrom, IsSized}
 use Rattle.fed_easy.proofs.FirstFit.{shadow_least}
 use Rattle.fed_easy.proofs.Fits.{fits-true, Fits-fits, same_test}
-use Rattle.fed_easy.proofs.NoDelay.{during, within, with_job_swap, job_used}
+use Rattle.fed_easy.proofs.NoDelay.{during, within, with_job_swap, job_used, at_second}
 use Rattle.fed_easy.proofs.Started.{all_behind, idle_started}
 
 pub part_less : (s t : Bool) (n a b : ℕ) → (s ≡ true → t ≡ true) → a ≤ b → cond s n 0 + a ≤ cond t n 0 + b
@@ -59,10 +59,6 @@ behind_free capacity now (j ∷ js) used h some =
 not_yet : (now s : ℕ) (used : ℕ → ℕ) (head : QueuedJob) → now < s → with_job s head used now ≡ used now
 not_yet now s used head before = rw (lt-leb s now before) (omega arith)
 
-part_room : (t : Bool) (n used m capacity : ℕ) → (t ≡ true → (n + used) + m ≤ capacity) → used + m ≤ capacity → (cond t n 0 + used) + m ≤ capacity
-part_room true n used m capacity inside outside = inside refl
-part_room false n used m capacity inside outside = omega arith
-
 module _ (capacity now : ℕ) (head : QueuedJob) (s : ℕ) (before : now < s) (long : 0 < head.limit) where
   fits_extra : (used : ℕ → ℕ) (j : QueuedJob) → IsSized capacity j → Fits capacity (with_job s head used) j now → (t : Bool) → ends_by now s j ≡ t → (t || leb j.nodes ((capacity - used s) - head.nodes)) ≡ true
   fits_extra used j some f true e = refl
@@ -76,7 +72,7 @@ module _ (capacity now : ℕ) (head : QueuedJob) (s : ℕ) (before : now < s) (l
       → (ends_by now s j || leb j.nodes ((capacity - used s) - head.nodes)) ≡ true → Fits capacity (with_job s head used) j now
   extra_fits used j begun room some free e u from until =
       let less_now = begun now u (omega arith) from in
-      part_room (is_during s (s + head.limit) u) head.nodes (used u) j.nodes capacity
+      at_second (is_during s (s + head.limit) u) head.nodes (used u) j.nodes capacity
       (λ t.
       let inside = within s (s + head.limit) u t in
       let less = begun s u (omega arith) inside.0 in
@@ -109,7 +105,7 @@ module _ (capacity now : ℕ) (head : QueuedJob) (s : ℕ) (before : now < s) (l
 
   room_left : (used : ℕ → ℕ) (j : QueuedJob) → used s + head.nodes ≤ capacity → Fits capacity (with_job s head used) j now → with_job now j used s + head.nodes ≤ capacity
   room_left used j room f =
-      part_room (is_during now (now + j.limit) s) j.nodes (used s) head.nodes capacity
+      at_second (is_during now (now + j.limit) s) j.nodes (used s) head.nodes capacity
       (λ t.
       let inside = within now (now + j.limit) s t in
       let counted : (head.nodes + used s) + j.nodes ≤ capacity = rw (job_used s s head used (omega arith) (omega arith)) at (f s inside.0 inside.1) in

@@ -1,5 +1,4 @@
 -- Lemmas of this crate.
-pub mod Recursion
 pub mod Levels
 pub mod Room
 pub mod Shadow

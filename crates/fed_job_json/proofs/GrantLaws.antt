@@ -25,7 +25,7 @@ two a b x y p q = rw (p, q) refl
 three : (a b c x y z : Data) → a ≡ x → b ≡ y → c ≡ z → list_value (a ∷ b ∷ c ∷ []) ≡ list_value (x ∷ y ∷ z ∷ [])
 three a b c x y z p q r = rw (p, q, r) refl
 
-four : (a b c d x y z w : Data) → a ≡ x → b ≡ y → c ≡ z → d ≡ w → list_value (a ∷ b ∷ c ∷ d ∷ []) ≡ list_value (x ∷ y ∷ z ∷ w ∷ [])
+pub four : (a b c d x y z w : Data) → a ≡ x → b ≡ y → c ≡ z → d ≡ w → list_value (a ∷ b ∷ c ∷ d ∷ []) ≡ list_value (x ∷ y ∷ z ∷ w ∷ [])
 four a b c d x y z w p q r s = rw (p, q, r, s) refl
 
 abbrev Taken : Format → List Data → GrantStage → Type 0

@@ -34,9 +34,9 @@ module _ {E : Type 0} (read : Data → Reading E) (cmp : E → E → Ordering) w
   pub pairs_else : (d : Data) (ds : List Data) (ps : List (E × StampValue)) → Ok ds ≡ elements_of d → Ok ps ≡ all_of (pair_of read stamp_of) ds → (IsStrictlySortedBy (pair_cmp cmp) ps → ⊥) → Err Range ≡ pairs_of read cmp d
   pairs_else d ds ps e r not = rw (← e, ← r, else_at ps (ascends (pair_cmp cmp) ps) refl not) refl
 
-below : (s : StampValue) → IsStamp s → s.site < 16
-below s h =
-    let site = h.1.1 in
+pub site_placed : (s : StampValue) → IsStamp s → s.site < 16
+site_placed s h =
+    let small = h.1.1 in
     omega arith
 
 pub pairs_covered : {E : Type 0} (P : E → Type 0) (v : List ℕ) (ps : List (E × StampValue)) → AllByRecursion (λ p. P p.0 × IsStamp p.1) ps → covers_pairs v ps ≡ true
@@ -44,7 +44,7 @@ pub pairs_covered : {E : Type 0} (P : E → Type 0) (v : List ℕ) (ps : List (E
 pairs_covered P v [] h e p has = absurd has
 pairs_covered P v (q ∷ ps) h e p (inl same) =
     let t = and_parts (covers v q.1) (covers_pairs v ps) e in
-    subst (λ p. (p.1.site < 16) × (covers v p.1 ≡ true)) same (below q.1 h.0.1, t.0)
+    subst (λ p. (p.1.site < 16) × (covers v p.1 ≡ true)) same (site_placed q.1 h.0.1, t.0)
 pairs_covered P v (q ∷ ps) h e p (inr has) =
     let t = and_parts (covers v q.1) (covers_pairs v ps) e in
     pairs_covered P v ps h.1 t.1 p has

@@ -53,7 +53,7 @@ sites_form = pairs_form site_of natural_value IsSite nat_cmp site_form
 
 -- ---- order
 
-less : (o : Ordering) → is_lt o ≡ true → o ≡ Less
+pub less : (o : Ordering) → is_lt o ≡ true → o ≡ Less
 less Less e = refl
 less Equal e = absurd cc
 less Greater e = absurd cc

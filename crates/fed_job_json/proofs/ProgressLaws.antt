@@ -1,6 +1,7 @@
 -- How far a job has come is read as what it is the value of.
-use Rattle.std.proofs.Common.{◌≡◌, length, ℕ, ◌<◌, true, false, ltb, List, [], ◌∷◌, Option, Some, None, Ok, Err, refl, sym, ap, subst, ◌∙◌, arith}
+use Rattle.std.proofs.Common.{◌≡◌, length, true, false, ltb, List, [], ◌∷◌, Option, Some, None, Ok, Err, refl, sym, ap, subst, ◌∙◌, arith}
 use Rattle.std.specs.Prelude.{codes, is_some, IfSome}
+use Rattle.std.proofs.lemmas.Bool.{ltb-true, lt-ltb}
 use Rattle.serde_json.specs.Data.{Data, string}
 use Rattle.serde_json.specs.Find.{as_null}
 use Rattle.fed_stamp.specs.declared.rosters.TheConstants.{MAX_NODES}
@@ -17,12 +18,6 @@ use Rattle.fed_json.proofs.FormLaws.{elements_takes, word_takes, or_null_form, m
 use Rattle.fed_job_json.specs.Stamps.{stamp_value, stamp_of}
 use Rattle.fed_job_json.specs.Progress.{Begun, Finished, Steps, begun_values, done_value, ends_later, begun_of, finished_of, done_from, done_of, IsBegun, IsFinished, steps_from, progress_value, progress_of, IsProgress}
 use Rattle.fed_job_json.proofs.StampLaws.{stamp_form}
-
-later : (a b : ℕ) → ltb a b ≡ true → a < b
-later a b e = grind arith
-
-later_test : (a b : ℕ) → a < b → ltb a b ≡ true
-later_test a b h = grind arith
 
 four : (a b c d x y z w : Data) → a ≡ x → b ≡ y → c ≡ z → d ≡ w → (more : List Data) → a ∷ b ∷ c ∷ d ∷ more ≡ x ∷ y ∷ z ∷ w ∷ more
 four a b c d x y z w p q r s more = rw (p, q, r, s) refl
@@ -42,10 +37,10 @@ begun_takes a b c d g e =
     let same : i.0 ≡ g = u.0 in
     let after : ltb m.0.1.0 m.0.1.1.1 ≡ true = ap ends_later m.2 ∙ u.1 in
     subst (λ (g : Begun). ((more : List Data) → a ∷ b ∷ c ∷ d ∷ more ≡ begun_values g more) × IsBegun g) (m.2 ∙ same)
-    (four a b c d _ _ _ _ s.0 k.0 n.0 l.0, (s.1, k.1, n.1, l.1, later m.0.1.0 m.0.1.1.1 after))
+    (four a b c d _ _ _ _ s.0 k.0 n.0 l.0, (s.1, k.1, n.1, l.1, ltb-true m.0.1.0 m.0.1.1.1 after))
 
 begun_again : (g : Begun) → IsBegun g → begun_of (stamp_value g.0) (natural_value g.1.moment) (natural_value g.1.nodes) (natural_value g.1.end) ≡ Ok g
-begun_again g h = rw ((stamp_form).again g.0 h.0, (natural_form 0 MAX_MOMENT).again g.1.moment h.1, (natural_form 1 MAX_NODES).again g.1.nodes h.2, (natural_form 0 MAX_END).again g.1.end h.3, later_test g.1.moment g.1.end h.4) refl
+begun_again g h = rw ((stamp_form).again g.0 h.0, (natural_form 0 MAX_MOMENT).again g.1.moment h.1, (natural_form 1 MAX_NODES).again g.1.nodes h.2, (natural_form 0 MAX_END).again g.1.end h.3, lt-ltb g.1.moment g.1.end h.4) refl
 
 three : (a b c x y z : Data) → a ≡ x → b ≡ y → c ≡ z → a ∷ b ∷ c ∷ [] ≡ x ∷ y ∷ z ∷ []
 three a b c x y z p q r = rw (p, q, r) refl

@@ -58,10 +58,10 @@ mapped-mapped f g (Err e) = refl
 
 -- ---- values in memory, one after another
 
-module _ {A : Type 0} (f : Data → Reading A) where
-  first_left : (vs : List Value) (i : ℕ) (v : Value) → i < length vs → v ≡ slice_index_or vs i v → map view (drop i vs) ≡ view v ∷ map view (drop (i + 1) vs)
-  first_left vs i v h e = rw (drop-cons vs i v h, ← e, add-one) refl
+pub first_left : (vs : List Value) (i : ℕ) (v : Value) → i < length vs → v ≡ slice_index_or vs i v → map view (drop i vs) ≡ view v ∷ map view (drop (i + 1) vs)
+first_left vs i v h e = rw (drop-cons vs i v h, ← e, add-one) refl
 
+module _ {A : Type 0} (f : Data → Reading A) where
   pub step_good : (vs : List Value) (i : ℕ) (v : Value) (b : Bool) (before : List A) (x : A) → i < length vs → v ≡ slice_index_or vs i v → Ok x ≡ f (view v)
       → after b before (all_of f (map view (drop i vs))) ≡ after b (before ++ x ∷ []) (all_of f (map view (drop (i + 1) vs)))
   step_good vs i v b before x h e r = rw (first_left vs i v h e) (after_good f b before (view v) x (map view (drop (i + 1) vs)) (sym r))

@@ -45,7 +45,7 @@ module _ {K X : Type 0} (R : K → K → Ordering) where
     go true r = a.1
     go false r = (a.0, r)
 
-  sorted_removed : (test : K → Bool) (es : List (K × X)) → IsStrictlySortedBy R (keys_of es) → IsStrictlySortedBy R (keys_of (remove_entry test es))
+  pub sorted_removed : (test : K → Bool) (es : List (K × X)) → IsStrictlySortedBy R (keys_of es) → IsStrictlySortedBy R (keys_of (remove_entry test es))
   unfolding IsStrictlySortedBy
   sorted_removed test [] s = tt
   sorted_removed test (e ∷ es) s = go (test e.0) (sorted_removed test es s.1) where

@@ -10,6 +10,7 @@ use Rattle.std.proofs.lemmas.Map.Lookups.{CmpEqualImpliesEq}
 use Rattle.std.proofs.lemmas.Map.Views.{tells_apart}
 use Rattle.fed_lattice.specs.Table.{filled, IsAtEach}
 use Rattle.fed_lattice.specs.TableEntryLaws.{sorted_insert, sorted_filled, lookup-insert_entry, lookup-filled, same_tables}
+use Rattle.fed_lattice.proofs.TableValues.{at_written}
 
 -- ---- how the methods build tables
 module _ {K X : Type 0} (R : K → K → Ordering) where
@@ -40,19 +41,15 @@ module _ {K X : Type 0} (R : K → K → Ordering) (o : IsTotalOrder R) (exact :
         same_at false a w f = refl
 
   -- the values of a table that is filled by f alone are f's
-  in_cond : (P : X → Type 0) (b : Bool) (x : X) (a : Option X) → (b ≡ true → P x) → IfSome a P → IfSome (cond b (Some x) a) P
-  in_cond P true x a p q = p refl
-  in_cond P false x a p q = q
-
   pub values_filled : (f : K → X) (ks : List K) → IsAtEach R (λ k x. x ≡ f k) (filled R f [] ks)
   values_filled f ks q =
       subst (λ (a : Option X). IfSome a (λ x. x ≡ f q)) (sym (lookup-filled R o exact q f [] ks))
-      (in_cond (λ x. x ≡ f q) (list_any (eq_by_cmp R q) ks) (f q) None (λ e. refl) tt)
+      (at_written (λ x. x ≡ f q) (list_any (eq_by_cmp R q) ks) (f q) None (λ e. refl) tt)
 
   pub values_insert : (f : K → X) (es : List (K × X)) (k : K) → IsAtEach R (λ k x. x ≡ f k) es → IsAtEach R (λ k x. x ≡ f k) (insert_entry R es k (f k))
   values_insert f es k h q =
       subst (λ (a : Option X). IfSome a (λ x. x ≡ f q)) (sym (lookup-insert_entry R o exact q k (f k) es))
-      (in_cond (λ x. x ≡ f q) (is_eq (R q k)) (f k) (lookup (is_at (R q)) es) (λ e. ap f (sym (tells_apart exact q k e))) (h q))
+      (at_written (λ x. x ≡ f q) (is_eq (R q k)) (f k) (lookup (is_at (R q)) es) (λ e. ap f (sym (tells_apart exact q k e))) (h q))
 
   pub value_there : (x : X) (a : Option X) → IfSome a (λ y. y ≡ x) → is_some a ≡ true → a ≡ Some x
   value_there x None h i = cc

@@ -44,7 +44,7 @@ joined_zeros zero w e = refl
 joined_zeros (suc n) [] e = absurd (omega arith)
 joined_zeros (suc n) (y ∷ w) e = let m : max 0 y ≡ y = omega arith in let t : joined (replicate n 0) w ≡ w = joined_zeros n w (omega arith) in cc
 
-counter_of_zeros : (n i : ℕ) → counter_of (replicate n 0) i ≡ 0
+pub counter_of_zeros : (n i : ℕ) → counter_of (replicate n 0) i ≡ 0
 counter_of_zeros zero i = refl
 counter_of_zeros (suc n) zero = refl
 counter_of_zeros (suc n) (suc i) = counter_of_zeros n i

@@ -1,9 +1,9 @@
 -- The jobs of a board, and the lines of those that a listing shows.
-use Rattle.std.specs.Prelude.{filter, flat_map, if◌then◌else◌, is_some, IfSome, ◌↔◌, ◌&&◌, ◌≢◌}
+use Rattle.std.specs.Prelude.{filter, flat_map, if◌then◌else◌, is_some, ◌↔◌, ◌&&◌, ◌≢◌}
 use Rattle.std.specs.BTreeMap.{is_at}
 use Rattle.std.specs.List.Sorted.{IsStrictlySortedBy}
 use Rattle.std.specs.Map.{keys_of, lookup}
-use Rattle.std.proofs.Common.{◌≡◌, ℕ, ◌<◌, List, [], ◌∷◌, ◌++◌, All, Bool, true, false, Option, Some, None, unwrap_or, refl, sym, ap, ap₂, subst, ◌∙◌, inl, inr, append-nil}
+use Rattle.std.proofs.Common.{◌≡◌, ℕ, List, [], ◌∷◌, ◌++◌, All, Bool, true, false, Option, Some, unwrap_or, refl, sym, ap, ap₂, subst, ◌∙◌, inl, inr, append-nil}
 use Rattle.std.proofs.lemmas.List.{flat_map_more}
 use Rattle.std.proofs.lemmas.Bool.{and_parts}
 use Rattle.std.proofs.lemmas.Cmp.{eq_by_cmp_equiv}
@@ -12,7 +12,6 @@ use Rattle.std.proofs.lemmas.List.Kept.{IsStrictlySortedBy-filter}
 use Rattle.std.proofs.lemmas.Map.Keys.{IsDistinct-from_sorted}
 use Rattle.std.proofs.lemmas.Map.Views.{lookup-from_Contains}
 use Rattle.fed_stamp.specs.Stamp.{StampValue, same_stamp}
-use Rattle.fed_stamp.specs.Version.{covers}
 use Rattle.fed_lattice.specs.ExactLaws.{same_stamp_is, same_stamp_itself}
 use Rattle.fed_lattice.specs.Latest.{stamp_cmp}
 use Rattle.fed_lattice.specs.LatestLaws.{stamp_total}
@@ -22,10 +21,11 @@ use Rattle.fed_lattice.proofs.FilterLaws.{Has-filter, filter-Has}
 use Rattle.fed_record.specs.JobRecord.{JobRecordValue, reads as reads_job}
 use Rattle.fed_record.specs.JobView.{JobView}
 use Rattle.fed_record.specs.Letter.{is_submitted, letter}
-use Rattle.fed_board.specs.Board.{BoardValue, IsBoard, IsKnownJob, no_operation, reads}
+use Rattle.fed_board.specs.Board.{BoardValue, IsBoard, no_operation, reads}
 use Rattle.fed_board.specs.Names.{covered_stamps, jobs_in}
 use Rattle.fed_board.specs.View.{View}
 use Rattle.fed_board.proofs.CoveredStamps.{covered_ascend, covered_has, same_stamps}
+use Rattle.fed_board.proofs.ListedNames.{known_job}
 use Rattle.fed_qstat.specs.Listing.{is_asked, is_shown, listing, shown_text}
 
 -- ---- the jobs of a board
@@ -35,13 +35,9 @@ pub record IsListed (b : BoardValue) : Type 0 where
   pub ascending : IsStrictlySortedBy stamp_cmp (keys_of b.jobs)
   pub names : keys_of b.jobs ≡ jobs_in (reads b)
 
-known : (v : List ℕ) (job : StampValue) (a : Option JobRecordValue) → IfSome a (IsKnownJob v job) → is_submitted (reads_job (unwrap_or a no_operation)) ≡ true → (job.site < 16) × (covers v job ≡ true)
-known v job None p e = cc
-known v job (Some r) p e = (p.placed, p.named)
-
 there : (b : BoardValue) → IsListed b → (job : StampValue) → is_submitted ((reads b).job job) ≡ true → Has (jobs_in (reads b)) job
 there b p job s =
-    let k = known b.version job (lookup (is_at (stamp_cmp job)) b.jobs) (p.board.jobs job) s in
+    let k = known_job b.version job (lookup (is_at (stamp_cmp job)) b.jobs) (p.board.jobs job) s in
     filter-Has (λ j. is_submitted ((reads b).job j)) (covered_stamps b.version) job (covered_has b.version job k.0 k.1) s
 
 pub submitted : (v : View) (job : StampValue) → Has (jobs_in v) job → is_submitted (v.job job) ≡ true

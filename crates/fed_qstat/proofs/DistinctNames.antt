@@ -4,12 +4,13 @@ use Rattle.std.specs.List.{Contains, dedup}
 use Rattle.std.specs.List.Retain.{DiffersFromLast, IsFiltered}
 use Rattle.std.specs.List.Sorted.{IsPermutation, IsSorted, IsStrictlySortedBy}
 use Rattle.std.specs.Ordering.{is_eq, eq_by_cmp}
-use Rattle.std.proofs.Common.{◌≡◌, List, [], Bool, true, false, refl, sym, ap, subst, ◌∙◌}
+use Rattle.std.proofs.Common.{◌≡◌, List, [], Bool, true, refl, sym, ap, subst, ◌∙◌}
 use Rattle.std.proofs.lemmas.Cmp.{eq_by_cmp_equiv, tied_itself}
 use Rattle.std.proofs.lemmas.List.Filters.{dedup_is}
 use Rattle.std.proofs.lemmas.List.Kept.{Contains-dedup, Contains-from_dedup, IsStrictlySortedBy-dedup}
 use Rattle.std.proofs.lemmas.List.Sorted.{Contains-permutation, IsPermutation-sym}
 use Rattle.std.proofs.lemmas.Map.Views.{Contains-from_any, list_any-from_Contains, tells_apart}
+use Rattle.fed_easy.proofs.Fits.{same_test}
 use Rattle.fed_stamp.specs.Stamp.{StampValue}
 use Rattle.fed_lattice.specs.ExactLaws.{exact_stamp}
 use Rattle.fed_lattice.specs.Latest.{stamp_cmp}
@@ -19,18 +20,12 @@ use Rattle.fed_lattice.specs.SetLaws.{found, any_from}
 use Rattle.fed_stamp.specs.Stamp.{same_stamp}
 use Rattle.fed_lattice.specs.ExactLaws.{same_stamp_is, same_stamp_itself}
 
-same_answer : (a b : Bool) → (a ≡ true → b ≡ true) → (b ≡ true → a ≡ true) → a ≡ b
-same_answer true true f g = refl
-same_answer true false f g = sym (f refl)
-same_answer false true f g = g refl
-same_answer false false f g = refl
-
 tied : (s : StampValue) → eq_by_cmp stamp_cmp s s ≡ true
 tied s = ap is_eq (tied_itself stamp_total s)
 
 -- stamps are equal by their parts where they compare equal
 pub stamp_ties : (s t : StampValue) → same_stamp s t ≡ eq_by_cmp stamp_cmp s t
-stamp_ties s t = same_answer _ _
+stamp_ties s t = same_test _ _
     (λ e. subst (λ (u : StampValue). eq_by_cmp stamp_cmp s u ≡ true) (same_stamp_is s t e) (tied s))
     (λ e. subst (λ (u : StampValue). same_stamp s u ≡ true) (tells_apart exact_stamp s t e) (same_stamp_itself s))
 

@@ -1,9 +1,8 @@
 -- The operations behind what is read of a job.
 use Rattle.std.specs.Prelude.{is_some}
 use Rattle.std.proofs.Common.{◌≡◌, ℕ, List, [], Bool, true, false, Option, Some, None, refl, ap, subst}
-use Rattle.std.proofs.lemmas.Bool.{and_parts}
+use Rattle.std.proofs.lemmas.Bool.{and_parts, and_from}
 use Rattle.fed_stamp.specs.Stamp.{StampValue}
-use Rattle.fed_lattice.specs.ExactLaws.{and_both}
 use Rattle.fed_lattice.specs.Sets.{Has}
 use Rattle.fed_lattice.specs.History.{History}
 use Rattle.fed_lattice.specs.Order.{IsUpTo}
@@ -106,8 +105,8 @@ said_found {T} says v h t body k s = go (field says h) refl
 pub submitted_from : (h : History Body) (t : StampValue) (owner : List ℕ) (values : JobValues) (held : Bool) → Has h (t, Submit owner values held) → is_submitted (job_view h) ≡ true
 submitted_from h t owner values held k =
     let body = Submit owner values held in
-    and_both _ _ (said_found owner_in owner h t body k refl)
-    (and_both _ _ (said_found name_in values.name h t body k refl)
-    (and_both _ _ (said_found priority_in values.priority h t body k refl)
-    (and_both _ _ (said_found nodes_in values.nodes h t body k refl)
-    (and_both _ _ (said_found limit_in values.limit h t body k refl) (said_found account_in values.account h t body k refl)))))
+    and_from _ _ (said_found owner_in owner h t body k refl)
+    (and_from _ _ (said_found name_in values.name h t body k refl)
+    (and_from _ _ (said_found priority_in values.priority h t body k refl)
+    (and_from _ _ (said_found nodes_in values.nodes h t body k refl)
+    (and_from _ _ (said_found limit_in values.limit h t body k refl) (said_found account_in values.account h t body k refl)))))

@@ -4,14 +4,14 @@ use Rattle.std.specs.Ordering.{ord_max, nat_cmp, is_eq, eq_by_cmp}
 use Rattle.std.specs.List.{list_any, range_with_len}
 use Rattle.std.specs.Cmp.{IsTotalOrder, nat_cmp_total, both_ways}
 use Rattle.std.proofs.Common.{◌≡◌, ℕ, zero, suc, ◌+◌, ◌<◌, List, [], ◌∷◌, Bool, true, false, not, ◌&&◌, ◌||◌, Option, Some, None, is_some, Ordering, filter, nat_eq, nat_lt, refl, sym, ap, ap₂, subst, ◌∙◌, inl, inr, arith}
-use Rattle.std.proofs.lemmas.Bool.{and_parts, ltb-true}
+use Rattle.std.proofs.lemmas.Bool.{and_parts, ltb-true, and_from}
 use Rattle.std.proofs.lemmas.Cmp.{tied_itself}
 use Rattle.std.proofs.lemmas.Map.Lookups.{CmpEqualImpliesEq, exact_unsigned}
 use Rattle.std.proofs.lemmas.Map.Views.{tells_apart}
 use Rattle.fed_stamp.specs.Stamp.{StampValue, same_stamp}
 use Rattle.fed_lattice.specs.Both.{applied_option}
 use Rattle.fed_lattice.specs.Exact.{TellsApart}
-use Rattle.fed_lattice.specs.ExactLaws.{and_both, tells_numbers, same_stamp_is, same_stamp_itself}
+use Rattle.fed_lattice.specs.ExactLaws.{tells_numbers, same_stamp_is, same_stamp_itself}
 use Rattle.fed_lattice.proofs.FilterLaws.{Has-filter, filter-Has}
 use Rattle.fed_lattice.specs.FlagLaws.{or_comm}
 use Rattle.fed_lattice.specs.Register.{stamped_cmp, joined_registers}
@@ -56,7 +56,7 @@ module _ {E : Type 0} (cmp : E → E → Ordering) (o : IsTotalOrder cmp) (exact
   pair_test e tag p = both_ways _ _
       (λ t.
       let q : (e, tag) ≡ p = tells_apart (exact_pair cmp exact) (e, tag) p t in
-      and_both _ _ ((tells p.0 e).1 (sym (ap (λ (r : E × StampValue). r.0) q))) (ap (λ (u : StampValue). same_stamp u tag) (sym (ap (λ (r : E × StampValue). r.1) q)) ∙ same_stamp_itself tag))
+      and_from _ _ ((tells p.0 e).1 (sym (ap (λ (r : E × StampValue). r.0) q))) (ap (λ (u : StampValue). same_stamp u tag) (sym (ap (λ (r : E × StampValue). r.1) q)) ∙ same_stamp_itself tag))
       (λ t.
       let b = and_parts (same p.0 e) (same_stamp p.1 tag) t in
       let q : p ≡ (e, tag) = ap₂ (λ (x : E) (y : StampValue). (x, y)) ((tells p.0 e).0 b.0) (same_stamp_is p.1 tag b.1) in
@@ -78,7 +78,7 @@ module _ {E : Type 0} (cmp : E → E → Ordering) (o : IsTotalOrder cmp) (exact
   added_test adds all each s e tag = both_ways _ _
       (λ t.
       let m = stamped_at (pair_cmp cmp) (pair_total cmp o) (exact_pair cmp exact) s (filter adds all) (e, tag) (member (pair_cmp cmp) (pair_total cmp o) (exact_pair cmp exact) (e, tag) _ t) in
-      and_both _ _ (ap (λ (u : StampValue). same_stamp s u) m.1 ∙ same_stamp_itself s) (Has-filter adds all e m.0).1)
+      and_from _ _ (ap (λ (u : StampValue). same_stamp s u) m.1 ∙ same_stamp_itself s) (Has-filter adds all e m.0).1)
       (λ t.
       let b = and_parts (same_stamp s tag) (adds e) t in
       let m : Has (stamped s (filter adds all)) (e, s) = stamped-Has s (filter adds all) e (filter-Has adds all e (each e b.1) b.1) in

@@ -2,10 +2,10 @@
 use Rattle.std.specs.Cmp.{IsTotalOrder, both_ways}
 use Rattle.std.specs.List.{list_any}
 use Rattle.std.proofs.Common.{◌≡◌, ◌↔◌, List, Bool, true, false, not, Some, Ordering, refl, sym, ap, subst, ◌∙◌, inl, inr}
-use Rattle.std.proofs.lemmas.Bool.{and_parts, cases_Bool}
+use Rattle.std.proofs.lemmas.Bool.{and_parts, cases_Bool, and_from}
 use Rattle.std.proofs.lemmas.Map.Lookups.{CmpEqualImpliesEq}
 use Rattle.fed_stamp.specs.Stamp.{StampValue, same_stamp}
-use Rattle.fed_lattice.specs.ExactLaws.{and_both, same_stamp_is, same_stamp_itself}
+use Rattle.fed_lattice.specs.ExactLaws.{same_stamp_is, same_stamp_itself}
 use Rattle.fed_lattice.specs.Sets.{Has}
 use Rattle.fed_lattice.specs.SetLaws.{found, any_from}
 use Rattle.fed_lattice.specs.History.{History}
@@ -37,7 +37,7 @@ module _ {E : Type 0} (cmp : E → E → Ordering) (o : IsTotalOrder cmp) (exact
   added_found a =
       let s = source (always change) h (tag, a.0) a.1 in
       let m : Has (change s.0).0 e = subst (λ (d : List E × List (E × StampValue)). Has d.0 e) (sym (change_of s.0 a.0 s.2)) a.2 in
-      any_from (adds_pair adds removes e tag) (bodies h) (tag, body_of s.0) (bodies-Has h (tag, s.0) s.1) (and_both _ _ (same_stamp_itself tag) ((added_is s.0 e).0 m))
+      any_from (adds_pair adds removes e tag) (bodies h) (tag, body_of s.0) (bodies-Has h (tag, s.0) s.1) (and_from _ _ (same_stamp_itself tag) ((added_is s.0 e).0 m))
 
   found_added : list_any (adds_pair adds removes e tag) (bodies h) ≡ true → IsAdded (part (always change) h) (e, tag)
   found_added t =
@@ -69,7 +69,7 @@ module _ {E : Type 0} (cmp : E → E → Ordering) (o : IsTotalOrder cmp) (exact
       let l = (reads (e, tag)).0 (member R order tells (e, tag) xs t) in
       elim (cases_Bool (list_any (removes_pair adds removes e tag) (bodies h))) [
         | inl r ↦ absurd (l.1 (found_removed r))
-        | inr r ↦ and_both _ _ (added_found l.0) (ap not r)
+        | inr r ↦ and_from _ _ (added_found l.0) (ap not r)
       ])
       (λ t.
       let p = and_parts (list_any (adds_pair adds removes e tag) (bodies h)) _ t in

@@ -1,5 +1,5 @@
 -- How many names a list has of a site, counted by the counters that the site gave.
-use Rattle.std.specs.Prelude.{count_by, cond, filter, Option, Some, None, is_some, IfSome, unwrap_or}
+use Rattle.std.specs.Prelude.{count_by, cond, filter, is_some}
 use Rattle.std.specs.BTreeMap.{is_at}
 use Rattle.std.specs.Map.{keys_of, lookup}
 use Rattle.std.specs.List.{AllByRecursion, list_any, range_with_len}
@@ -9,6 +9,7 @@ use Rattle.std.proofs.lemmas.Bool.{cases_eq, leb-true, eqb-true, eq-eqb, ne_eqb}
 use Rattle.std.proofs.lemmas.Cmp.{tied_itself}
 use Rattle.std.proofs.lemmas.List.Sums.{sum_by-cons}
 use Rattle.std.proofs.lemmas.List.Kept.{IsStrictlySortedBy-filter}
+use Rattle.std.proofs.Math.Bool.{and-true, and-false}
 use Rattle.fed_stamp.specs.Stamp.{StampValue, same_stamp}
 use Rattle.fed_stamp.specs.Version.{counter_of, covers}
 use Rattle.fed_lattice.specs.ExactLaws.{same_stamp_is, same_stamp_itself}
@@ -21,16 +22,15 @@ use Rattle.fed_lattice.specs.VersionOf.{version_of}
 use Rattle.fed_lattice.proofs.FilterLaws.{Has-filter, filter-Has}
 use Rattle.fed_lattice.proofs.VersionOfLaws.{version_of-covers}
 use Rattle.fed_record.specs.Body.{Body, Body.Submit, Body.Reserve}
-use Rattle.fed_record.specs.JobRecord.{JobRecordValue, reads as reads_job}
 use Rattle.fed_record.specs.Letter.{is_submitted}
-use Rattle.fed_record.specs.Reservation.{ReservationView}
-use Rattle.fed_board.specs.Board.{BoardValue, IsBoard, IsKnownJob, IsKnownReservation, no_operation, reads}
+use Rattle.fed_board.specs.Board.{BoardValue, IsBoard, reads}
 use Rattle.fed_board.specs.Counts.{names_of}
 use Rattle.fed_board.specs.Lawful.{IsLawful}
 use Rattle.fed_board.specs.Names.{covered_stamps, jobs_in, reservations_in}
 use Rattle.fed_board.specs.View.{view}
 use Rattle.fed_board.proofs.CoveredStamps.{covered_ascend, covered_has}
 use Rattle.fed_board.proofs.SubmitLaws.{submit_of, reserve_of}
+use Rattle.fed_board.proofs.ListedNames.{known_job, known_reservation}
 use Rattle.fed_replica.specs.Origin.{jobs_of, reservations_of}
 use Rattle.fed_replica.proofs.OriginCounts.{first_counted, fewer}
 
@@ -85,17 +85,9 @@ module _ (site : ℕ) where
   counted_name : (x : StampValue) (m : ℕ) → (x.site ≡ site → x.counter < m) → count_by (λ k. same_stamp x (at k)) (range_with_len 0 m) ≡ cond (x.site == site) 1 0
   counted_name x m below = go (x.site == site) refl
     where
-      and_true : (b : Bool) → (b && true) ≡ b
-      and_true true = refl
-      and_true false = refl
-
-      and_false : (b : Bool) → (b && false) ≡ false
-      and_false true = refl
-      and_false false = refl
-
       go : (b : Bool) → (x.site == site) ≡ b → count_by (λ k. x.counter == k && b) (range_with_len 0 m) ≡ cond b 1 0
-      go true e = ap (λ p. count_by p (range_with_len 0 m)) (λ i k. and_true (x.counter == k) i) ∙ (let h = below (eqb-true x.site site e) in counted_once x.counter m 0 (omega arith) (omega arith))
-      go false e = ap (λ p. count_by p (range_with_len 0 m)) (λ i k. and_false (x.counter == k) i) ∙ count_none m 0
+      go true e = ap (λ p. count_by p (range_with_len 0 m)) (λ i k. and-true (x.counter == k) i) ∙ (let h = below (eqb-true x.site site e) in counted_once x.counter m 0 (omega arith) (omega arith))
+      go false e = ap (λ p. count_by p (range_with_len 0 m)) (λ i k. and-false (x.counter == k) i) ∙ count_none m 0
 
   counted_names : (names : List StampValue) (m : ℕ) → AreApart names → ((x : StampValue) → Has names x → x.site ≡ site → x.counter < m) → names_of site names ≡ count_by (λ k. list_any (λ x. same_stamp x (at k)) names) (range_with_len 0 m)
   counted_names [] m apart below = sym (count_none m 0)
@@ -151,14 +143,6 @@ set_reservations_counted ops l = covered_counted (version_of ops) (λ name. is_s
     let r = reserve_of ops name l e in (l.sites (name, Reserve r.0) r.1, version_of-covers ops l.sites (name, Reserve r.0) r.1))
 
 -- ---- of a board
-known_job : (v : List ℕ) (job : StampValue) (a : Option JobRecordValue) → IfSome a (IsKnownJob v job) → is_submitted (reads_job (unwrap_or a no_operation)) ≡ true → (job.site < 16) × (covers v job ≡ true)
-known_job v job None p e = cc
-known_job v job (Some r) p e = (p.placed, p.named)
-
-known_reservation : (v : List ℕ) (name : StampValue) (a : Option ReservationView) → IfSome a (IsKnownReservation v name) → is_some (unwrap_or a None) ≡ true → (name.site < 16) × (covers v name ≡ true)
-known_reservation v name None p e = cc
-known_reservation v name (Some r) p e = (p.placed, p.named)
-
 pub jobs_counted : (b : BoardValue) → IsBoard b → keys_of b.jobs ≡ jobs_in (reads b) → (site : ℕ) → names_of site (keys_of b.jobs) ≡ jobs_of (reads b) site
 jobs_counted b board names site =
     ap (names_of site) names

@@ -10,20 +10,13 @@ use Rattle.fed_record.specs.declared.commands.Command.{Command}
 use Rattle.fed_record.specs.declared.refusals.Refusal.{Refusal}
 use Rattle.fed_record.specs.declared.replies.Reply.{Reply}
 use Rattle.fed_record.specs.Body.{Body}
+use Rattle.fed_record.proofs.FoundLaws.{some_found, none_found}
 use Rattle.fed_board.specs.View.{View}
 use Rattle.fed_board.specs.ViewSteps.{add_to_view}
 use Rattle.fed_desk.specs.Desk.{first_of}
 use Rattle.fed_replica.specs.Answer.{Answer, answer_to, answer_unless, effect, replies, reply_with, reply_without}
 use Rattle.fed_replica.specs.Refusals.{refusals}
 use Rattle.fed_replica.specs.Replica.{IsDone}
-
-none_is : {T : Type 0} (o : Option T) → is_some o ≡ false → o ≡ None
-none_is {T} None e = refl
-none_is {T} (Some x) e = cc
-
-some_is : {T : Type 0} (o : Option T) → is_some o ≡ true → (x : T) × (o ≡ Some x)
-some_is {T} None e = cc
-some_is {T} (Some x) e = (x, refl)
 
 module _ (v : View) (here : ℕ) (who : Who) (command : Command) where
   done_by : (r : Option Refusal) (n : Result StampValue ClockFull) (o : Option Body) → first_of (refusals v here who command) ≡ r → next_stamp v.version here ≡ n → effect v who command ≡ o
@@ -37,13 +30,13 @@ module _ (v : View) (here : ℕ) (who : Who) (command : Command) where
 
   module _ (spared : first_of (refusals v here who command) ≡ None) where
     pub nothing_done : is_some (effect v who command) ≡ false → IsDone (answer_to v here who command) v (Ok (reply_without command)) v
-    nothing_done e = done_by None _ None spared refl (none_is _ e) (Ok (reply_without command)) v (refl, refl)
+    nothing_done e = done_by None _ None spared refl (none_found _ e) (Ok (reply_without command)) v (refl, refl)
 
     pub full_done : (full : ClockFull) → is_some (effect v who command) ≡ true → next_stamp v.version here ≡ Err full → IsDone (answer_to v here who command) v (Err Refusal.ClockFull) v
-    full_done full e f = let s = some_is _ e in done_by None (Err full) (Some s.0) spared f s.1 (Err Refusal.ClockFull) v (refl, refl)
+    full_done full e f = let s = some_found _ e in done_by None (Err full) (Some s.0) spared f s.1 (Err Refusal.ClockFull) v (refl, refl)
 
     pub memory_done : (t : StampValue) (after : View) → is_some (effect v who command) ≡ true → next_stamp v.version here ≡ Ok t → after ≡ v → IsDone (answer_to v here who command) v (Err Refusal.NoMemory) after
-    memory_done t after e f same = let s = some_is _ e in done_by None (Ok t) (Some s.0) spared f s.1 (Err Refusal.NoMemory) after (refl, same)
+    memory_done t after e f same = let s = some_found _ e in done_by None (Ok t) (Some s.0) spared f s.1 (Err Refusal.NoMemory) after (refl, same)
 
     pub added_done : (t : StampValue) (body : Body) (reply : Reply) (after : View) → effect v who command ≡ Some body → next_stamp v.version here ≡ Ok t → reply ≡ reply_with t command → after ≡ add_to_view v (t, body)
         → IsDone (answer_to v here who command) v (Ok reply) after

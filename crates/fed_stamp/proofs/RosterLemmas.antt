@@ -3,7 +3,7 @@ use Rattle.std.proofs.Common.{◌≡◌, ◌≢◌, ℕ, zero, suc, ◌+◌, ◌
 use Rattle.std.specs.Option.{option_map, option_or}
 use Rattle.std.specs.List.{cons_option}
 use Rattle.std.specs.Cmp.Lexicographic.{pointwise, same_text, nat_list_eq_equiv}
-use Rattle.std.proofs.lemmas.Bool.{cases_Bool, cases_eq, cases_lt, and_parts, and_from, leb-true, le-leb, false≢true}
+use Rattle.std.proofs.lemmas.Bool.{cases_Bool, cases_eq, cases_lt, and_parts, and_from, leb-true, le-leb, false≢true, not-false}
 use Rattle.std.proofs.lemmas.List.{length-replicate, length-set, get_or-set_same, get_or-set_other, get_or_default, get_or-map, length-append, take_more, ext_get_or}
 use Rattle.std.proofs.lemmas.Option.{get_or_from_slice_get, slice_get-get_or}
 use Rattle.std.proofs.lemmas.List.Elements.{filter_map-append}
@@ -14,10 +14,6 @@ use Rattle.fed_stamp.specs.Word.{is_name}
 use Rattle.fed_stamp.specs.declared.rosters.RosterFault.TheVariants.{Count, Name, Twice, Nodes}
 
 -- ---- exactly the lists with no fault are rosters
-from_not_false : (b : Bool) → not b ≡ false → b ≡ true
-from_not_false true h = refl
-from_not_false false h = cc
-
 same_names : (xs ys : List ℕ) → xs ≡ ys → pointwise nat_eq xs ys ≡ true
 same_names xs ys e = rw (e) (nat_list_eq_equiv.refl ys)
 
@@ -42,13 +38,13 @@ module _ (sites : List (List ℕ × ℕ)) where
       record {
         at_least = leb-true 1 _ n.0;
         at_most = leb-true _ 16 n.1;
-        named = λ k d l. from_not_false _ (rw (get_or_default sites k d ([], 0) l) (none_below (is_misnamed sites) (length sites) p.1 k l));
+        named = λ k d l. not-false _ (rw (get_or_default sites k d ([], 0) l) (none_below (is_misnamed sites) (length sites) p.1 k l));
         apart = λ i j d l u e.
             let r : is_repeated sites j ≡ false = none_below (is_repeated sites) (length sites) p.2 j u in
             let f : is_named sites (name_at sites j) i ≡ false = none_below (is_named sites (name_at sites j)) j (none_from_not_some _ r) i l in
             let q : name_at sites i ≡ name_at sites j = ap first (get_or_default sites i ([], 0) d (omega arith)) ∙ e ∙ sym (ap first (get_or_default sites j ([], 0) d u)) in
             false≢true (sym f ∙ same_names _ _ q);
-        counted = λ k d l. from_not_false _ (rw (get_or_default sites k d ([], 0) l) (none_below (has_wrong_nodes sites) (length sites) p.3 k l));
+        counted = λ k d l. not-false _ (rw (get_or_default sites k d ([], 0) l) (none_below (has_wrong_nodes sites) (length sites) p.3 k l));
       }
 
   not_true : (b : Bool) → b ≡ true → not b ≡ false

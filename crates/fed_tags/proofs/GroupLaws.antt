@@ -17,6 +17,7 @@ use Rattle.std.proofs.lemmas.Map.Keys.{IsDistinct-from_sorted, sorted_tail}
 use Rattle.std.proofs.lemmas.Map.Lookups.{CmpEqualImpliesEq}
 use Rattle.std.proofs.lemmas.Map.Views.{tells_apart, IfSome-lookup_from_All, All-map-remove_entry}
 use Rattle.std.proofs.lemmas.List.Kept.{IsStrictlySortedBy-filter}
+use Rattle.std.proofs.Math.Bool.{and-false, and-true, or-false}
 use Rattle.fed_lattice.specs.Sets.{Has}
 use Rattle.fed_lattice.specs.SetLaws.{found, any_from}
 use Rattle.fed_lattice.specs.TableJoinLaws.{well_formed_insert}
@@ -32,21 +33,9 @@ use Rattle.fed_tags.specs.TagLaws.{pair_total, exact_pair, same_sets, any_filter
 use Rattle.fed_tags.specs.Groups.{tagged, pairs, IsGroup}
 
 -- ---- tests
-and_false : (a : Bool) → (a && false) ≡ false
-and_false true = refl
-and_false false = refl
-
 and_or_same : (a b c : Bool) → ((a && b) || (a && c)) ≡ (a && (b || c))
 and_or_same true b c = refl
 and_or_same false b c = refl
-
-and_true : (a : Bool) → (a && true) ≡ a
-and_true true = refl
-and_true false = refl
-
-or_false : (a : Bool) → (a || false) ≡ a
-or_false true = refl
-or_false false = refl
 
 -- whether an element's stamps, if it is there, have the stamp
 abbrev pub holds : Option (List StampValue) → StampValue → Bool
@@ -96,13 +85,13 @@ module _ {T : Type 0} (cmp : T → T → Ordering) (o : IsTotalOrder cmp) where
 
   -- ---- which pairs there are
   has_tagged : (k : T) (ss : List StampValue) (q : T × StampValue) → has (pair_cmp cmp) (tagged k ss) q ≡ (is_eq (cmp q.0 k) && list_any (eq_by_cmp stamp_cmp q.1) ss)
-  has_tagged k [] q = sym (and_false (is_eq (cmp q.0 k)))
+  has_tagged k [] q = sym (and-false (is_eq (cmp q.0 k)))
   has_tagged k (s ∷ ss) q =
       ap₂ (λ a b. a || b) (sym (tied_then (cmp q.0 k) (stamp_cmp q.1 s))) (has_tagged k ss q)
       ∙ and_or_same (is_eq (cmp q.0 k)) (is_eq (stamp_cmp q.1 s)) (list_any (eq_by_cmp stamp_cmp q.1) ss)
 
   has_step : (b : Bool) (ss : List StampValue) (r : Option (List StampValue)) (s : StampValue) → (b ≡ true → r ≡ None) → ((b && list_any (eq_by_cmp stamp_cmp s) ss) || holds r s) ≡ holds (cond b (Some ss) r) s
-  has_step true ss r s n = ap (λ x. list_any (eq_by_cmp stamp_cmp s) ss || holds x s) (n refl) ∙ or_false (list_any (eq_by_cmp stamp_cmp s) ss)
+  has_step true ss r s n = ap (λ x. list_any (eq_by_cmp stamp_cmp s) ss || holds x s) (n refl) ∙ or-false (list_any (eq_by_cmp stamp_cmp s) ss)
   has_step false ss r s n = refl
 
   none_later : (t : T) (e : T × List StampValue) (es : List (T × List StampValue)) → IsStrictlySortedBy cmp (keys_of (e ∷ es)) → is_eq (cmp t e.0) ≡ true → lookup (is_at (cmp t)) es ≡ None
@@ -174,8 +163,8 @@ module _ {T : Type 0} (cmp : T → T → Ordering) (o : IsTotalOrder cmp) where
     any_others s u ss = any_filtered stamp_cmp exact_stamp (λ (tag : StampValue). not (is_eq (stamp_cmp tag u))) s ss
 
     drop_bits : (b : Bool) (s u : StampValue) (ss : List StampValue) (r : Option (List StampValue)) → (b ≡ true → r ≡ Some ss) → holds (cond b (Some (others u ss)) r) s ≡ (holds r s && not ((b && is_eq (stamp_cmp s u)) || false))
-    drop_bits true s u ss r e = any_others s u ss ∙ ap₂ (λ (x : Option (List StampValue)) c. holds x s && not c) (sym (e refl)) (sym (or_false (is_eq (stamp_cmp s u))))
-    drop_bits false s u ss r e = sym (and_true (holds r s))
+    drop_bits true s u ss r e = any_others s u ss ∙ ap₂ (λ (x : Option (List StampValue)) c. holds x s && not c) (sym (e refl)) (sym (or-false (is_eq (stamp_cmp s u))))
+    drop_bits false s u ss r e = sym (and-true (holds r s))
 
     -- a stamp taken from an element's, where others are left
     pub dropped_pairs : (es : List (T × List StampValue)) (t : T) (u : StampValue) (ss : List StampValue) → IsTable cmp IsGroup es → lookup (is_at (cmp t)) es ≡ Some ss → IsTable cmp IsGroup (insert_entry cmp es t (others u ss))

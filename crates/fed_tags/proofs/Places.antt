@@ -5,7 +5,7 @@ use Rattle.std.specs.List.{AllByRecursion, insert, remove}
 use Rattle.std.specs.List.Sorted.{IsStrictlySortedBy, IsNonDecreasingBy, IsPartitionPoint, IsSearchInRange, IsBinarySearchResult}
 use Rattle.std.specs.Map.{keys_of, lookup, remove_entry, set_value}
 use Rattle.std.specs.Ordering.{is_eq, is_lt, ordering_reverse, ordering_index, match_ordering}
-use Rattle.std.proofs.Common.{◌≡◌, ℕ, zero, suc, ◌+◌, ◌<◌, ◌≤◌, List, [], ◌∷◌, Bool, true, false, cond, length, get_or, slice_set, Some, None, is_some, Result, Ok, Err, is_ok, IfOk, IfErr, Ordering, Less, Equal, Greater, refl, sym, ap, ap₂, subst, ◌∙◌, arith}
+use Rattle.std.proofs.Common.{◌≡◌, ℕ, zero, suc, ◌+◌, ◌<◌, ◌≤◌, List, [], ◌∷◌, true, false, length, get_or, slice_set, Some, None, is_some, Result, Ok, Err, is_ok, IfOk, IfErr, Ordering, Less, Equal, Greater, refl, sym, ap, ap₂, subst, ◌∙◌, arith}
 use Rattle.std.proofs.lemmas.List.Sorted.{searchable_from_sorted}
 use Rattle.std.proofs.lemmas.Map.Entries.{lookup_head, lookup_tail}
 use Rattle.std.proofs.lemmas.Map.Keys.{Less-from_sorted}
@@ -92,23 +92,6 @@ module _ {T X : Type 0} (cmp : T → T → Ordering) (o : IsTotalOrder cmp) wher
     remove_place [] t i d s l h = absurd (omega arith)
     remove_place (e ∷ es) t zero d s l h = rw (here e t h) refl
     remove_place (e ∷ es) t (suc i) d s l h = rw (later e es t i d (omega arith) s.0 h) (ap (λ ys. e ∷ ys) (remove_place es t i d s.1 (omega arith) h))
-
--- ---- entries without some
-module _ {T X : Type 0} (cmp : T → T → Ordering) where
-  all_removed : (P : T → Type 0) (test : T → Bool) (es : List (T × X)) → AllByRecursion P (keys_of es) → AllByRecursion P (keys_of (remove_entry test es))
-  all_removed P test [] a = a
-  all_removed P test (e ∷ es) a = by_test (test e.0) (all_removed P test es a.1) where
-    by_test : (b : Bool) → AllByRecursion P (keys_of (remove_entry test es)) → AllByRecursion P (keys_of (cond b es (e ∷ remove_entry test es)))
-    by_test true r = a.1
-    by_test false r = (a.0, r)
-
-  pub sorted_removed : (test : T → Bool) (es : List (T × X)) → IsStrictlySortedBy cmp (keys_of es) → IsStrictlySortedBy cmp (keys_of (remove_entry test es))
-  unfolding IsStrictlySortedBy
-  sorted_removed test [] s = s
-  sorted_removed test (e ∷ es) s = by_test (test e.0) (sorted_removed test es s.1) where
-    by_test : (b : Bool) → IsStrictlySortedBy cmp (keys_of (remove_entry test es)) → IsStrictlySortedBy cmp (keys_of (cond b es (e ∷ remove_entry test es)))
-    by_test true r = s.1
-    by_test false r = (all_removed (λ y. cmp e.0 y ≡ Less) test es s.0, r)
 
 remove_set_at : {Y : Type 0} (ys : List Y) (i : ℕ) (y : Y) → remove (slice_set ys i y) i ≡ remove ys i
 remove_set_at [] i y = refl

@@ -9,6 +9,7 @@ use Rattle.std.proofs.lemmas.List.{drop_more, get_or_default}
 use Rattle.std.proofs.lemmas.Map.Keys.{Less-from_sorted, sorted_from_all_adjacent}
 use Rattle.std.proofs.lemmas.Map.Lookups.{CmpEqualImpliesEq}
 use Rattle.std.proofs.lemmas.Map.Views.{tells_apart}
+use Rattle.std.proofs.Math.Bool.{or-false}
 use Rattle.fed_stamp.specs.Stamp.{StampValue}
 use Rattle.fed_stamp.specs.Version.{covers}
 use Rattle.fed_lattice.specs.Sets.{Has}
@@ -175,10 +176,7 @@ module _ {T : Type 0} (R : T × StampValue → T × StampValue → Ordering) (o 
   -- ---- sets from their pairs
   pub inserted_none : (ps : List (T × StampValue)) → IsStrictlySortedBy R ps → inserted R [] ps ≡ ps
   unfolding IsStrictlySortedBy
-  inserted_none ps s = same_sets R o exact _ _ (sorted_inserted R o exact [] ps tt) s (λ q. has_inserted R o exact q [] ps ∙ or_false (has R ps q)) where
-    or_false : (a : Bool) → (a || false) ≡ a
-    or_false true = refl
-    or_false false = refl
+  inserted_none ps s = same_sets R o exact _ _ (sorted_inserted R o exact [] ps tt) s (λ q. has_inserted R o exact q [] ps ∙ or-false (has R ps q))
 
   -- ---- joins
   pub kept_push : (ys : List (T × StampValue)) (w : List ℕ) (self new old it rest : List (T × StampValue)) (p : T × StampValue) → inserted R self (kept R ys w it) ≡ old → it ≡ p ∷ rest

@@ -4,6 +4,7 @@ use Rattle.std.specs.Global.{Vec}
 use Rattle.std.specs.List.{list_all}
 use Rattle.std.proofs.lemmas.Grind.{common_steps}
 use Rattle.std.proofs.lemmas.Option.{slice_get_within}
+use Rattle.std.proofs.lemmas.Bool.{and_from}
 use Rattle.fed_threads.specs.declared.journal.Asked.{Asked}
 use Rattle.fed_threads.specs.declared.journal.Asked.TheVariants.{Do, Ship, Take}
 use Rattle.fed_threads.specs.declared.journal.Claim.{Claim}
@@ -15,22 +16,19 @@ use Rattle.fed_threads.proofs.Greedy.{IsWithin, StaysReady, and_left, and_right}
 stays_placed : (a b : List ℕ) (site index : ℕ) → IsWithin a b → is_placed a site index ≡ true → is_placed b site index ≡ true
 stays_placed a b site index le is = let h = le site in grind (arith, common_steps)
 
-both : (a b : Bool) → a ≡ true → b ≡ true → (a && b) ≡ true
-both a b f g = rw (f, g) refl
-
 stays_all : (a b : List ℕ) (claims : List Claim) → IsWithin a b
     → list_all (λ c. is_placed a c.site c.index) claims ≡ true
     → list_all (λ c. is_placed b c.site c.index) claims ≡ true
 stays_all a b [] le is = refl
 stays_all a b (c ∷ claims) le is =
-    both _ _ (stays_placed a b c.site c.index le (and_left _ _ is)) (stays_all a b claims le (and_right (is_placed a c.site c.index) _ is))
+    and_from _ _ (stays_placed a b c.site c.index le (and_left _ _ is)) (stays_all a b claims le (and_right (is_placed a c.site c.index) _ is))
 
 stays_seats : (a b : List ℕ) (site index : ℕ) (seats : List (List Claim)) → IsWithin a b
     → list_all (seat_allows a site index) seats ≡ true
     → list_all (seat_allows b site index) seats ≡ true
 stays_seats a b site index [] le is = refl
 stays_seats a b site index (claims ∷ seats) le is =
-    both _ _ (stays_all a b (claims_before site index claims) le (and_left _ _ is))
+    and_from _ _ (stays_all a b (claims_before site index claims) le (and_left _ _ is))
     (stays_seats a b site index seats le (and_right (seat_allows a site index claims) _ is))
 
 stays_take : (journals : List (List Entry)) (a b : List ℕ) (asked : Asked) → IsWithin a b
@@ -39,14 +37,14 @@ stays_take : (journals : List (List Entry)) (a b : List ℕ) (asked : Asked) →
 stays_take journals a b (Do site who command) le is = refl
 stays_take journals a b (Ship site to) le is = refl
 stays_take journals a b (Take site sender place) le is =
-    both _ _ (stays_placed a b sender place le (and_left _ _ is)) (and_right (is_placed a sender place) _ is)
+    and_from _ _ (stays_placed a b sender place le (and_left _ _ is)) (and_right (is_placed a sender place) _ is)
 
 stays_follow : (journals : List (List Entry)) (seats : List (List Claim)) (a b : List ℕ) (site index : ℕ) (e : Option Entry) → IsWithin a b
     → may_follow journals seats a site index e ≡ true
     → may_follow journals seats b site index e ≡ true
 stays_follow journals seats a b site index None le is = is
 stays_follow journals seats a b site index (Some e) le is =
-    both _ _ (stays_take journals a b e.asked le (and_left _ _ is))
+    and_from _ _ (stays_take journals a b e.asked le (and_left _ _ is))
     (stays_seats a b site index seats le (and_right (take_allows journals a e.asked) _ is))
 
 follow_inside : (journals : List (List Entry)) (seats : List (List Claim)) (placed : List ℕ) (site index : ℕ)

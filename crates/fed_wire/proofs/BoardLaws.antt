@@ -5,7 +5,7 @@ use Rattle.std.specs.Map.{lookup, keys_of}
 use Rattle.std.specs.BTreeMap.{is_at}
 use Rattle.std.specs.Ordering.{nat_cmp}
 use Rattle.std.specs.Cmp.{IsTotalOrder, nat_cmp_total}
-use Rattle.std.proofs.Common.{◌≡◌, ◌<◌, ◌≤◌, ℕ, length, arith, List, [], ◌∷◌, ◌++◌, Bool, true, false, cond, is_some, Option, Some, None, Ordering, refl, sym, ap, subst, inl, inr}
+use Rattle.std.proofs.Common.{◌≡◌, ℕ, length, List, [], ◌∷◌, ◌++◌, Bool, true, false, cond, is_some, Option, Some, None, Ordering, refl, sym, ap, subst, inl, inr}
 use Rattle.std.proofs.lemmas.Bool.{and_parts, and_from}
 use Rattle.std.proofs.lemmas.Map.Lookups.{CmpEqualImpliesEq, exact_unsigned}
 use Rattle.std.proofs.lemmas.Map.Views.{tells_apart}
@@ -31,17 +31,14 @@ use Rattle.fed_job_json.specs.declared.formats.Format.{Format}
 use Rattle.fed_job_json.specs.declared.formats.Format.TheVariants.{One, Two}
 use Rattle.fed_job_json.specs.Covers.{covers_at, covers_pairs, covers_job}
 use Rattle.fed_job_json.specs.Fields.{IsField}
-use Rattle.fed_job_json.specs.Stamps.{IsStamp}
 use Rattle.fed_job_json.specs.Job.{Job, IsJob, IsJobIn, IsAccountIn}
+use Rattle.fed_job_json.proofs.JobReads.{site_placed}
 use Rattle.fed_wire.specs.Reservations.{Reserved, IsReservation}
 use Rattle.fed_wire.specs.Packet.{may_stand, job_stands, covers_window, reservation_stands, AllStand}
 
 -- ---- jobs
 
 -- a stamp in range is of one of the 16 sites
-site_placed : (s : StampValue) → IsStamp s → s.site < 16
-site_placed s h = let small : s.site ≤ 15 = h.1.1 in omega arith
-
 covered_at : {T : Type 0} (stamp : T → StampValue) (v : List ℕ) (o : Option T) → covers_at stamp v o ≡ true → IsCoveredAt stamp v o
 covered_at stamp v None e = tt
 covered_at stamp v (Some x) e = e

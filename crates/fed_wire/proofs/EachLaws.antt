@@ -1,17 +1,14 @@
 -- Elements that are read one after another, each where it may stand.
-use Rattle.std.proofs.Common.{◌≡◌, ℕ, ◌<◌, ◌+◌, length, map, drop, slice_index_or, add-one, Bool, true, false, List, [], ◌∷◌, ◌++◌, Result, Ok, Err, refl}
-use Rattle.std.proofs.Math.Seq.{drop-cons}
+use Rattle.std.proofs.Common.{◌≡◌, ℕ, ◌<◌, ◌+◌, length, map, drop, slice_index_or, Bool, true, false, List, [], ◌∷◌, ◌++◌, Result, Ok, Err, refl}
 use Rattle.serde_json.specs.Data.{Data}
 use Rattle.serde_json.specs.View.{view}
 use Rattle.serde_json.specs.declared.value.Value.{Value}
 use Rattle.fed_json.specs.Reading.{Reading}
+use Rattle.fed_json.proofs.ListLaws.{first_left}
 use Rattle.fed_wire.specs.declared.faults.Part.{Part}
 use Rattle.fed_wire.specs.declared.faults.WireFault.{WireFault}
 use Rattle.fed_wire.specs.declared.faults.WireFault.TheVariants.{Range}
 use Rattle.fed_wire.specs.Reading.{place, each_in}
-
-first_left : (vs : List Value) (i : ℕ) (v : Value) → i < length vs → v ≡ slice_index_or vs i v → map view (drop i vs) ≡ view v ∷ map view (drop (i + 1) vs)
-first_left vs i v h e = rw (drop-cons vs i v h, ← e, add-one) refl
 
 module _ {A : Type 0} (part : Part) (read : Data → Reading A) (stands : List A → A → Bool) (vs : List Value) (i : ℕ) (before : List A) where
   abbrev pub left : Result (List A) WireFault

@@ -9,7 +9,7 @@ use Rattle.std.specs.Ordering.{nat_cmp}
 use Rattle.std.proofs.Common.{◌≡◌, ◌==◌, ◌≤◌, ◌<◌, ◌+◌, ◌&&◌, ℕ, List, [], ◌∷◌, Bool, true, false, cond, All, Option, Some, None, unwrap_or, refl, sym, ap, subst, ◌∙◌, arith, inl, inr}
 use Rattle.std.proofs.lemmas.Bool.{and_parts, and_from}
 use Rattle.std.proofs.lemmas.Cmp.{eq_by_cmp_equiv}
-use Rattle.std.proofs.lemmas.List.Elements.{All-head, All-tail, All-weaker, All-contains_itself}
+use Rattle.std.proofs.lemmas.List.Elements.{All-head, All-tail, All-weaker, All-contains_itself, recursion_from_All}
 use Rattle.std.proofs.lemmas.Map.Keys.{IsDistinct-from_sorted}
 use Rattle.std.proofs.lemmas.Map.Lookups.{exact_unsigned}
 use Rattle.std.proofs.lemmas.Map.Views.{IfSome-lookup_from_All, lookup-from_Contains}
@@ -191,12 +191,8 @@ reservations_told v need site = subst (λ w. names_of site (filter (λ name. is_
     (λ name s. sym (ap is_some (reservation_told v need name ((cut v need).reservation name) refl s)) ∙ s) site (covered_stamps v.version))
 
 -- ---- entries
-by_recursion : {X : Type 0} (P : X → Type 0) (xs : List X) → All P xs → AllByRecursion P xs
-by_recursion P [] h = tt
-by_recursion P (x ∷ xs) h = (All-head P x xs h, by_recursion P xs (All-tail P x xs h))
-
 each_entry : {X : Type 0} (es : List (StampValue × X)) → IsStrictlySortedBy stamp_cmp (keys_of es) → AllByRecursion (λ (e : StampValue × X). lookup (is_at (stamp_cmp e.0)) es ≡ Some e.1) es
-each_entry {X} es s = by_recursion _ es (All-weaker _ (λ (e : StampValue × X). lookup (is_at (stamp_cmp e.0)) es ≡ Some e.1)
+each_entry {X} es s = recursion_from_All _ es (All-weaker _ (λ (e : StampValue × X). lookup (is_at (stamp_cmp e.0)) es ≡ Some e.1)
     (λ e h. lookup-from_Contains (eq_by_cmp_equiv stamp_total) e.0 e.1 es (IsDistinct-from_sorted stamp_cmp (keys_of es) s) h) es (All-contains_itself es))
 
 weaker : {X : Type 0} (P Q : X → Type 0) (xs : List X) → ((x : X) → P x → Q x) → AllByRecursion P xs → AllByRecursion Q xs

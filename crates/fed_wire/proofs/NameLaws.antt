@@ -1,13 +1,12 @@
 -- Names that follow one another.
 use Rattle.std.specs.List.{AllByRecursion}
 use Rattle.std.specs.List.Sorted.{IsStrictlySortedBy}
-use Rattle.std.specs.Ordering.{is_lt}
-use Rattle.std.specs.declared.cmp.Ordering.{Ordering}
-use Rattle.std.specs.declared.cmp.Ordering.TheVariants.{Less, Equal, Greater}
+use Rattle.std.specs.declared.cmp.Ordering.TheVariants.{Less}
 use Rattle.std.proofs.Common.{◌≡◌, ◌==◌, ◌+◌, ℕ, length, List, [], ◌∷◌, ◌++◌, Bool, true, false, cond, Some, None, replicate, slice_index, slice_index_or, slice_set, refl, sym, ap, subst, ◌∙◌, ◌<◌, arith}
 use Rattle.std.proofs.lemmas.Bool.{and_parts}
 use Rattle.std.proofs.lemmas.List.{get_or-set_same, get_or-set_other, get_or-replicate}
 use Rattle.std.proofs.lemmas.List.Sums.{sum_by-append}
+use Rattle.fed_job_json.proofs.PairLaws.{less}
 use Rattle.fed_stamp.specs.Stamp.{StampValue}
 use Rattle.fed_lattice.specs.ExactLaws.{tells_numbers}
 use Rattle.fed_lattice.specs.Latest.{stamp_cmp}
@@ -16,11 +15,6 @@ use Rattle.fed_board.specs.Counts.{names_of, AreCounts}
 use Rattle.fed_wire.specs.declared.names.Names.{Names}
 use Rattle.fed_wire.specs.Names.{AreKept}
 use Rattle.fed_wire.specs.Packet.{last_of, follows, may_stand}
-
-less : (o : Ordering) → is_lt o ≡ true → o ≡ Less
-less Less e = refl
-less Equal e = absurd cc
-less Greater e = absurd cc
 
 above_all : (k l : StampValue) (ks : List StampValue) → stamp_cmp k l ≡ Less → AllByRecursion (λ y. stamp_cmp l y ≡ Less) ks → AllByRecursion (λ y. stamp_cmp k y ≡ Less) ks
 above_all k l [] e h = tt

@@ -1,6 +1,7 @@
 -- Reservations are read as what they are the values of.
-use Rattle.std.proofs.Common.{◌≡◌, ℕ, ◌<◌, ltb, true, List, [], ◌∷◌, Ok, refl, ap, subst, ◌∙◌, arith}
+use Rattle.std.proofs.Common.{◌≡◌, ltb, true, List, [], ◌∷◌, Ok, refl, ap, subst, ◌∙◌}
 use Rattle.std.specs.Prelude.{codes, IfSome}
+use Rattle.std.proofs.lemmas.Bool.{ltb-true, lt-ltb}
 use Rattle.serde_json.specs.Data.{Data}
 use Rattle.fed_stamp.specs.declared.rosters.TheConstants.{MAX_NODES}
 use Rattle.fed_record.specs.declared.moments.TheConstants.{MAX_MOMENT}
@@ -19,16 +20,8 @@ use Rattle.fed_job_json.specs.Stamps.{stamp_value, stamp_of, IsStamp, site_of}
 use Rattle.fed_job_json.specs.Fields.{field_value, field_of, IsField}
 use Rattle.fed_job_json.proofs.StampLaws.{site_form, stamp_form}
 use Rattle.fed_job_json.proofs.FieldLaws.{field_form}
+use Rattle.fed_job_json.proofs.GrantLaws.{four}
 use Rattle.fed_wire.specs.Reservations.{times_value, ends_later, times_from, times_of, IsWindow, window_value, window_of, reservation_members, reservation_value, reservation_names, reservation_of, IsReservation}
-
-later : (a b : ℕ) → ltb a b ≡ true → a < b
-later a b e = grind arith
-
-later_test : (a b : ℕ) → a < b → ltb a b ≡ true
-later_test a b h = grind arith
-
-four : (a b c d x y z w : Data) → a ≡ x → b ≡ y → c ≡ z → d ≡ w → list_value (a ∷ b ∷ c ∷ d ∷ []) ≡ list_value (x ∷ y ∷ z ∷ w ∷ [])
-four a b c d x y z w p q r s = rw (p, q, r, s) refl
 
 four_take : (a b c d : Data) (w : Window) → times_from (a ∷ b ∷ c ∷ d ∷ []) ≡ Ok w → (list_value (a ∷ b ∷ c ∷ d ∷ []) ≡ times_value w) × IsWindow w
 four_take a b c d w e =
@@ -44,7 +37,7 @@ four_take a b c d w e =
     let l = (natural_form 1 MAX_NODES).takes d m.0.1.1.1 t.1 in
     let after : ltb m.0.1.0 m.0.1.1.0 ≡ true = ap ends_later m.2 ∙ u.1 in
     subst (λ (w : Window). (list_value (a ∷ b ∷ c ∷ d ∷ []) ≡ times_value w) × IsWindow w) (m.2 ∙ u.0)
-    (four a b c d _ _ _ _ s.0 k.0 n.0 l.0, (s.1, k.1, n.1, l.1, later m.0.1.0 m.0.1.1.0 after))
+    (four a b c d _ _ _ _ s.0 k.0 n.0 l.0, (s.1, k.1, n.1, l.1, ltb-true m.0.1.0 m.0.1.1.0 after))
 
 from_takes : (ds : List Data) (w : Window) → times_from ds ≡ Ok w → (list_value ds ≡ times_value w) × IsWindow w
 from_takes (a ∷ b ∷ c ∷ d ∷ []) w e = four_take a b c d w e
@@ -60,7 +53,7 @@ times_form = record {
       let l = bind_ok (elements_of d) times_from w e in
       let t = from_takes l.0 w l.2 in
       (elements_takes d l.0 l.1 ∙ t.0, t.1);
-  again = λ w h. rw ((site_form).again w.site h.0, (natural_form 0 MAX_MOMENT).again w.start h.1, (natural_form 0 MAX_MOMENT).again w.end h.2, (natural_form 1 MAX_NODES).again w.nodes h.3, later_test w.start w.end h.4) refl;
+  again = λ w h. rw ((site_form).again w.site h.0, (natural_form 0 MAX_MOMENT).again w.start h.1, (natural_form 0 MAX_MOMENT).again w.end h.2, (natural_form 1 MAX_NODES).again w.nodes h.3, lt-ltb w.start w.end h.4) refl;
 }
 
 window_form : IsForm window_of window_value (λ w. IfSome w IsWindow)

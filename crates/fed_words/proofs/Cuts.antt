@@ -4,6 +4,7 @@ use Rattle.std.specs.Prelude.{◌==◌, is_some, nat_lt, position}
 use Rattle.std.specs.List.{All, after_first, before_first, join_with_byte, list_all, position_or_len, slice_split}
 use Rattle.std.proofs.lemmas.Bool.Decides.{nat_tests}
 use Rattle.std.proofs.lemmas.List.Elements.{All-cons, All-head, All-tail}
+use Rattle.std.proofs.lemmas.Bool.{eq-eqb}
 use Rattle.fed_words.specs.Fault.{Answer, each}
 
 -- no byte passes
@@ -57,15 +58,12 @@ pub split-none : (p : ℕ → Bool) (xs : List ℕ) → Free p xs → slice_spli
 split-none p [] free = refl
 split-none p (x ∷ xs) free = rw (free.0, split-none p xs free.1) refl
 
-itself : (c : ℕ) → (c == c) ≡ true
-itself c = grind (arith, nat_tests)
-
 -- pieces that are joined by a byte which they don't have are cut apart again
 pub split-join : (c : ℕ) (pieces : List (List ℕ)) → 0 < length pieces → All (Free (λ b. b == c)) pieces → slice_split (λ b. b == c) (join_with_byte c pieces) ≡ pieces
 split-join c [] some free = absurd (omega arith)
 split-join c (x ∷ []) some free = split-none (λ b. b == c) x (All-head (Free (λ b. b == c)) x [] free)
 split-join c (x ∷ y ∷ pieces) some free =
-    split-first (λ b. b == c) c (join_with_byte c (y ∷ pieces)) (itself c) x (All-head (Free (λ b. b == c)) x (y ∷ pieces) free)
+    split-first (λ b. b == c) c (join_with_byte c (y ∷ pieces)) (eq-eqb c c refl) x (All-head (Free (λ b. b == c)) x (y ∷ pieces) free)
     ∙ ap (λ zs. x ∷ zs) (split-join c (y ∷ pieces) (omega arith) (All-tail (Free (λ b. b == c)) x (y ∷ pieces) free))
 
 pub free-join : (p : ℕ → Bool) (c : ℕ) (pieces : List (List ℕ)) → p c ≡ false → All (Free p) pieces → Free p (join_with_byte c pieces)

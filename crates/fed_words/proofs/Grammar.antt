@@ -1,9 +1,9 @@
 -- Words are read as the grammar says, and all words are of the grammar.
-use Rattle.std.proofs.Common.{◌≡◌, ℕ, suc, ◌<◌, Bool, true, false, ◌&&◌, List, [], ◌∷◌, ◌++◌, length, Option, Some, None, Ok, Err, refl, ap, sym, ◌∙◌, arith, inl, inr, append-nil, append_assoc, codes}
+use Rattle.std.proofs.Common.{◌≡◌, ℕ, suc, ◌<◌, Bool, true, false, List, [], ◌∷◌, ◌++◌, length, Option, Some, None, Ok, Err, refl, ap, sym, ◌∙◌, arith, inl, inr, append-nil, append_assoc, codes}
 use Rattle.std.specs.Prelude.{◌==◌, nat_lt}
 use Rattle.std.specs.List.{All, find, flat_map}
 use Rattle.std.specs.Str.{bytes_eq}
-use Rattle.std.proofs.lemmas.Bool.{cases_Bool}
+use Rattle.std.proofs.lemmas.Bool.{cases_Bool, eqb-true, and_parts}
 use Rattle.std.proofs.lemmas.Bool.Decides.{nat_tests}
 use Rattle.std.proofs.lemmas.List.Elements.{All-cons, All-from_recursion, All-head, All-nil, All-tail}
 use Rattle.std.proofs.lemmas.Slice.Eq.{bytes_eq-Decides}
@@ -125,14 +125,11 @@ lettered Qrls = All-from_recursion (λ t. t.0 ≡ letter_of t.1) (choices Qrls) 
 lettered Qdel = All-from_recursion (λ t. t.0 ≡ letter_of t.1) (choices Qdel) tt
 lettered Qstat = All-from_recursion (λ t. t.0 ≡ letter_of t.1) (choices Qstat) (refl, tt)
 
-equal_from : (m n : ℕ) → (m == n) ≡ true → m ≡ n
-equal_from m n e = grind (arith, nat_tests)
-
 letter_from : (utility : Utility) (letter : ℕ) (option : Choice) → choice_of utility letter ≡ Some option → letter ≡ letter_of option
 letter_from utility letter option e =
     let found = option_map_some (λ c. c.1) (find (λ c. letter == c.0) (choices utility)) option e in
     let at = find_passes (λ t. t.0 ≡ letter_of t.1) (λ c. letter == c.0) (choices utility) found.0 found.1 (lettered utility) in
-    equal_from letter (found.0).0 at.0 ∙ at.1 ∙ ap letter_of found.2
+    eqb-true letter (found.0).0 at.0 ∙ at.1 ∙ ap letter_of found.2
 
 -- the letters behind a `-`
 data Cut (utility : Utility) (text : List ℕ) : Type 0 where
@@ -186,11 +183,7 @@ ended utility words ending h e = record {
 dashed : (word : List ℕ) → is_options word ≡ true → (text : List ℕ) × (0 < length text) × (word ≡ 45 ∷ text)
 dashed [] h = absurd cc
 dashed (b ∷ []) h = absurd cc
-dashed (b ∷ letter ∷ others) h = (letter ∷ others, omega arith, (let same : b ≡ 45 = equal_from b 45 (second (nat_lt 1 (length (b ∷ letter ∷ others))) (b == 45) h) in rw same refl))
-  where
-    second : (x y : Bool) → (x && y) ≡ true → y ≡ true
-    second true y e = e
-    second false y e = absurd cc
+dashed (b ∷ letter ∷ others) h = (letter ∷ others, omega arith, (let same : b ≡ 45 = eqb-true b 45 (and_parts (nat_lt 1 (length (b ∷ letter ∷ others))) (b == 45) h).1 in rw same refl))
 
 length-letters : (flags : List Choice) → length (letters flags) ≡ length flags
 length-letters [] = refl

@@ -1,11 +1,12 @@
 -- The options of one word, letter by letter.
-use Rattle.std.proofs.Common.{◌≡◌, ◌≢◌, ℕ, ◌<◌, ◌≤◌, Bool, true, false, List, [], ◌∷◌, ◌++◌, length, Option, Some, None, Ok, Err, refl, ap, sym, ◌∙◌, arith, lit<, inl, inr, append-nil, append_assoc}
-use Rattle.std.specs.Prelude.{◌==◌, ◌&&◌, nat_lt, encode_utf8}
+use Rattle.std.proofs.Common.{◌≡◌, ◌≢◌, ℕ, ◌<◌, ◌≤◌, true, false, List, [], ◌∷◌, ◌++◌, length, Option, Some, None, Ok, Err, refl, ap, sym, ◌∙◌, arith, lit<, inl, inr, append-nil, append_assoc}
+use Rattle.std.specs.Prelude.{◌==◌, nat_lt, encode_utf8}
 use Rattle.std.proofs.lemmas.Bool.{cases_lt, cases_Bool}
 use Rattle.std.proofs.lemmas.Bool.Decides.{nat_tests}
 use Rattle.std.proofs.lemmas.List.{nil_from_length, length-append}
 use Rattle.std.specs.Char.{len_utf8}
 use Rattle.std.proofs.lemmas.Str.{encode_ascii, char_from_byte, length-encode}
+use Rattle.std.proofs.Math.Bool.{and-false}
 use Rattle.fed_words.specs.declared.faults.UsageFault.TheVariants.{UnknownOption}
 use Rattle.fed_words.specs.declared.utilities.Choice.{Choice}
 use Rattle.fed_words.specs.declared.utilities.Utility.{Utility}
@@ -75,12 +76,8 @@ pub options-none : (word : List ℕ) → ((rest : List ℕ) → word ≢ 45 ∷ 
 options-none [] none = refl
 options-none (b ∷ bytes) none = elim (cases_Bool (b == 45)) [
   | inl dash ↦ absurd (let same : b ≡ 45 = grind (arith, nat_tests) in none bytes (rw same refl))
-  | inr other ↦ rw other (and_false (nat_lt 1 (length (b ∷ bytes))))
+  | inr other ↦ rw other (and-false (nat_lt 1 (length (b ∷ bytes))))
 ]
-  where
-    and_false : (x : Bool) → (x && false) ≡ false
-    and_false true = refl
-    and_false false = refl
 
 pub items_of-push : (xs : List Item) (item : Item) → items_of (xs ++ item ∷ []) ≡ items_of xs ++ (item.option, item.argument.now) ∷ []
 items_of-push [] item = refl

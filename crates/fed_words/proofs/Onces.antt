@@ -1,36 +1,20 @@
 -- Jobs, each once, found one after another.
-use Rattle.std.proofs.Common.{◌≡◌, ℕ, Bool, true, false, not, ◌&&◌, List, [], ◌∷◌, ◌++◌, filter, map, refl, ap, sym, ◌∙◌, arith, inl, inr}
+use Rattle.std.proofs.Common.{◌≡◌, ℕ, Bool, true, false, not, ◌&&◌, List, [], ◌∷◌, ◌++◌, filter, map, refl, ap, sym, ◌∙◌, inl, inr}
 use Rattle.std.specs.Prelude.{◌==◌, if◌then◌else◌}
 use Rattle.std.specs.List.{list_any}
-use Rattle.std.proofs.lemmas.Bool.{and_parts, cases_Bool}
-use Rattle.std.proofs.lemmas.Bool.Decides.{nat_tests}
+use Rattle.std.proofs.lemmas.Bool.{cases_Bool}
+use Rattle.fed_lattice.specs.ExactLaws.{same_stamp_is, same_stamp_itself}
 use Rattle.fed_stamp.specs.Stamp.{StampValue, same_stamp}
 use Rattle.fed_words.specs.Request.{once}
-
-eq_from : (m n : ℕ) → (m == n) ≡ true → m ≡ n
-eq_from m n e = grind (arith, nat_tests)
-
-eq_itself : (n : ℕ) → (n == n) ≡ true
-eq_itself n = grind (arith, nat_tests)
-
-pub same_from : (a b : StampValue) → same_stamp a b ≡ true → a ≡ b
-same_from a b e =
-    let parts = and_parts (a.counter == b.counter) (a.site == b.site) e in
-    let counters : a.counter ≡ b.counter = eq_from a.counter b.counter parts.0 in
-    let sites : a.site ≡ b.site = eq_from a.site b.site parts.1 in
-    λ i. record { counter = counters i; site = sites i }
-
-same_itself : (a : StampValue) → same_stamp a a ≡ true
-same_itself a = rw (eq_itself a.counter, eq_itself a.site) refl
 
 -- what passes is not filtered away where it differs from x
 any_filter : (x job : StampValue) (ys : List StampValue) → same_stamp x job ≡ false → list_any (same_stamp job) (filter (λ y. not (same_stamp x y)) ys) ≡ list_any (same_stamp job) ys
 any_filter x job [] e = refl
 any_filter x job (y ∷ ys) e = elim (cases_Bool (same_stamp x y)) [
   | inl same ↦
-      let at : x ≡ y = same_from x y same in
+      let at : x ≡ y = same_stamp_is x y same in
       let differs : same_stamp job y ≡ false = elim (cases_Bool (same_stamp job y)) [
-        | inl again ↦ absurd (let is : job ≡ y = same_from job y again in let bad : same_stamp x job ≡ true = rw (is, at) (same_itself y) in cc)
+        | inl again ↦ absurd (let is : job ≡ y = same_stamp_is job y again in let bad : same_stamp x job ≡ true = rw (is, at) (same_stamp_itself y) in cc)
         | inr other ↦ other
       ] in
       rw (same, differs) (any_filter x job ys e)
@@ -53,15 +37,15 @@ pub once-push : (jobs : List StampValue) (job : StampValue) → once (jobs ++ jo
 once-push [] job = refl
 once-push (x ∷ jobs) job = elim (cases_Bool (same_stamp x job)) [
   | inl same ↦
-      let at : x ≡ job = same_from x job same in
-      let back : same_stamp job x ≡ true = rw at (same_itself job) in
+      let at : x ≡ job = same_stamp_is x job same in
+      let back : same_stamp job x ≡ true = rw at (same_stamp_itself job) in
       elim (cases_Bool (list_any (same_stamp job) (once jobs))) [
         | inl known ↦ rw (once-push jobs job, known, back) refl
         | inr new ↦ rw (once-push jobs job, new, back, filter-push (λ y. not (same_stamp x y)) (once jobs) job, same, append-none (filter (λ y. not (same_stamp x y)) (once jobs))) refl
       ]
   | inr differs ↦
       let back : same_stamp job x ≡ false = elim (cases_Bool (same_stamp job x)) [
-        | inl again ↦ absurd (let is : job ≡ x = same_from job x again in let bad : same_stamp x job ≡ true = rw is (same_itself x) in cc)
+        | inl again ↦ absurd (let is : job ≡ x = same_stamp_is job x again in let bad : same_stamp x job ≡ true = rw is (same_stamp_itself x) in cc)
         | inr other ↦ other
       ] in
       elim (cases_Bool (list_any (same_stamp job) (once jobs))) [
@@ -100,11 +84,3 @@ once-new job done new = sym (once-push done job ∙ rw new refl)
 
 pub once-known : (job : StampValue) (done : List StampValue) → list_any (same_stamp job) (once done) ≡ true → once done ≡ once (done ++ job ∷ [])
 once-known job done known = sym (once-push done job ∙ rw known refl)
-
-pub not_true : (b : Bool) → not b ≡ true → b ≡ false
-not_true true e = absurd cc
-not_true false e = refl
-
-pub not_false : (b : Bool) → not b ≡ false → b ≡ true
-not_false true e = refl
-not_false false e = absurd cc

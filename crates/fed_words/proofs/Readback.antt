@@ -33,7 +33,7 @@ use Rattle.fed_words.specs.Askable.{HasJobs, IsAsked, IsJob, IsOption, IsResourc
 use Rattle.fed_words.proofs.Answering.{asked-answer}
 use Rattle.fed_words.proofs.Lines.{IsItem, line_is_read}
 use Rattle.fed_words.proofs.Cuts.{Free, all-map, cut-after, cut-before, cut-found, each-said, free-append, free-join, map-itself, split-join}
-use Rattle.fed_words.proofs.Texts.{free-decimal, free-site_name, no_comma, no_plus_sign, number_in-decimal, priority_in-signed}
+use Rattle.fed_words.proofs.Texts.{free-decimal, free-site_name, no_comma, no_plus_sign, number_in-decimal, priority_in-signed, in_64}
 
 -- the least place that passes
 find-least : (test : ℕ → Bool) (a n k : ℕ) → a ≤ k → k < a + n → test k ≡ true → ((j : ℕ) → j < k → test j ≡ false) → find test (range_with_len a n) ≡ Some k
@@ -58,9 +58,6 @@ module _ (roster : List (List ℕ × ℕ)) (lawful : IsRoster roster) where
 
   no_dot_digit : (c : ℕ) → (48 ≤ c) × (c ≤ 57) → (c == 46) ≡ false
   no_dot_digit c h = grind (arith, nat_tests)
-
-  in_64 : (least most n : ℕ) → most < 2 ^ 64 → is_within least most n ≡ true → n < 2 ^ 64
-  in_64 least most n low e = grind (arith, nat_tests)
 
   in_10_digits : (n : ℕ) → is_within 1 MAX_COUNTER n ≡ true → n < 10 ^ 10
   in_10_digits n e = grind (arith, nat_tests)

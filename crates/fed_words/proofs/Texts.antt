@@ -1,5 +1,5 @@
 -- Values are read back from the words that say them.
-use Rattle.std.proofs.Common.{◌≡◌, ◌≢◌, ℕ, suc, ◌<◌, ◌^◌, ℤ, pos, negsuc, Bool, true, false, ◌&&◌, List, [], ◌∷◌, get_or, Some, refl, arith}
+use Rattle.std.proofs.Common.{◌≡◌, ◌≢◌, ℕ, suc, ◌<◌, ◌^◌, ℤ, pos, negsuc, Bool, true, false, List, [], ◌∷◌, get_or, Some, refl, arith}
 use Rattle.std.specs.Prelude.{◌==◌}
 use Rattle.std.specs.Fmt.{decimal, signed_decimal}
 use Rattle.std.specs.Int.{IsInRange}
@@ -7,18 +7,19 @@ use Rattle.std.specs.Str.Parse.{AllDigits}
 use Rattle.std.proofs.lemmas.Bool.Decides.{nat_tests}
 use Rattle.std.proofs.lemmas.Fmt.{decimal_is_IsNumeral}
 use Rattle.std.proofs.lemmas.Str.Parse.{digit_from_value, digit_at, without_leading_plus_none}
+use Rattle.std.proofs.lemmas.Bool.{and_parts}
 use Rattle.fed_stamp.specs.Roster.{is_site_byte, is_site_name}
 use Rattle.fed_words.specs.Number.{is_within, number_in}
 use Rattle.fed_words.specs.Priority.{is_priority, priority_in}
 use Rattle.fed_words.proofs.Cuts.{Free, free_from_all}
 use Rattle.fed_words.proofs.DigitWords.{parts_numeral}
 
-small : (least most n : ℕ) → most < 2 ^ 64 → is_within least most n ≡ true → n < 2 ^ 64
-small least most n low e = grind (arith, nat_tests)
+pub in_64 : (least most n : ℕ) → most < 2 ^ 64 → is_within least most n ≡ true → n < 2 ^ 64
+in_64 least most n low e = grind (arith, nat_tests)
 
 pub number_in-decimal : (least most n : ℕ) → most < 2 ^ 64 → is_within least most n ≡ true → number_in least most (decimal n) ≡ Some n
 number_in-decimal least most n low e =
-    let digits = decimal_is_IsNumeral n (small least most n low e) in
+    let digits = decimal_is_IsNumeral n (in_64 least most n low e) in
     rw (parts_numeral (decimal n) digits.0, digits.1, e) refl
 
 first_digit : (n : ℕ) → n < 2 ^ 64 → IsInRange 48 57 (get_or (decimal n) 0 0)
@@ -63,8 +64,4 @@ no_comma b h = grind (arith, nat_tests)
 
 pub free-site_name : (p : ℕ → Bool) (text : List ℕ) → ((b : ℕ) → is_site_byte b ≡ true → p b ≡ false) → is_site_name text ≡ true → Free p text
 unfolding is_site_name
-free-site_name p text h e = free_from_all p is_site_byte text h (second _ _ e)
-  where
-    second : (a b : Bool) → (a && b) ≡ true → b ≡ true
-    second true b e = e
-    second false b e = absurd cc
+free-site_name p text h e = free_from_all p is_site_byte text h (and_parts _ _ e).1

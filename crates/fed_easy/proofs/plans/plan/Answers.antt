@@ -1,6 +1,6 @@
 use Rattle.std.proofs.Common.{◌≡◌, ◌≤◌, List, map, sym, ◌∙◌, subst}
 use Rattle.std.specs.List.{AllByRecursion}
-use Rattle.std.proofs.lemmas.List.Elements.{All-weaker}
+use Rattle.std.proofs.lemmas.List.Elements.{All-weaker, recursion_from_All}
 use Rattle.fed_board.specs.Board.{reads}
 use Rattle.fed_easy.specs.declared.bookings.Booking.{Booking}
 use Rattle.fed_easy.specs.declared.queues.QueuedJob.{QueuedJob}
@@ -15,7 +15,6 @@ use Rattle.fed_easy.proofs.Booked.{use_at_append}
 use Rattle.fed_easy.proofs.ByExtra.{by_extra_nodes}
 use Rattle.fed_easy.proofs.Falls.{falls_site}
 use Rattle.fed_easy.proofs.PlanFacts.{not_delayed, stays_within}
-use Rattle.fed_easy.proofs.Recursion.{all_each}
 use Rattle.fed_easy.proofs.Started.{idle_bookings}
 use Rattle.fed_easy.proofs.plans.plan.Goals as goal
 
@@ -54,7 +53,7 @@ abbrev queue_of : (c : goal.After-drop-queue-2) → List QueuedJob
 queue_of c = queue_in c.args.site c.args.machine.now.nodes (reads c.args.board.now)
 
 sized : (c : goal.After-drop-queue-2) → AllByRecursion (IsSized c.args.machine.now.nodes) (queue_of c)
-sized c = all_each (IsSized c.args.machine.now.nodes) (queue_of c) (rw (c.in_ok-queue.ensures.queue, c.nodes.ensures.same) at c.in_ok-queue.ensures.sized)
+sized c = recursion_from_All (IsSized c.args.machine.now.nodes) (queue_of c) (rw (c.in_ok-queue.ensures.queue, c.nodes.ensures.same) at c.in_ok-queue.ensures.sized)
 
 pub returns-clause-plan : goal.returns-clause-plan
 returns-clause-plan c = plan_is c
@@ -76,4 +75,4 @@ returns-clause-extra_nodes c = λ over.
     let m : MachineValue = c.args.machine.now in
     let reserved : List Booking = reserved_in c.args.site (reads c.args.board.now) in
     plan_is c ∙ by_extra_nodes m.nodes c.args.moment (last_end (bookings_of c)) (use_at (bookings_of c)) (queue_of c)
-    (falls_site c.args.moment m.running reserved (all_each (IsOver c.args.moment) reserved over)) (idle_bookings (bookings_of c)) (sized c)
+    (falls_site c.args.moment m.running reserved (recursion_from_All (IsOver c.args.moment) reserved over)) (idle_bookings (bookings_of c)) (sized c)

@@ -1,12 +1,13 @@
 use Rattle.std.proofs.Common.{◌≡◌, ◌++◌, ◌∷◌, [], true, false, sym, ap, ◌∙◌}
 use Rattle.std.specs.List.{list_any}
+use Rattle.std.proofs.lemmas.Bool.{not-false, not-true}
 use Rattle.fed_words.specs.Fault.{answer_map}
 use Rattle.fed_words.specs.Identifier.{job_in}
 use Rattle.fed_words.specs.Item.{words_of}
 use Rattle.fed_words.specs.Request.{once}
 use Rattle.fed_stamp.specs.Stamp.{same_stamp}
 use Rattle.fed_words.proofs.Each.{each-more, each-fault, gives-fault}
-use Rattle.fed_words.proofs.Onces.{is_known, keys-once, not_false, not_true, once-known, once-new}
+use Rattle.fed_words.proofs.Onces.{is_known, keys-once, once-known, once-new}
 use Rattle.fed_words.proofs.Spellings.{word_at}
 use Rattle.fed_words.proofs.jobs.read_all.Goals as goal
 use Rattle.fed_words.proofs.jobs.read_all.Goals.{then-branch+in_ok-push, else-branch}
@@ -26,10 +27,10 @@ loop-operand-preserved c =
     let known = is_known job done c.counter.result c.get.result c.loop-operand.seen.keys c.counter.ensures.same site c.loop-operand.invariant.2 in
     let jobs : c.if-branch.jobs.items ≡ once (done ++ job ∷ []) = elim c.if-branch.branch [
       | then-branch+in_ok-push w ↦
-          let new : list_any (same_stamp job) (once done) ≡ false = sym known ∙ not_true _ (sym c.in_ok-insert.ensures.added ∙ w.if-branch.true) in
+          let new : list_any (same_stamp job) (once done) ≡ false = sym known ∙ not-true _ (sym c.in_ok-insert.ensures.added ∙ w.if-branch.true) in
           ap (λ v. v.items) w.jobs-is ∙ w.in_ok-push.ensures.ok ∙ rw c.loop-operand.invariant.1 (once-new job done new)
       | else-branch w ↦
-          let old : list_any (same_stamp job) (once done) ≡ true = sym known ∙ not_false _ (sym c.in_ok-insert.ensures.added ∙ w.if-branch.false) in
+          let old : list_any (same_stamp job) (once done) ≡ true = sym known ∙ not-false _ (sym c.in_ok-insert.ensures.added ∙ w.if-branch.false) in
           ap (λ v. v.items) w.jobs-is ∙ c.loop-operand.invariant.1 ∙ once-known job done old
     ] in (
       done ++ job ∷ [],

@@ -2,8 +2,9 @@ use Rattle.std.proofs.Common.{sym, ◌∙◌, ◌≢◌, [], refl, subst}
 use Rattle.std.specs.BTreeMap.{is_at}
 use Rattle.std.specs.List.Sorted.{IsStrictlySortedBy}
 use Rattle.std.specs.Map.{keys_of}
+use Rattle.fed_lattice.proofs.EntryLoops.{sorted_removed}
 use Rattle.fed_tags.proofs.GroupLaws.{absent_view, removed_table, removed_view, gone_table, gone_view, remove_set}
-use Rattle.fed_tags.proofs.Places.{none_found, found_here, written_here, taken_here, sorted_removed}
+use Rattle.fed_tags.proofs.Places.{none_found, found_here, written_here, taken_here}
 use Rattle.fed_tags.proofs.sets.TagSet.remove_one.Goals as goal
 
 pub returns-in_default : goal.returns-in_default
