@@ -2,9 +2,12 @@
 //! else.
 #![tactic(auto)]
 
+/// The laws at work in generic code and four values deep, and the calls of a table.
 #[cfg(test)]
 mod lattices;
+/// Examples of rosters, names, sets, stamps and versions.
 #[cfg(test)]
 mod stamps;
+/// Tag sets at work, alone and inside tables.
 #[cfg(test)]
 mod tags;

@@ -150,7 +150,8 @@ fn limit_member(job: &Value) -> Result<(Stamp, Limit), Flaw>
     limit_field(member(job, "limit")?)
 }
 
-/// The fields, each beside its stamp; the first flaw where a member is missing or has another form.
+/// The fields, each beside its stamp; `Shape` where a member is missing or has another form, else `Range` where a value
+/// is out of its range.
 pub fn fields(job: &Value, format: Format) -> Result<FieldParts, Flaw>
     ensures { mapped fields_value result ≡ fields_of format (view job.now) }
 {

@@ -1,4 +1,4 @@
-//! Replaying the scripts of a federation of batch queues.
+//! Running the scripts of a federation of batch queues, line by line or the sites at the same time.
 #![tactic(auto)]
 
 /// The texts that answer events.

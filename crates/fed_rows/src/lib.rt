@@ -1,21 +1,31 @@
 //! Examples of scripts, over public calls alone. The crate has tests and nothing else.
 #![tactic(auto)]
 
+/// Scripts in all forms that can be read: white space, comments, numbers at the ends of their ranges, values and
+/// reservations.
 #[cfg(test)]
 mod forms;
+/// Scripts where memory may be refused.
 #[cfg(test)]
 mod growths;
+/// Scripts whose sites run at the same time.
 #[cfg(test)]
 mod live;
+/// Replaying through memory.
 #[cfg(test)]
 mod memory;
+/// Lines that are answered by `usage N`.
 #[cfg(test)]
 mod misused;
+/// Worked scripts with plans, each as a whole.
 #[cfg(test)]
 mod plans;
+/// Worked scripts with their answers, each as a whole.
 #[cfg(test)]
 mod rows;
+/// Readers and writers that fail, are interrupted or give little at a time.
 #[cfg(test)]
 mod streams;
+/// Lines that can't be read.
 #[cfg(test)]
 mod unreadable;

@@ -1,5 +1,5 @@
 -- Orders of the entries of several journals, and the one that is chosen.
-use Rattle.std.specs.Prelude.{◌≡◌, ◌<◌, ◌≤◌, ◌+◌, ◌^◌, ◌⊎◌, ℕ, List, [], ◌∷◌, length, slice_index, slice_index_or, slice_set, take, map, replicate, Bool, true, false, ◌&&◌, ◌==◌, nat_lt, Option, Some, None}
+use Rattle.std.specs.Prelude.{◌≡◌, ◌<◌, ◌≤◌, ◌+◌, ◌⊎◌, ℕ, List, [], ◌∷◌, length, slice_index, slice_index_or, slice_set, take, map, replicate, Bool, true, false, ◌&&◌, ◌==◌, nat_lt, Option, Some, None}
 use Rattle.std.specs.List.{slice_get, list_all, position}
 use Rattle.std.specs.Global.{Vec}
 use Rattle.fed_threads.specs.declared.journal.Asked.{Asked}

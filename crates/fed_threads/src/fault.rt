@@ -61,7 +61,8 @@ impl From<NoMemory> for CallFault {
 }
 
 /// Why the entries of journals and the claims of seats are not settled, in the order in which the reasons are looked
-/// for. Seats and their claims, the entries of a journal and those of an order are counted from 0.
+/// for; want of memory comes wherever a growth is refused. Seats and their claims, the entries of a journal and those of
+/// an order are counted from 0.
 #[derive(Clone, Copy, PartialEq, Eq, Debug, Drop, Error)]
 pub enum CloseFault {
     /// 1: the least claim, by seat and place, whose entry isn't in its journal, or has another outcome. In `close` also

@@ -57,7 +57,7 @@ impl Asked {
 pub struct Entry {
     /// What was asked.
     pub asked: Asked,
-    /// The packet that a take took. Nothing else has one.
+    /// The packet of a take, also of one that was answered by a gap. Nothing else has one.
     pub packet: Option<Packet>,
     /// The outcome. That of a ship is `Packet` with the entry's own place, counted from 0.
     pub outcome: Outcome,

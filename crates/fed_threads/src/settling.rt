@@ -15,7 +15,8 @@ use std::alloc::Global;
 
 /// The events that the entries of the journals come to, in the one order that is chosen. It asks for one journal for each
 /// site of the roster, in the order of their numbers; the claims of the seats must be of just these entries. Else
-/// it answers the first of the faults of `CloseFault`, in the order of their numbers.
+/// it answers the first of the faults of `CloseFault`, in the order of their numbers, or `NoMemory` wherever a growth is
+/// refused.
 pub fn settle(
     alloc: Global,
     roster: &Roster,

@@ -3,15 +3,21 @@
 //! nothing else.
 #![tactic(auto)]
 
+/// Journals and claims that are settled, and the same with one thing altered, or two, which are not.
 #[cfg(test)]
 mod altered;
+/// Many threads at once: at each of four sites four users and one taking thread.
 #[cfg(test)]
 mod many;
+/// Federations where memory may be refused.
 #[cfg(test)]
 mod memory;
+/// One seat at a federation of two sites.
 #[cfg(test)]
 mod one_seat;
+/// Two seats, of two threads.
 #[cfg(test)]
 mod two_seats;
+/// Rosters, sites, users and commands of the examples.
 #[cfg(test)]
 mod values;

@@ -131,14 +131,11 @@ pub(crate) fn read_spelling<'a, 'w>(
             }),
         }
     }
-    match wanted {
-        Some(_) => Ok(Spelling {
-            items,
-            operands: Err(UsageFault::MissingArgument),
-        }),
-        None => Ok(Spelling {
-            items,
-            operands: Ok(&[]),
-        }),
-    }
+    Ok(Spelling {
+        items,
+        operands: match wanted {
+            Some(_) => Err(UsageFault::MissingArgument),
+            None => Ok(&[]),
+        },
+    })
 }

@@ -177,7 +177,12 @@ fn is_further(grant: &Grant, other: &Option<Grant>) -> bool {
     }
 }
 
-fn reach_grant(stages: &mut Stages, grant: Grant) {
+fn reach_grant(stages: &mut Stages, term: u64, stamp: Stamp, holder: Option<SiteId>) {
+    let grant = Grant {
+        term,
+        stamp,
+        holder,
+    };
     if is_further(&grant, &stages.grant) {
         stages.grant = Some(grant);
     }
@@ -188,28 +193,8 @@ fn reach(stages: &mut Stages, operation: &Operation) {
     let stamp = operation.stamp;
     match operation.body {
         Body::Delete { .. } => stages.is_deleted = true,
-        Body::Grant { site, term, .. } => {
-            let holder = Some(site);
-            reach_grant(
-                stages,
-                Grant {
-                    term,
-                    stamp,
-                    holder,
-                },
-            );
-        }
-        Body::HandBack { term, .. } => {
-            let holder = None;
-            reach_grant(
-                stages,
-                Grant {
-                    term,
-                    stamp,
-                    holder,
-                },
-            );
-        }
+        Body::Grant { site, term, .. } => reach_grant(stages, term, stamp, Some(site)),
+        Body::HandBack { term, .. } => reach_grant(stages, term, stamp, None),
         Body::Begin {
             moment,
             nodes,
