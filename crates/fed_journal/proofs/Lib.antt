@@ -1,0 +1,9 @@
+pub mod Appending
+pub mod Changed
+pub mod Contents
+pub mod Crash
+pub mod Hexadecimal
+pub mod Moments
+pub mod Reading
+pub mod Repair
+pub mod Writing

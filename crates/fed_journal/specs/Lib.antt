@@ -1,0 +1,7 @@
+-- What journals promise.
+pub mod Calls
+pub mod Device
+pub mod Fault
+pub mod Journal
+pub mod Lines
+pub mod Memory

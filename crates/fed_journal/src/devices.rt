@@ -1,0 +1,64 @@
+//! The disk as a journal sees it: a file that it reads and writes, and what a crash may leave of it. A write or a cut of a
+//! file that the disk has may be left torn until the next sync. Of a second one before that sync nothing is said.
+ghost use Rattle.std.specs.Prelude.{◌≡◌, ◌≤◌, List, ℕ, length, take, IfOk, OnOk};
+ghost use Rattle.fed_journal.specs.Device.{Holds, Leaves, LeavesJust, Passes, Shortened, Torn};
+ghost use Rattle.fed_journal.specs.Fault.{HasCause};
+
+use crate::faults::DeviceFault;
+use std::alloc::Global;
+
+/// A file on a disk. After a call that failed, nothing is known of it but what a crash may leave.
+pub trait Device {
+    /// The bytes that a read gives.
+    ghost seen: { Self → List ℕ };
+
+    /// What a crash at this moment may leave.
+    ghost may_leave: { Self → List ℕ → Type 0 };
+
+    /// The moment, by a count that never falls.
+    ghost moment: { Self → ℕ };
+
+    /// What a crash at this moment or an earlier one might have left, back to the one of this count: in the middle of a call too.
+    ghost left_since: { Self → ℕ → List ℕ → Type 0 };
+
+    /// How often the disk has failed.
+    ghost faults: { Self → ℕ };
+
+    /// The whole file.
+    fn read(&mut self, alloc: Global) -> Result<Vec<u8>, DeviceFault>
+        ensures bytes { IfOk result (λ bytes. bytes.items ≡ seen self.old) }
+        ensures same { seen self.new ≡ seen self.old }
+        ensures crash { (c : List ℕ) → may_leave self.new c → may_leave self.old c }
+        ensures time { Passes (moment self.old) (moment self.new) (left_since self.old) (left_since self.new) (may_leave self.new) }
+        ensures cause { HasCause (faults self.old) (faults self.new) result };
+
+    /// Writes over what stands at an offset, and past the end.
+    fn write_at(&mut self, at: usize, bytes: &[u8]) -> Result<(), DeviceFault>
+        requires { at ≤ length (seen self.old) }
+        ensures written { OnOk result (Holds at bytes.now (seen self.old) (seen self.new)) }
+        ensures crash { LeavesJust (seen self.old) (may_leave self.old) → Leaves (Torn at bytes.now (seen self.old)) (may_leave self.new) }
+        ensures time { Passes (moment self.old) (moment self.new) (left_since self.old) (left_since self.new) (may_leave self.new) }
+        ensures cause { HasCause (faults self.old) (faults self.new) result };
+
+    /// Cuts the file to a length.
+    fn cut(&mut self, len: usize) -> Result<(), DeviceFault>
+        requires { len ≤ length (seen self.old) }
+        ensures cut { OnOk result (seen self.new ≡ take len (seen self.old)) }
+        ensures crash { LeavesJust (seen self.old) (may_leave self.old) → Leaves (Shortened len (seen self.old)) (may_leave self.new) }
+        ensures time { Passes (moment self.old) (moment self.new) (left_since self.old) (left_since self.new) (may_leave self.new) }
+        ensures cause { HasCause (faults self.old) (faults self.new) result };
+
+    /// Waits until the disk has what a read gives. From then on a crash leaves that.
+    fn sync(&mut self) -> Result<(), DeviceFault>
+        ensures durable { OnOk result (LeavesJust (seen self.old) (may_leave self.new)) }
+        ensures same { seen self.new ≡ seen self.old }
+        ensures crash { (c : List ℕ) → may_leave self.new c → may_leave self.old c }
+        ensures time { Passes (moment self.old) (moment self.new) (left_since self.old) (left_since self.new) (may_leave self.new) }
+        ensures cause { HasCause (faults self.old) (faults self.new) result };
+
+    /// This moment is one of those since an earlier one,
+    ghost counts_now: { (file : Self) (t : ℕ) (c : List ℕ) → t ≤ moment file → may_leave file c → left_since file t c };
+
+    /// and the only one since itself.
+    ghost only_now: { (file : Self) (c : List ℕ) → left_since file (moment file) c → may_leave file c };
+}

@@ -1,0 +1,116 @@
+//! Why a disk or a journal fails.
+ghost use Rattle.std.specs.Prelude.{◌≡◌};
+
+use std::alloc::{AllocError, AllocFailed};
+use thiserror::Error;
+
+/// Why a call of a device fails.
+#[derive(Clone, Copy, PartialEq, Eq, Debug, Drop, Error)]
+pub enum DeviceFault {
+    /// 1: a growth was refused memory.
+    #[error("out of memory")]
+    NoMemory,
+    /// 2: the disk failed.
+    #[error("the disk failed")]
+    Failed,
+}
+
+impl DeviceFault {
+    ghost use Rattle.fed_journal.specs.Fault.{device_number_of};
+
+    /// The number of the fault: 1 for `NoMemory` and 2 for `Failed`.
+    pub fn number(self) -> u8
+        ensures { result ≡ device_number_of self }
+    {
+        match self {
+            DeviceFault::NoMemory => 1,
+            DeviceFault::Failed => 2,
+        }
+    }
+}
+
+impl From<AllocError> for DeviceFault {
+    ghost use Rattle.fed_journal.specs.declared.faults.DeviceFault.TheVariants.{NoMemory};
+
+    ghost from_gives = { λ _ r. r ≡ NoMemory };
+
+    fn from(_error: AllocError) -> DeviceFault {
+        DeviceFault::NoMemory
+    }
+}
+
+impl<T: Drop> From<AllocFailed<T>> for DeviceFault {
+    ghost use Rattle.fed_journal.specs.declared.faults.DeviceFault.TheVariants.{NoMemory};
+
+    ghost from_gives = { λ _ r. r ≡ NoMemory };
+
+    fn from(_refused: AllocFailed<T>) -> DeviceFault {
+        DeviceFault::NoMemory
+    }
+}
+
+/// Why a journal isn't opened, or a group not added.
+#[derive(Clone, Copy, PartialEq, Eq, Debug, Drop, Error)]
+pub enum JournalFault {
+    /// 1: a growth was refused memory.
+    #[error("out of memory")]
+    NoMemory,
+    /// 2: the disk failed.
+    #[error("the disk failed")]
+    Failed,
+    /// 3: a line of the file, counted from 1, is neither an entry's nor has a closed gate, or the file ends before it.
+    #[error("line {line} of the journal is damaged")]
+    Damaged { line: u64 },
+    /// 4: the file would pass `MAX_BYTES`.
+    #[error("the journal is full")]
+    Full,
+}
+
+impl JournalFault {
+    ghost use Rattle.fed_journal.specs.Fault.{number_of};
+
+    /// The number of the fault: 1 for `NoMemory`, 2 for `Failed`, 3 for `Damaged` and 4 for `Full`.
+    pub fn number(self) -> u8
+        ensures { result ≡ number_of self }
+    {
+        match self {
+            JournalFault::NoMemory => 1,
+            JournalFault::Failed => 2,
+            JournalFault::Damaged { .. } => 3,
+            JournalFault::Full => 4,
+        }
+    }
+}
+
+impl From<AllocError> for JournalFault {
+    ghost use Rattle.fed_journal.specs.declared.faults.JournalFault.TheVariants.{NoMemory};
+
+    ghost from_gives = { λ _ r. r ≡ NoMemory };
+
+    fn from(_error: AllocError) -> JournalFault {
+        JournalFault::NoMemory
+    }
+}
+
+impl<T: Drop> From<AllocFailed<T>> for JournalFault {
+    ghost use Rattle.fed_journal.specs.declared.faults.JournalFault.TheVariants.{NoMemory};
+
+    ghost from_gives = { λ _ r. r ≡ NoMemory };
+
+    fn from(_refused: AllocFailed<T>) -> JournalFault {
+        JournalFault::NoMemory
+    }
+}
+
+impl From<DeviceFault> for JournalFault {
+    ghost use Rattle.fed_journal.specs.Fault.{fault_of};
+
+    ghost from_gives = { λ fault r. r ≡ fault_of fault };
+
+    fn from(fault: DeviceFault) -> JournalFault {
+        match fault {
+            DeviceFault::NoMemory => JournalFault::NoMemory,
+            DeviceFault::Failed => JournalFault::Failed,
+        }
+    }
+}

@@ -1,0 +1,171 @@
+//! Journals: texts in groups, each group on the disk before it is acknowledged.
+ghost use Rattle.std.specs.Prelude.{◌≡◌, ◌++◌, List, ℕ, length, map, IfErr, IfOk, IsErrOf, MatchResult, OnOk};
+ghost use Rattle.std.specs.List.{All};
+ghost use Rattle.fed_journal.specs.Device.{LeavesJust, LeavesOnly};
+ghost use Rattle.fed_journal.specs.Journal.{Has};
+ghost use Rattle.fed_journal.specs.Fault.{StopsGroup, StopsOpening, StopsRepair};
+ghost use Rattle.fed_journal.specs.Lines.{IsLine, Stands, at_rest, recovered, texts_of};
+
+use crate::devices::Device;
+use crate::digests::Digest;
+use crate::faults::JournalFault;
+use crate::lines::{behind_gate, read_lines, write_lines};
+use crate::steps::{put, shorten};
+use std::alloc::Global;
+
+/// The most bytes that a journal may have.
+pub const MAX_BYTES: usize = 1 << 60;
+
+/// A journal on a device. It is read by `open`, and can be added to once `repair` has brought its file to rest.
+#[derive(Drop)]
+pub struct Journal<D: Device + Drop> {
+    alloc: Global,
+    pub device: D,
+    /// How long the file is.
+    pub len: usize,
+    /// Where the closed gate stands, behind the last entry.
+    pub gate: usize,
+    /// The digest of the last entry.
+    pub digest: Digest,
+}
+
+/// What a journal had when it was opened.
+#[derive(Drop)]
+pub struct Recovered {
+    /// The entries, from the first on.
+    pub entries: Vec<Vec<u8>>,
+    /// What stands behind the closed gate, as of a group that was not finished: no entry, and `repair` cuts it.
+    pub tail: Vec<u8>,
+}
+
+/// A device that isn't opened, and why.
+#[derive(Drop)]
+pub struct Unopened<D: Device + Drop> {
+    pub device: D,
+    pub fault: JournalFault,
+}
+
+/// What a file has.
+#[derive(Drop)]
+struct Contents {
+    recovered: Recovered,
+    len: usize,
+    gate: usize,
+    digest: Digest,
+}
+
+/// Reads what a file has.
+fn read_contents<D: Device>(alloc: Global, device: &mut D) -> Result<Contents, JournalFault>
+    requires { LeavesJust (D.seen device.old) (D.may_leave device.old) }
+    ensures entries { IfOk result (λ contents. recovered (D.seen device.old) ≡ Ok (texts_of contents.recovered.entries.items)) }
+    ensures known { IfOk result (λ contents. Has (D.seen device.old) (texts_of contents.recovered.entries.items) contents.recovered.tail.items contents.digest contents.gate contents.len) }
+    ensures same { D.seen device.new ≡ D.seen device.old }
+    ensures durable { LeavesJust (D.seen device.new) (D.may_leave device.new) }
+    ensures any_moment { LeavesOnly D.moment D.left_since device.old device.new (λ c. c ≡ D.seen device.old) }
+    ensures fault { IfErr result (StopsOpening (D.faults device.old) (D.faults device.new) (D.seen device.old)) }
+{
+    let file = device.read(alloc)?;
+    let read = read_lines(alloc, &file)?;
+    let gate = file.len() - read.rest.len();
+    let tail = behind_gate(read.rest).to_vec(alloc)?;
+    let digest = read.digest;
+    Ok(Contents {
+        recovered: Recovered {
+            entries: read.entries,
+            tail,
+        },
+        len: file.len(),
+        gate,
+        digest,
+    })
+}
+
+impl<D: Device + Drop> Journal<D> {
+    ghost use Rattle.fed_journal.specs.Journal.{IsBeforeOrAfter, IsRead, IsSettled, entries_in};
+
+    /// Reads the journal of a file that the disk has, as after a crash, or of a new file, which is empty. Changes nothing:
+    /// so the tail can be kept elsewhere before `repair` cuts it, and nothing is lost by a crash in between.
+    pub fn open(alloc: Global, mut device: D) -> Result<(Journal<D>, Recovered), Unopened<D>>
+        requires { LeavesJust (D.seen device) (D.may_leave device) }
+        ensures entries { IfOk result (λ opened. recovered (D.seen device) ≡ Ok (texts_of opened.1.entries.items)) }
+
+        // Nothing of the file is left out: it is the entries at rest, and the tail.
+        ensures whole { IfOk result (λ opened. Stands (D.seen device) (texts_of opened.1.entries.items) opened.1.tail.items) }
+        ensures read { IfOk result (λ opened. IsRead D.seen D.may_leave opened.0 opened.1.tail.items) }
+
+        // The file is as it was, and a crash at any moment of the call leaves it so.
+        ensures same { MatchResult result (λ opened. D.seen opened.0.device ≡ D.seen device) (λ unopened. D.seen unopened.device ≡ D.seen device) }
+        ensures any_moment { MatchResult result
+            (λ opened. LeavesOnly D.moment D.left_since device opened.0.device (λ c. c ≡ D.seen device))
+            (λ unopened. LeavesOnly D.moment D.left_since device unopened.device (λ c. c ≡ D.seen device)) }
+        ensures fault { IfErr result (λ unopened. StopsOpening (D.faults device) (D.faults unopened.device) (D.seen device) unopened.fault) }
+    {
+        match read_contents(alloc, &mut device) {
+            Ok(contents) => {
+                let digest = contents.digest;
+                let journal = Journal {
+                    alloc,
+                    device,
+                    len: contents.len,
+                    gate: contents.gate,
+                    digest,
+                };
+                Ok((journal, contents.recovered))
+            }
+            Err(fault) => Err(Unopened { device, fault }),
+        }
+    }
+
+    /// Brings the file to rest: cuts the tail, or writes the gate that a new file lacks. After an `Err` it has to be opened again.
+    pub fn repair(&mut self) -> Result<(), JournalFault>
+        requires { (tail : List ℕ) × IsRead D.seen D.may_leave self.old tail }
+        ensures settled { OnOk result (IsSettled D.seen D.may_leave self.new) }
+        ensures same { OnOk result (recovered (D.seen self.new.device) ≡ recovered (D.seen self.old.device)) }
+
+        // A crash at any moment of the call leaves the same entries.
+        ensures any_moment { LeavesOnly D.moment D.left_since self.old.device self.new.device (λ c. recovered c ≡ recovered (D.seen self.old.device)) }
+        ensures fault { IfErr result (StopsRepair (D.faults self.old.device) (D.faults self.new.device)) }
+    {
+        if self.len == 0 {
+            put(&mut self.device, 0, b"-")?;
+            self.len = 1;
+        } else if self.len > self.gate + 1 {
+            shorten(&mut self.device, self.gate + 1)?;
+            self.len = self.gate + 1;
+        }
+        Ok(())
+    }
+
+    /// Adds a group of texts. At `Ok` it is acknowledged: from then on each crash leaves a file that has it.
+    /// After an `Err` the file may have it or not, and it has to be opened again.
+    pub fn append(&mut self, texts: &[&[u8]]) -> Result<(), JournalFault>
+        requires settled { IsSettled D.seen D.may_leave self.old }
+        requires lines { All IsLine (map (λ text. text.now) texts.now) }
+        ensures acknowledged { OnOk result (IsSettled D.seen D.may_leave self.new) }
+        ensures appended { OnOk result (recovered (D.seen self.new.device) ≡ Ok (entries_in (D.seen self.old.device) ++ map (λ text. text.now) texts.now)) }
+
+        // A crash at any moment of the call leaves the entries from before it, with the whole group or without any of it.
+        ensures any_moment { LeavesOnly D.moment D.left_since self.old.device self.new.device
+            (IsBeforeOrAfter (entries_in (D.seen self.old.device)) (map (λ text. text.now) texts.now)) }
+        ensures fault { IfErr result (StopsGroup (D.faults self.old.device) (D.faults self.new.device)
+            (length (at_rest (entries_in (D.seen self.old.device) ++ map (λ text. text.now) texts.now)))) }
+        ensures full { IsErrOf result JournalFault.Full → self.new ≡ self.old }
+    {
+        if texts.is_empty() {
+            return Ok(());
+        }
+        let group = write_lines(self.alloc, &self.digest, texts)?;
+        let lines = &group.bytes;
+        if self.gate > MAX_BYTES || lines.len() > MAX_BYTES - self.gate {
+            return Err(JournalFault::Full);
+        }
+        // The group counts once its first gate is open, so that gate is opened last, when the disk has all the rest.
+        put(&mut self.device, self.gate + 1, &lines[1..])?;
+        put(&mut self.device, self.gate, b"+")?;
+        self.gate += lines.len() - 1;
+        self.len = self.gate + 1;
+        let digest = group.digest;
+        self.digest = digest;
+        Ok(())
+    }
+}
