@@ -101,7 +101,7 @@ present_reservation v name (Some r) p i = p
 -- ---- a change
 module _ (applied : JobRecordValue → StampValue → Operation → JobRecordValue)
     (law : (r : JobRecordValue) (s : StampValue) (c : Operation) → reads_job (applied r s c) ≡ add_to_job s (body_of c) (reads_job r)) where
-  applied_touched : (r : JobRecordValue) (s : StampValue) (c : Operation) → (applied r s c).touched ≡ raised r.touched s
+  pub applied_touched : (r : JobRecordValue) (s : StampValue) (c : Operation) → (applied r s c).touched ≡ raised r.touched s
   unfolding add_to_job
   applied_touched r s c = ap (λ (j : JobView). j.touched) (law r s c)
 
@@ -181,7 +181,7 @@ module _ (b : BoardValue) (at name : StampValue) (op : Operation) (i : IsBoard b
 -- ---- two boards merged
 module _ (join : JobRecordValue → List ℕ → JobRecordValue → List ℕ → JobRecordValue)
     (law : (r q : JobRecordValue) (v w : List ℕ) → reads_job (join r v q w) ≡ join_jobs v (reads_job r) w (reads_job q)) where
-  join_touched : (r q : JobRecordValue) (v w : List ℕ) → (join r v q w).touched ≡ joined r.touched q.touched
+  pub join_touched : (r q : JobRecordValue) (v w : List ℕ) → (join r v q w).touched ≡ joined r.touched q.touched
   unfolding join_jobs
   join_touched r q v w = ap (λ (j : JobView). j.touched) (law r q v w)
 

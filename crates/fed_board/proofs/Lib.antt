@@ -18,3 +18,6 @@ pub mod CoveredStamps
 pub mod ListedNames
 pub mod StandingBoards
 pub mod RecordJoins
+pub mod ChangeLists
+pub mod FilterLoops
+pub mod ListedJobs

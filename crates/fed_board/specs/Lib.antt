@@ -7,3 +7,4 @@ pub mod CoveredJob
 pub mod Board
 pub mod Counts
 pub mod BoardLaws
+pub mod Changes

@@ -1,6 +1,6 @@
 //! Boards: what is read of a set of operations, without them.
 ghost use Rattle.std.specs.Prelude.{◌≡◌, ◌↔◌, ◌&&◌, [], ◌∷◌, ◌++◌, false, replicate, Some, None, IsTrue, IsSome};
-ghost use Rattle.std.specs.Prelude.{IfOk, OnOk, OnErr, MatchOption, All, nat_eq, option_copied};
+ghost use Rattle.std.specs.Prelude.{IfOk, OnOk, OnErr, MatchOption, All, nat_eq, filter, option_copied};
 ghost use Rattle.std.specs.BTreeMap.{is_at};
 ghost use Rattle.std.specs.List.Sorted.{IsStrictlySortedBy};
 ghost use Rattle.std.specs.Map.{keys_of, values_of, lookup};
@@ -18,6 +18,7 @@ ghost use Rattle.fed_record.specs.Letter.{is_submitted};
 ghost use Rattle.fed_record.specs.Operation.{body_of};
 ghost use Rattle.fed_record.specs.Reservation.{ReservationView};
 ghost use Rattle.fed_board.specs.Board.{IsBoard, HasNamed, reads, merged, with_records, changed_job, changed_reservation};
+ghost use Rattle.fed_board.specs.Changes.{is_later};
 ghost use Rattle.fed_board.specs.Counts.{names_of};
 ghost use Rattle.fed_board.specs.Lawful.{IsLawful, AreKin};
 ghost use Rattle.fed_board.specs.Names.{jobs_in, reservations_in};
@@ -25,6 +26,8 @@ ghost use Rattle.fed_board.specs.View.{view};
 ghost use Rattle.fed_board.specs.ViewSteps.{add_to_view, join_views, join_records};
 
 use crate::counts::{change_at, count_more, count_names};
+use crate::noting::{changed_after, forget_all, none_after, note_at, note_records};
+use crate::site_changes::SiteChanges;
 use fed_lattice::{Causal, Entries, ExactEq, NoMemory, Table, join_entries};
 use fed_record::{JobRecord, Operation, Reservation};
 use fed_stamp::{JobId, SITES, SiteId, Stamp, Version};
@@ -35,16 +38,20 @@ use std::marker::Model;
 /// reservation, by the stamp of its `Reserve`. A board stands for the set where it reads as the set's view.
 #[derive(Drop)]
 pub struct Board {
+    alloc: Global,
     version: Version,
     jobs: Table<JobId, JobRecord>,
     reservations: Table<Stamp, Reservation>,
     job_counts: [u64; SITES],
     reservation_counts: [u64; SITES],
+    // the latest changes of jobs by each site
+    changes: [SiteChanges; SITES],
 }
 
 impl Model for Board {
     ghost use Rattle.std.specs.Map.{keys_of};
     ghost use Rattle.fed_board.specs.Board.{BoardValue, IsBoard};
+    ghost use Rattle.fed_board.specs.Changes.{AreListed};
     ghost use Rattle.fed_board.specs.Counts.{AreCounts};
 
     ghost Value = { BoardValue };
@@ -52,7 +59,8 @@ impl Model for Board {
     ghost view = { λ b. record { version = b.version; jobs = b.jobs; reservations = b.reservations } };
 
     ghost invariant = { λ b. IsBoard (record { version = b.version; jobs = b.jobs; reservations = b.reservations })
-        × AreCounts b.job_counts (keys_of b.jobs) × AreCounts b.reservation_counts (keys_of b.reservations) };
+        × AreCounts b.job_counts (keys_of b.jobs) × AreCounts b.reservation_counts (keys_of b.reservations)
+        × AreListed b.changes b.jobs };
 }
 
 impl Board {
@@ -61,8 +69,11 @@ impl Board {
         ensures value { result ≡ record { version = replicate SITES 0; jobs = []; reservations = [] } }
         ensures stands { reads result ≡ view [] }
     {
+        let version = Version::default();
         Board {
-            version: Version::default(),
+            alloc,
+            changes: none_after(alloc, &version),
+            version,
             jobs: Table::bottom(alloc),
             reservations: Table::bottom(alloc),
             job_counts: [0; SITES],
@@ -72,6 +83,7 @@ impl Board {
 
     /// The board of these records beside the version. It asks for what holds of every board.
     pub fn from_records(
+        alloc: Global,
         version: Version,
         jobs: Table<JobId, JobRecord>,
         reservations: Table<Stamp, Reservation>,
@@ -80,6 +92,8 @@ impl Board {
         ensures { result ≡ record { version = version; jobs = jobs; reservations = reservations } }
     {
         Board {
+            alloc,
+            changes: none_after(alloc, &version),
             version,
             job_counts: count_names(&jobs),
             reservation_counts: count_names(&reservations),
@@ -120,6 +134,17 @@ impl Board {
         ensures well_formed { All ⟦<JobRecord as Causal>⟧.well_formed (values_of self.now.jobs) }
     {
         self.jobs.iter()
+    }
+
+    /// The jobs that were touched beyond the version, with their records. Where the board has listed all changes beyond
+    /// it, the time that this takes grows with these changes and with the logarithm of the jobs; else with all jobs.
+    pub fn changed_jobs(&self, need: &Version) -> Result<Table<JobId, JobRecord>, NoMemory>
+        ensures changed { IfOk result (λ r. r ≡ filter (λ e. is_later need.now e.1) self.now.jobs) }
+        ensures ascending { OnOk result (IsStrictlySortedBy stamp_cmp (keys_of self.now.jobs)) }
+    {
+        // the call tells that the table is well formed
+        let _jobs = self.jobs.iter();
+        changed_after(self.alloc, &self.changes, &self.jobs, need)
     }
 
     /// The reservation that was made under the stamp, or `None` where it is not on the board. A reservation on a board
@@ -166,6 +191,8 @@ impl Board {
         ensures { IfOk result (λ b. b ≡ self.now) }
     {
         Ok(Board {
+            alloc: self.alloc,
+            changes: none_after(self.alloc, &self.version),
             version: self.version,
             jobs: self.jobs.copy()?,
             reservations: self.reservations.copy()?,
@@ -191,6 +218,9 @@ impl Board {
             (self.new ≡ changed_job ⟦<JobRecord as Causal>⟧.applied self.old at operation.now job) }
         ensures unchanged { OnErr result (self.new ≡ self.old) }
     {
+        let jobs = self.jobs.len();
+        let site = at.site().get() as usize;
+        note_at(&mut self.changes, site, at.counter(), job, jobs)?;
         change_at(&mut self.jobs, &mut self.job_counts, job, at, operation)?;
         self.version.raise(at);
         Ok(())
@@ -274,6 +304,7 @@ impl Board {
         self.jobs = jobs;
         self.reservations = reservations;
         self.version = self.version.join(&other.version);
+        forget_all(&mut self.changes, &self.version);
         Ok(())
     }
 
@@ -288,6 +319,7 @@ impl Board {
     {
         self.see_tables();
         other.see_tables();
+        note_records(self.alloc, &mut self.changes, &self.jobs, &other.jobs)?;
         let theirs = &other.version;
         let (jobs, reservations) = join_entries(
             &mut self.jobs,

@@ -3,6 +3,10 @@
 
 /// Boards, what is read of them, and how they change and merge.
 pub mod boards;
+/// The jobs that were touched beyond a version.
+mod changed_jobs;
+/// Which job a change was of.
+mod changes;
 /// How many names each site gave.
 pub mod counts;
 /// Laws of what is read of sets of operations.
@@ -11,8 +15,14 @@ pub mod laws;
 pub mod limits;
 /// The laws of merging, on all boards.
 pub mod merging;
+/// How the changes of jobs are listed.
+mod noting;
 /// That boards are told apart by what they read as.
 pub mod readings;
+/// By which changes jobs are behind records of them.
+mod rises;
+/// The changes of jobs that one site made.
+mod site_changes;
 
 pub use boards::Board;
 pub use limits::{MAX_JOBS, MAX_RESERVATIONS};

@@ -1,5 +1,5 @@
 //! What sites tell one another of their boards, and what they take in.
-use crate::boards::{after, letter, released, reserved, stamp, submit, submitted, window};
+use crate::boards::{after, letter, released, reserved, site, stamp, submit, submitted, window};
 use fed_board::Board;
 use fed_delta::{Absorb, Delta, absorb, delta_since};
 use fed_record::{Letter, Reservation};
@@ -150,4 +150,44 @@ fn reservations_are_taken_in(rt: HostRuntime) {
     let board = beside(&rt, stamp(1, 0), name);
     let made = Reservation::from_parts(name, Some(window(name.site())));
     assert!(rt; board.reservation(name).copied() == Some(made));
+}
+
+/// Adds an operation whose stamp is the next of the site.
+fn act_next(rt: &(impl Abort + AllocGlobal), board: &mut Board, number: u8, held: bool) {
+    let at = board
+        .version()
+        .next(site(number))
+        .expect(rt, "a counter is left");
+    let operation = submit(rt, held);
+    assert!(rt; !board.version().covers(at) && board.has_named(&operation));
+    board.apply(at, &operation).expect(rt, "memory");
+}
+
+/// Takes in what the other board tells that this one has not seen.
+fn take(rt: &(impl Abort + AllocGlobal), to: &mut Board, from: &Board) {
+    absorb(to, &told(rt, from, &to.version())).expect(rt, "what is told fits");
+}
+
+#[test]
+fn boards_tell_what_their_copies_tell(rt: HostRuntime) {
+    let mut one = Board::new(rt.alloc());
+    let mut other = Board::new(rt.alloc());
+    for round in 0..40u8 {
+        act_next(&rt, &mut one, 0, round % 2 == 0);
+        act_next(&rt, &mut other, 1, round % 3 == 0);
+        if round % 5 == 4 {
+            take(&rt, &mut one, &other);
+            take(&rt, &mut other, &one);
+        }
+    }
+    // the copy lists no changes, and a board of 80 jobs has forgotten the first of its 40 changes by each site
+    let copy = one.copy().expect(&rt, "memory");
+    for i in 0..16u64 {
+        for j in 0..16u64 {
+            let known = Version::default()
+                .with(stamp(3 * i + 1, 0))
+                .with(stamp(3 * j + 1, 1));
+            assert!(rt; told(&rt, &one, &known) == told(&rt, &copy, &known));
+        }
+    }
 }

@@ -1,10 +1,11 @@
 //! Boards and deltas where memory may be refused. A call answers as with ample memory, or by want of memory; then it leaves
 //! all as before, and answers as with ample memory when it is asked again. So the tests pass whichever growth is refused,
 //! which `rt try --test --fail-alloc N` does for the Nth.
-use crate::boards::{has_jobs, stamp, submitted};
+use crate::boards::{has_jobs, stamp, submit, submitted};
 use fed_board::Board;
 use fed_delta::{Delta, absorb, delta_since};
-use fed_stamp::Version;
+use fed_record::{HoldKind, HoldKinds, Operation};
+use fed_stamp::{Stamp, Version};
 use std::process::Abort;
 
 fn copied(rt: &impl Abort, board: &Board) -> Board {
@@ -21,6 +22,32 @@ fn told(rt: &(impl Abort + AllocGlobal), board: &Board) -> Delta {
         Ok(delta) => delta,
         Err(_) => delta_since(rt.alloc(), board, &nothing).expect(rt, "memory"),
     }
+}
+
+/// Adds an operation whose stamp is new and whose job or reservation is there. A refused growth leaves the board.
+fn applied(rt: &impl Abort, board: &mut Board, at: Stamp, operation: &Operation) {
+    let before = copied(rt, board);
+    assert!(rt; !board.version().covers(at) && board.has_named(operation));
+    if board.apply(at, operation).is_err() {
+        assert!(rt; *board == before);
+        assert!(rt; !board.version().covers(at) && board.has_named(operation));
+        board.apply(at, operation).expect(rt, "memory");
+    }
+}
+
+#[test]
+fn refused_growths_of_operations(rt: HostRuntime) {
+    let (job, held) = (stamp(1, 0), stamp(2, 0));
+    let mut board = Board::new(rt.alloc());
+    applied(&rt, &mut board, job, &submit(&rt, false));
+    let hold = Operation::Hold {
+        job,
+        kinds: HoldKinds::USER,
+    };
+    applied(&rt, &mut board, held, &hold);
+    let record = board.job(job).expect(&rt, "the job");
+    assert!(rt; record.hold_tags().eq([(HoldKind::User, held)]));
+    assert!(rt; board.version() == Version::default().with(held));
 }
 
 #[test]

@@ -4,14 +4,18 @@ use Rattle.std.specs.Prelude.{◌&&◌, ◌||◌}
 use Rattle.std.specs.List.{AllByRecursion}
 use Rattle.std.proofs.lemmas.Bool.{and_parts, and_from, or_cases, leb-true, leb-false, le-leb, lt-leb, le-ltb, cases_lt}
 use Rattle.fed_easy.specs.declared.queues.QueuedJob.{QueuedJob}
-use Rattle.fed_easy.specs.Use.{end_with, first_fit, is_during, shadow, with_job, with_jobs, Fits, fits, IsShadow}
+use Rattle.fed_easy.specs.Use.{end_with, first_fit, is_during, shadow, with_job, with_jobs, fits, IsShadow}
 use Rattle.fed_easy.specs.Plan.{PlanValue, front, behind, backfill, ids, plan_behind, queue_plan}
 use Rattle.fed_easy.specs.Extra.{free_at, front_by_free, behind_by_free, ends_by, backfill_by_extra, extra_plan, extra_plan_behind, first_free}
-use Rattle.fed_easy.specs.Promises.{Falls, IsIdleFrom, IsSized}
+use Rattle.fed_easy.specs.Promises.{IsIdleFrom, IsSized}
 use Rattle.fed_easy.proofs.FirstFit.{shadow_least}
-use Rattle.fed_easy.proofs.Fits.{fits-true, Fits-fits, same_test}
+use Rattle.fed_easy.proofs.Fits.{Fits, fits-true, Fits-fits, same_test}
 use Rattle.fed_easy.proofs.NoDelay.{during, within, with_job_swap, job_used, at_second}
 use Rattle.fed_easy.proofs.Started.{all_behind, idle_started}
+
+-- from now on the use doesn't rise
+abbrev pub Falls : ℕ → (ℕ → ℕ) → Type 0
+Falls now used = (u v : ℕ) → now ≤ u → u ≤ v → used v ≤ used u
 
 pub part_less : (s t : Bool) (n a b : ℕ) → (s ≡ true → t ≡ true) → a ≤ b → cond s n 0 + a ≤ cond t n 0 + b
 part_less true true n a b h le = omega arith

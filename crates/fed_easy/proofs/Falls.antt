@@ -4,10 +4,10 @@ use Rattle.std.specs.List.{AllByRecursion}
 use Rattle.std.specs.Prelude.{max, suc}
 use Rattle.fed_easy.specs.declared.bookings.Booking.{Booking}
 use Rattle.fed_easy.specs.declared.machines.Running.{Running}
-use Rattle.fed_easy.specs.Promises.{Falls, IsOver}
+use Rattle.fed_easy.specs.Promises.{IsOver}
 use Rattle.fed_easy.specs.SitePlan.{running_booking}
 use Rattle.fed_easy.specs.Use.{is_during, use_at}
-use Rattle.fed_easy.proofs.ByExtra.{part_less}
+use Rattle.fed_easy.proofs.ByExtra.{Falls, part_less}
 use Rattle.fed_easy.proofs.NoDelay.{during, within}
 
 pub falls_over : (now : ℕ) (bs : List Booking) → AllByRecursion (IsOver now) bs → Falls now (use_at bs)

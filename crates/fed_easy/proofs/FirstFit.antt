@@ -3,8 +3,8 @@ use Rattle.std.proofs.Common.{◌≡◌, ℕ, zero, suc, ◌+◌, ◌-◌, ◌�
 use Rattle.std.proofs.lemmas.Bool.{cases_lt}
 use Rattle.fed_easy.specs.declared.queues.QueuedJob.{QueuedJob}
 use Rattle.fed_easy.specs.Promises.{IsIdleFrom}
-use Rattle.fed_easy.specs.Use.{first_fit, fits, shadow, Fits, IsShadow}
-use Rattle.fed_easy.proofs.Fits.{fits-true, Fits-fits}
+use Rattle.fed_easy.specs.Use.{first_fit, fits, shadow, IsShadow}
+use Rattle.fed_easy.proofs.Fits.{Fits, fits-true, Fits-fits}
 
 module _ (capacity now end : ℕ) (used : ℕ → ℕ) (j : QueuedJob) (idle : IsIdleFrom end used) (narrow : j.nodes ≤ capacity) where
   fits_idle : (t : ℕ) → end ≤ t → Fits capacity used j t

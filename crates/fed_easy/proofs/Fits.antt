@@ -4,8 +4,12 @@ use Rattle.std.specs.Prelude.{min}
 use Rattle.std.proofs.lemmas.Bool.{and_parts, and_from, leb-true, le-leb, lt-leb, cases_lt}
 use Rattle.fed_easy.specs.declared.queues.QueuedJob.{QueuedJob}
 use Rattle.fed_easy.specs.declared.profiles.Profile.{Profile}
-use Rattle.fed_easy.specs.Use.{is_during, with_nodes, with_job, HasRoom, IsLeastRoom, Fits, has_room, fits}
+use Rattle.fed_easy.specs.Use.{is_during, with_nodes, with_job, HasRoom, IsLeastRoom, has_room, fits}
 use Rattle.fed_easy.specs.Profile.{nodes_in, Tells, TellsUntil}
+
+-- the job fits at second t
+abbrev pub Fits : ℕ → (ℕ → ℕ) → QueuedJob → ℕ → Type 0
+Fits capacity used j t = HasRoom capacity used j.nodes t (t + j.limit)
 
 -- room in each second, as the test says
 pub room_each : (capacity : ℕ) (used : ℕ → ℕ) (nodes k t u : ℕ) → has_room capacity used nodes k t ≡ true → t ≤ u → u < t + k → used u + nodes ≤ capacity

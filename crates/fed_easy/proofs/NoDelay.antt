@@ -2,9 +2,9 @@
 use Rattle.std.proofs.Common.{◌≡◌, ℕ, ◌+◌, ◌≤◌, ◌<◌, Bool, true, false, cond, leb, ltb, List, [], ◌∷◌, refl, sym, subst, arith}
 use Rattle.std.proofs.lemmas.Bool.{and_parts, and_from, leb-true, le-leb, ltb-true, lt-ltb}
 use Rattle.fed_easy.specs.declared.queues.QueuedJob.{QueuedJob}
-use Rattle.fed_easy.specs.Use.{is_during, with_job, with_jobs, Fits, fits, IsShadow}
+use Rattle.fed_easy.specs.Use.{is_during, with_job, with_jobs, fits, IsShadow}
 use Rattle.fed_easy.specs.Plan.{backfill}
-use Rattle.fed_easy.proofs.Fits.{fits-true}
+use Rattle.fed_easy.proofs.Fits.{Fits, fits-true}
 
 pub during : (from until u : ℕ) → from ≤ u → u < until → is_during from until u ≡ true
 during from until u le lt = and_from (leb from u) (ltb u until) (le-leb from u le) (lt-ltb u until lt)

@@ -2,10 +2,10 @@
 use Rattle.std.proofs.Common.{◌≡◌, ℕ, ◌+◌, ◌≤◌, Bool, true, false, cond, List, [], ◌∷◌, refl}
 use Rattle.std.proofs.Common.{arith}
 use Rattle.fed_easy.specs.declared.queues.QueuedJob.{QueuedJob}
-use Rattle.fed_easy.specs.Use.{is_during, with_job, with_jobs, Fits, fits, IsShadow}
+use Rattle.fed_easy.specs.Use.{is_during, with_job, with_jobs, fits, IsShadow}
 use Rattle.fed_easy.specs.Plan.{front, backfill}
 use Rattle.fed_easy.specs.Promises.{KeepsWithin}
-use Rattle.fed_easy.proofs.Fits.{fits-true}
+use Rattle.fed_easy.proofs.Fits.{Fits, fits-true}
 use Rattle.fed_easy.proofs.NoDelay.{within}
 
 part_within : (t : Bool) (n m capacity : ℕ) → (t ≡ true → m + n ≤ capacity) → m ≤ capacity → cond t n 0 + m ≤ capacity

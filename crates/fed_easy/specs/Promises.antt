@@ -27,10 +27,6 @@ NoDelay capacity now used queue plan = (h : QueuedJob) (js : List QueuedJob) →
     (s : ℕ) × (plan.head ≡ Some (h.id, s)) × IsShadow capacity started now h s
     × IsShadow capacity (with_jobs now (backfill capacity now (with_job s h started) js) started) now h s
 
--- from now on the use doesn't rise
-abbrev pub Falls : ℕ → (ℕ → ℕ) → Type 0
-Falls now used = (u v : ℕ) → now ≤ u → u ≤ v → used v ≤ used u
-
 -- the use is at most the machine's nodes at each second, from now on, at which it was before
 abbrev pub KeepsWithin : ℕ → ℕ → (ℕ → ℕ) → (ℕ → ℕ) → Type 0
 KeepsWithin capacity now before after = (u : ℕ) → now ≤ u → before u ≤ capacity → after u ≤ capacity

@@ -45,10 +45,6 @@ pub record IsLeastRoom (capacity : ℕ) (used : ℕ → ℕ) (nodes limit now s 
   pub room : HasRoom capacity used nodes s (s + limit)
   pub least : (t : ℕ) → now ≤ t → HasRoom capacity used nodes t (t + limit) → s ≤ t
 
--- the job fits at second t
-abbrev pub Fits : ℕ → (ℕ → ℕ) → QueuedJob → ℕ → Type 0
-Fits capacity used j t = HasRoom capacity used j.nodes t (t + j.limit)
-
 -- the job's shadow: the least second, from now on, at which it fits
 abbrev pub IsShadow : ℕ → (ℕ → ℕ) → ℕ → QueuedJob → ℕ → Type 0
 IsShadow capacity used now j s = IsLeastRoom capacity used j.nodes j.limit now s

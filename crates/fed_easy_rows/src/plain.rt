@@ -6,8 +6,8 @@ use fed_record::{JobRecord, Letter, Reservation};
 use fed_stamp::JobId;
 use std::alloc::{AllocError, Global};
 
-/// How many seconds from the moment on a shadow is looked for.
-const SEARCHED: u64 = 1000;
+/// How many seconds from the moment on a shadow is looked for: as many as the longest time limit has, and one.
+const SEARCHED: u64 = 10_000_001;
 
 /// Nodes that are in use from one second until before another.
 #[derive(Clone, Copy)]

@@ -96,12 +96,38 @@ fn extra_nodes_are_used(rt: HostRuntime) {
 
 #[test]
 fn ends_of_the_ranges(rt: HostRuntime) {
-    let alloc = rt.alloc();
-    let mut board = Board::new(alloc);
+    let mut board = Board::new(rt.alloc());
     submit(&rt, &mut board, 1, 1_000_000, 10_000_000);
     submit(&rt, &mut board, 2, 1_000_000, 10_000_000);
     submit(&rt, &mut board, 3, 1, 1);
-    let machine = machine_of(alloc, &board, site(0), 1_000_000).expect(&rt, "a machine");
-    let plan = plan(alloc, &board, site(0), 1_000_000_000_000, &machine).expect(&rt, "a plan");
-    assert!(rt; shows(&plan, &[1], Some((2, 1_000_010_000_000))));
+    let moment = 1_000_000_000_000;
+    let head = Some((2, 1_000_010_000_000));
+    assert!(rt; plans(&rt, &board, 1_000_000, moment, &[1], head));
+}
+
+/// How many jobs run on the board of the next test.
+const MANY: u64 = 5_001;
+
+#[test]
+fn many_jobs_run_on_a_machine(rt: HostRuntime) {
+    let ask = Ask {
+        nodes: 1,
+        limit: 100,
+        priority: 0,
+    };
+    let mut board = Board::new(rt.alloc());
+    for turn in 0..MANY {
+        let counter = 3 * turn + 1;
+        let job = submit(&rt, &mut board, counter, ask.nodes, ask.limit);
+        grant(&rt, &mut board, counter + 1, job, 0);
+        begin(&rt, &mut board, counter + 2, job, ask, 0);
+    }
+    let machine = machine_of(rt.alloc(), &board, site(0), MANY).expect(&rt, "a machine");
+    assert!(rt; machine.running().len() as u64 == MANY && machine.nodes() == MANY);
+    assert!(rt;
+        machine
+            .running()
+            .iter()
+            .all(|entry| entry.nodes == 1 && entry.end == 100)
+    );
 }

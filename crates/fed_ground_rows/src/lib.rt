@@ -5,6 +5,9 @@
 /// The laws at work in generic code and four values deep, and the calls of a table.
 #[cfg(test)]
 mod lattices;
+/// Tables and tag sets where memory may be refused.
+#[cfg(test)]
+mod memory;
 /// Examples of rosters, names, sets, stamps and versions.
 #[cfg(test)]
 mod stamps;

@@ -7,7 +7,7 @@ use Rattle.fed_record.specs.Account.{account_of, text_of as text_of_account}
 use Rattle.fed_json.specs.Reading.{Reading, or_range}
 use Rattle.fed_json.specs.Values.{text_of, pair_of, pair_value}
 use Rattle.fed_json.specs.Numbers.{natural_value, integer_value, integer_of, IsFrom}
-use Rattle.fed_json.specs.Forms.{IsForm}
+use Rattle.fed_json.proofs.Forms.{IsForm}
 use Rattle.fed_json.proofs.Steps.{bind_ok, ok_is}
 use Rattle.fed_json.proofs.NumberLaws.{natural_form, integer_form}
 use Rattle.fed_json.proofs.FormLaws.{pair_form, mapped_form, tested_form, ranged_form, text_form}

@@ -9,7 +9,7 @@ use Rattle.fed_record.specs.declared.terms.TheConstants.{MAX_TERM}
 use Rattle.fed_json.specs.declared.flaws.Flaw.TheVariants.{Shape}
 use Rattle.fed_json.specs.Reading.{both}
 use Rattle.fed_json.specs.Values.{list_value, elements_of, is_word}
-use Rattle.fed_json.specs.Forms.{IsForm}
+use Rattle.fed_json.proofs.Forms.{IsForm}
 use Rattle.fed_json.proofs.Steps.{bind_ok, mapped_ok, both_ok, when_ok}
 use Rattle.fed_json.proofs.NumberLaws.{natural_form}
 use Rattle.fed_json.proofs.FormLaws.{elements_takes, word_takes, or_null_form}

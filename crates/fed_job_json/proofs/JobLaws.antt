@@ -14,8 +14,8 @@ use Rattle.fed_json.specs.declared.flaws.Flaw.TheVariants.{Shape}
 use Rattle.fed_json.specs.Reading.{◌>>=◌, where_true}
 use Rattle.fed_json.specs.Numbers.{natural_value, integer_value, IsFrom}
 use Rattle.fed_json.specs.Values.{truth_of}
-use Rattle.fed_json.specs.Objects.{Named, has_names, member_of, HasMembers}
-use Rattle.fed_json.specs.Forms.{IsForm, IsPartForm}
+use Rattle.fed_json.specs.Objects.{Named, has_names, member_of}
+use Rattle.fed_json.proofs.Forms.{HasMembers, IsForm, IsPartForm}
 use Rattle.fed_json.proofs.Steps.{bind_ok, when_ok, where_true_ok, ok_is}
 use Rattle.fed_json.proofs.FormLaws.{truth_form}
 use Rattle.fed_json.proofs.ObjectLaws.{member_part, both_part, mapped_part, object_is, object_has, object_named, names_in, are_distinct}

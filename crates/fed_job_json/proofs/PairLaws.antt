@@ -16,7 +16,7 @@ use Rattle.fed_json.specs.declared.flaws.Flaw.TheVariants.{Shape}
 use Rattle.fed_json.specs.Reading.{Reading}
 use Rattle.fed_json.specs.Numbers.{natural_value}
 use Rattle.fed_json.specs.Values.{is_word, pair_of, pair_value, array_of}
-use Rattle.fed_json.specs.Forms.{IsForm}
+use Rattle.fed_json.proofs.Forms.{IsForm}
 use Rattle.fed_json.proofs.Steps.{ok_is}
 use Rattle.fed_json.proofs.FormLaws.{pair_form, array_form, tested_form, word_takes}
 use Rattle.fed_job_json.specs.Stamps.{stamp_value, stamp_of, IsStamp, site_of, IsSite}

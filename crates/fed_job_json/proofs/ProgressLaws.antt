@@ -11,7 +11,7 @@ use Rattle.fed_json.specs.declared.flaws.Flaw.TheVariants.{Shape}
 use Rattle.fed_json.specs.Reading.{mapped, both, where_true}
 use Rattle.fed_json.specs.Values.{list_value, elements_of, is_word, or_null, null_or}
 use Rattle.fed_json.specs.Numbers.{natural_value, natural_in}
-use Rattle.fed_json.specs.Forms.{IsForm}
+use Rattle.fed_json.proofs.Forms.{IsForm}
 use Rattle.fed_json.proofs.Steps.{bind_ok, mapped_ok, both_ok, when_ok, where_true_ok}
 use Rattle.fed_json.proofs.NumberLaws.{natural_form}
 use Rattle.fed_json.proofs.FormLaws.{elements_takes, word_takes, or_null_form, mapped_form}

@@ -10,7 +10,7 @@ use Rattle.serde_json.specs.View.{items_of}
 use Rattle.fed_json.specs.declared.flaws.Flaw.TheVariants.{Shape}
 use Rattle.fed_json.specs.Reading.{Reading, ◌>>=◌, mapped, both, where_true}
 use Rattle.fed_json.specs.Values.{list_value, list_of, elements_of, text_of, truth_of, is_word, pair_from, pair_of, pair_value, all_of, array_of, row_of, or_null, null_or}
-use Rattle.fed_json.specs.Forms.{IsForm}
+use Rattle.fed_json.proofs.Forms.{IsForm}
 use Rattle.fed_json.proofs.Steps.{when_ok, bind_ok, mapped_ok, both_ok, where_true_ok, ok_is}
 
 -- ---- arrays

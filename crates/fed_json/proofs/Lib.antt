@@ -1,3 +1,4 @@
+pub mod Forms
 pub mod Views
 pub mod Steps
 pub mod NumberLaws

@@ -5,7 +5,7 @@ use Rattle.std.proofs.lemmas.Bool.{and_parts}
 use Rattle.serde_json.specs.Data.{Data, null, boolean, number, string, array, object, unsigned, negative, float}
 use Rattle.fed_json.specs.declared.flaws.Flaw.TheVariants.{Range}
 use Rattle.fed_json.specs.Numbers.{natural_value, integer_value, natural_in, integer_of, IsFrom}
-use Rattle.fed_json.specs.Forms.{IsForm}
+use Rattle.fed_json.proofs.Forms.{IsForm}
 use Rattle.fed_json.proofs.Steps.{when_ok}
 
 le_from_test : (n m : ℕ) → leb n m ≡ true → n ≤ m

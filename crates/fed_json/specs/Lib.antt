@@ -1,6 +1,5 @@
--- What is read of JSON values, and the laws of it.
+-- What is read of JSON values.
 pub mod Reading
 pub mod Numbers
 pub mod Values
 pub mod Objects
-pub mod Forms

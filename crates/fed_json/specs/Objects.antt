@@ -1,8 +1,8 @@
 -- Objects, by the names of their members.
-use Rattle.std.specs.Prelude.{◌≡◌, ℕ, Bool, false, List, [], ◌∷◌, Some}
+use Rattle.std.specs.Prelude.{ℕ, Bool, false, List, [], ◌∷◌}
 use Rattle.std.specs.Cmp.Lexicographic.{pointwise}
 use Rattle.std.specs.Str.{bytes_eq}
-use Rattle.serde_json.specs.Data.{Data, object, Members, no_members, member, put}
+use Rattle.serde_json.specs.Data.{Data, object, Members, no_members, member}
 use Rattle.serde_json.specs.Find.{get}
 use Rattle.fed_json.specs.Reading.{Reading, ◌>>=◌, or_shape}
 
@@ -29,12 +29,3 @@ has_names names _ = false
 -- the member of this name, read in its own way
 abbrev pub member_of : {A : Type 0} → List ℕ → (Data → Reading A) → Data → Reading A
 member_of name read d = or_shape (get name d) >>= read
-
--- the members put in one after another
-abbrev pub put_all : Named → Members → Members
-put_all [] old = old
-put_all (m ∷ ms) old = put_all ms (put m.0 m.1 old)
-
-abbrev pub HasMembers : Named → Data → Type 0
-HasMembers [] d = Unit {0}
-HasMembers (m ∷ ms) d = (get m.0 d ≡ Some m.1) × HasMembers ms d

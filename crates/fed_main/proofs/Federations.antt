@@ -1,6 +1,6 @@
 -- What the code of a script's federation keeps is what the script does.
-use Rattle.std.specs.Prelude.{IfOk, OnOk, MatchResult}
-use Rattle.std.proofs.Common.{◌≡◌, ℕ, ◌+◌, ◌<◌, Bool, List, [], ◌∷◌, ◌++◌, length, get_or, take, Some, Result, Ok, Err, sym, ap, ap₂, ◌∙◌, append_assoc, append-nil}
+use Rattle.std.specs.Prelude.{IfOk, IfSome, OnOk, MatchResult, option_map}
+use Rattle.std.proofs.Common.{◌≡◌, ℕ, ◌+◌, ◌<◌, Bool, List, [], ◌∷◌, ◌++◌, length, get_or, take, Option, Some, None, Result, Ok, Err, sym, ap, ap₂, subst, ◌∙◌, append_assoc, append-nil}
 use Rattle.std.proofs.lemmas.List.{take_more}
 use Rattle.fed_stamp.specs.Stamp.{StampValue}
 use Rattle.fed_board.specs.View.{View}
@@ -16,6 +16,7 @@ use Rattle.fed_world.proofs.Runs.{run-push}
 use Rattle.fed_main.specs.Federation.{reads}
 use Rattle.fed_main.specs.Outcome.{answer_line, outcome_text}
 use Rattle.fed_script.specs.Line.{Line}
+use Rattle.fed_script.specs.LineSites.{HasSites}
 use Rattle.fed_main.specs.Script.{Answered, Script, State, after_commands, after_event, does, followed, later, lines_of, says}
 
 pub listed : (text : List ℕ) (full want : Bool) (r s : List (List ℕ × ℕ)) (v w : View) (jobs : List StampValue) → text ≡ listing (lines_of want r) v jobs → full ≡ want → r ≡ s → v ≡ w → text ≡ listing (lines_of full s) w jobs
@@ -70,3 +71,9 @@ module _ (s : Script) (site : ℕ) (who : Who) (all : List Command) where
       ∙ commands-push s site who (take i all) command
       ∙ ap (followed (λ n. after_event n (Do site who command))) before
       ∙ ap (behind text) here
+
+-- the sites of a line that was read
+pub named_sites : {L : Type 0} (said : L → Line) (read : Option L) (found : Option Line) (r s : List (List ℕ × ℕ)) → option_map said read ≡ found → r ≡ s → ((line : Line) → found ≡ Some line → HasSites (length r) line)
+    → IfSome read (λ l. HasSites (length s) (said l))
+named_sites said None found r s e same h = tt
+named_sites said (Some l) found r s e same h = subst (λ q. HasSites (length q) (said l)) same (h (said l) (sym e))

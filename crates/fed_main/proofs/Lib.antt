@@ -16,5 +16,6 @@ pub mod RoleScript
 pub mod RunMachines
 pub mod ScriptRuns
 pub mod Texts
+pub mod Threads
 pub mod UnreadScript
 pub mod Written

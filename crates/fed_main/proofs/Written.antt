@@ -1,8 +1,9 @@
 -- What is known to be written, step by step.
 use Rattle.std.proofs.Common.{◌≡◌, ℕ, List, [], ◌++◌, Option, Some, None, Result, Ok, Err, subst, refl, sym, ◌∙◌, inl, inr, append_assoc, append-nil, true}
-use Rattle.std.specs.Prelude.{◌⊎◌, is_ok, OnOk, IfSome}
+use Rattle.std.specs.Prelude.{◌⊎◌, is_ok, OnErr, OnOk, IfSome, IsErrOf}
 use Rattle.std.specs.Io.KnownBytes.{Appends, Keeps}
 use Rattle.fed_main.specs.Ends.{EndsAs, HasSaid}
+use Rattle.fed_main.specs.Live.{EndsLiveAs, unread}
 use Rattle.fed_main.specs.Said.{Said}
 use Rattle.fed_main.specs.declared.fault.RunFault.{RunFault}
 use Rattle.fed_main.specs.declared.fault.RunFault.TheVariants.{Line, Read, Write, NoMemory, Close, Behind}
@@ -64,3 +65,19 @@ EndsAs-kept a b c script (Err Write) h k = tt
 EndsAs-kept a b c script (Err NoMemory) h k = (h.0, said_kept a b c _ _ h.1 k)
 EndsAs-kept a b c script (Err (Close fault)) h k = absurd h
 EndsAs-kept a b c script (Err Behind) h k = absurd h
+
+-- ---- a writer that is flushed
+pub EndsAs-flushed : {E : Type 0} (a b c : Option (List ℕ)) (script : List ℕ) (ran result : Result (Unit {0}) RunFault) (flushed : Result (Unit {0}) E) → EndsAs a b script ran → Keeps b c
+    → OnOk flushed (result ≡ ran) → OnErr flushed (result ≡ Err Write) → EndsAs a c script result
+EndsAs-flushed a b c script ran result (Ok done) h k ok err = subst (EndsAs a c script) (sym ok) (EndsAs-kept a b c script ran h k)
+EndsAs-flushed a b c script ran result (Err e) h k ok err = subst (EndsAs a c script) (sym err) tt
+
+-- no fault of a flush is one of reading
+pub flushed_read : {E : Type 0} (ran result : Result (Unit {0}) RunFault) (flushed : Result (Unit {0}) E) → ¬ IsErrOf ran Read → OnOk flushed (result ≡ ran) → OnErr flushed (result ≡ Err Write) → ¬ IsErrOf result Read
+flushed_read ran result (Ok done) not ok err = λ read. not (sym ok ∙ read)
+flushed_read ran result (Err e) not ok err = λ read. let bad : ◌≡◌ {A = Result (Unit {0}) RunFault} (Err Write) (Err Read) = sym err ∙ read in cc
+
+pub EndsLive-flushed : {E : Type 0} (a c : Option (List ℕ)) (script : List ℕ) (result : Result (Unit {0}) RunFault) (flushed : Result (Unit {0}) E) → unread script ≡ None
+    → OnOk flushed (result ≡ Ok tt) → OnErr flushed (result ≡ Err Write) → EndsLiveAs a c script result
+EndsLive-flushed a c script result (Ok done) h ok err = subst (EndsLiveAs a c script) (sym ok) h
+EndsLive-flushed a c script result (Err e) h ok err = subst (EndsLiveAs a c script) (sym err) h

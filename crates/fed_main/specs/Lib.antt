@@ -7,4 +7,6 @@ pub mod Outcome
 pub mod Planned
 pub mod Reading
 pub mod Said
+pub mod Reports
 pub mod Script
+pub mod Thread

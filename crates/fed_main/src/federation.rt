@@ -1,5 +1,5 @@
 //! The federation of a script.
-ghost use Rattle.std.specs.Prelude.{◌≡◌, ◌<◌, [], ◌++◌, codes, IfOk, MatchResult, length, option_map, Some, string_bytes};
+ghost use Rattle.std.specs.Prelude.{◌≡◌, ◌<◌, [], ◌++◌, codes, IfOk, IfSome, MatchResult, length, option_map, None, Some, string_bytes};
 ghost use Rattle.std.specs.Cow.{cow_str_bytes};
 ghost use Rattle.std.specs.Fmt.{decimal};
 ghost use Rattle.fed_stamp.specs.Roster.{IsRoster};
@@ -12,7 +12,7 @@ ghost use Rattle.fed_script.specs.LineView.{said_by};
 ghost use Rattle.fed_main.specs.Federation.{reads};
 ghost use Rattle.fed_main.specs.Outcome.{answer_line, outcome_text};
 ghost use Rattle.fed_main.specs.Planned.{planned};
-ghost use Rattle.fed_main.specs.Script.{after_commands, after_event, answered, compared, later, lines_of, says, view_at};
+ghost use Rattle.fed_main.specs.Script.{after_commands, after_event, answered, compared, does, later, lines_of, says, view_at};
 
 use crate::answers::{Answer, outcome_line, usage_line};
 use crate::plans::site_plan_text;
@@ -218,8 +218,21 @@ impl Federation {
         }
     }
 
-    /// Runs a line, and gives the text that answers it, or `None` where the line can't be read.
+    /// Does what a line says that was read, and gives the text that answers it, or `None` where the line can't be read.
     #[tactic(auto, using(crate::proofs::Federations::done_line))]
+    fn do_read(&mut self, alloc: Global, read: Option<Line>) -> Result<Option<Answer>, NoMemory>
+        requires { IfSome read (λ line. HasSites (length self.old.roster) (said_by line)) }
+        ensures ok { IfOk result (λ text. option_map (λ t. says (Some (reads self.new)) (cow_str_bytes t)) text ≡
+            option_map (does (Some (reads self.old))) (option_map said_by read)) }
+        ensures unread { read ≡ None → result ≡ Ok None }
+    {
+        match read {
+            Some(line) => Ok(Some(self.do_line(alloc, line)?)),
+            None => Ok(None),
+        }
+    }
+
+    /// Runs a line, and gives the text that answers it, or `None` where the line can't be read.
     pub(crate) fn run_line(
         &mut self,
         alloc: Global,
@@ -229,9 +242,7 @@ impl Federation {
             answered (Some (reads self.old)) bytes.now) }
     {
         lines_name_sites_of_the_roster();
-        match read_later_line(alloc, self.roster(), self.world.made(), bytes)? {
-            Some(line) => Ok(Some(self.do_line(alloc, line)?)),
-            None => Ok(None),
-        }
+        let read = read_later_line(alloc, self.roster(), self.world.made(), bytes)?;
+        self.do_read(alloc, read)
     }
 }

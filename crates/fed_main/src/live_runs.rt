@@ -1,10 +1,14 @@
 //! Sites that run the lines of a script at the same time.
-ghost use Rattle.std.specs.Prelude.{◌≡◌, ◌<◌, ◌⊎◌, IfErr, IfSome, length};
+ghost use Rattle.std.specs.Prelude.{◌≡◌, ◌<◌, ◌⊎◌, IfErr, IfOk, IfSome, length, map, string_bytes};
+ghost use Rattle.std.specs.List.{flat_map};
+ghost use Rattle.fed_threads.specs.Seat.{known_by};
 ghost use Rattle.fed_main.specs.Live.{EndsLiveAs, IsOfThreads};
+ghost use Rattle.fed_main.specs.Reports.{answers_of, first_fault as first_fault_of, known_at};
 
 use crate::fault::RunFault;
 use crate::live_lines::{LiveScript, read_lines};
 use crate::live_sites::{Report, Sites, run_lines, take_all};
+use crate::run::ended;
 use crate::script::{MAX_SCRIPT_BYTES, read_script};
 use fed_lattice::NoMemory;
 use fed_script::Line;
@@ -16,13 +20,13 @@ use std::sync::Wait;
 use std::thread;
 use std::thread::{JoinHandle, Threads};
 
-/// What the threads of a federation leave, each list in the order of the sites.
+/// What the two threads of a site leave.
 #[derive(Drop)]
-struct Reports {
-    /// Of those that ran the lines of a site.
-    asked: Vec<Report>,
-    /// Of those that took what came to a site.
-    taken: Vec<Report>,
+pub(crate) struct SiteReports {
+    /// Of the thread that ran the site's lines.
+    pub(crate) asked: Report,
+    /// Of the thread that took what came to the site.
+    pub(crate) taken: Report,
 }
 
 /// A thread's work: under way, or done by the thread that was to start it.
@@ -42,22 +46,21 @@ impl Work {
 }
 
 /// Runs the lines of each site on a thread of its own, and takes what comes to each on another. The work of a thread
-/// that can't be started is done at that point.
+/// that can't be started is done at that point. What is left is in the order of the sites.
 fn run_all<R: Threads + Wait + Sync, G: Gate + Sync>(
     rt: &R,
     sites: &Sites<'_, G>,
     lines: &[Line],
-) -> Result<Reports, NoMemory> {
+) -> Result<Vec<SiteReports>, NoMemory> {
     let alloc = sites.alloc;
     let count = sites.roster.len() as u8;
     thread::scope(
         thread::scope_env(),
         rt,
-        move |scope| -> Result<Reports, NoMemory> {
+        move |scope| -> Result<Vec<SiteReports>, NoMemory> {
             let mut asking = Vec::with_capacity(alloc, usize::from(count))?;
             let mut taking = Vec::with_capacity(alloc, usize::from(count))?;
-            let mut asked = Vec::with_capacity(alloc, usize::from(count))?;
-            let mut taken = Vec::with_capacity(alloc, usize::from(count))?;
+            let mut reports = Vec::with_capacity(alloc, usize::from(count))?;
             for number in 0..count {
                 let work = match scope.spawn(move || run_lines(rt, sites, number, lines)) {
                     Ok(thread) => Work::Started(thread),
@@ -72,21 +75,22 @@ fn run_all<R: Threads + Wait + Sync, G: Gate + Sync>(
                 };
                 taking.push(work)?;
             }
-            for work in asking {
-                asked.push(work.report(rt))?;
+            for (asked, taken) in asking.into_iter().zip(taking) {
+                let asked = asked.report(rt);
+                let taken = taken.report(rt);
+                reports.push(SiteReports { asked, taken })?;
             }
-            for work in taking {
-                taken.push(work.report(rt))?;
-            }
-            Ok(Reports { asked, taken })
+            Ok(reports)
         },
     )
 }
 
 /// The fault of the least site that met one, in its lines before its taking.
-fn first_fault(reports: &Reports) -> Option<CallFault> {
-    for (asked, taken) in reports.asked.iter().zip(&reports.taken) {
-        if let Some(fault) = asked.fault.or(taken.fault) {
+fn first_fault(reports: &[SiteReports]) -> Option<CallFault>
+    ensures { result ≡ first_fault_of reports.now }
+{
+    for site in reports {
+        if let Some(fault) = site.asked.fault.or(site.taken.fault) {
             return Some(fault);
         }
     }
@@ -94,22 +98,25 @@ fn first_fault(reports: &Reports) -> Option<CallFault> {
 }
 
 /// The answers, in the order of the sites.
-fn answers(alloc: Global, reports: &Reports) -> Result<String, NoMemory> {
+fn answers(alloc: Global, reports: &[SiteReports]) -> Result<String, NoMemory>
+    ensures { IfOk result (λ text. string_bytes text ≡ answers_of reports.now) }
+{
     let mut text = String::new(alloc);
-    for report in &reports.asked {
-        text.push_str(report.text.as_str())?;
+    for site in reports {
+        text.push_str(site.asked.text.as_str())?;
     }
     Ok(text)
 }
 
 /// The seats of all threads.
-fn seats_of(alloc: Global, reports: Reports) -> Result<Vec<Seat>, NoMemory> {
+fn seats_of(alloc: Global, reports: Vec<SiteReports>) -> Result<Vec<Seat>, NoMemory>
+    ensures { IfOk result (λ seats. map known_by seats.items ≡ flat_map known_at reports.items) }
+{
     let mut seats = Vec::new(alloc);
-    for report in reports.asked {
-        seats.push(report.seat)?;
-    }
-    for report in reports.taken {
-        seats.push(report.seat)?;
+    for site in reports {
+        let SiteReports { asked, taken } = site;
+        seats.push(asked.seat)?;
+        seats.push(taken.seat)?;
     }
     Ok(seats)
 }
@@ -188,7 +195,7 @@ pub fn live_with<R: Threads + Wait + Sync, I: Read, O: Write, G: Gate + Sync>(
 /// - `Write` where the answers can't be written or the writer can't be flushed. Some may have been written.
 /// - `NoMemory` where memory is refused. Where it is refused to an end mark, a thread may wait for good.
 /// - `Close` where what the threads did can't be settled, and `Behind` where a site is behind what a thread has seen of
-///   it: neither is met but by a fault of the machine.
+///   it: no run is known that ends so, and no clause rules it out.
 ///
 /// Of the faults that threads meet that of the least site is answered, and there that of its lines before that of its
 /// taking.
@@ -221,5 +228,5 @@ fn run_script<R: Threads + Wait + Sync, O: Write, G: Gate + Sync>(
     writer
         .write_all(text.as_bytes())
         .map_err(|_| RunFault::Write)?;
-    writer.flush().map_err(|_| RunFault::Write)
+    ended(Ok(()), writer.flush())
 }

@@ -1,7 +1,23 @@
 //! What the threads of a site do.
+ghost use Rattle.std.specs.Prelude.{◌≡◌, ◌<◌, ◌≤◌, ◌++◌, [], IfOk, IfSome, IsNone, OnOk, None, codes, length, map, string_bytes};
+ghost use Rattle.std.specs.Fmt.{decimal};
+ghost use Rattle.std.specs.Result.{result_err};
+ghost use Rattle.fed_board.specs.Board.{reads as reads_board};
+ghost use Rattle.fed_qstat.specs.Listing.{listing};
+ghost use Rattle.fed_script.specs.LineView.{said_by};
+ghost use Rattle.fed_threads.specs.Calls.{Looks};
+ghost use Rattle.fed_threads.specs.Replay.{outcome_of as outcome_of_said};
+ghost use Rattle.fed_threads.specs.Seat.{known_by, starts};
+ghost use Rattle.fed_words.specs.Fault.{fault_number};
+ghost use Rattle.fed_main.specs.Outcome.{answer_line};
+ghost use Rattle.fed_main.specs.Script.{lines_of};
+ghost use Rattle.fed_main.specs.Thread.{asks as asks_site, reads, Answers, Does, Each, LineSays, Looked, MakesPacket, Only, ThreadSays};
+ghost use Rattle.fed_main.specs.Planned.{planned};
+
 use crate::answers::{outcome_line, usage_line};
 use crate::plans::copy_plan_text;
 use fed_board::Board;
+use fed_lattice::NoMemory;
 use fed_qstat::{full as list_in_full, list};
 use fed_record::{Command, Moment, Refusal, Reply, Who};
 use fed_script::Line;
@@ -9,7 +25,7 @@ use fed_stamp::{JobId, Roster, SiteId};
 use fed_threads::{CallFault, Federation, Gate, Next, Seat};
 use fed_words::UsageFault;
 use fed_world::Outcome;
-use std::alloc::Global;
+use std::alloc::{AllocError, Global};
 use std::sync::Wait;
 
 /// What a thread leaves.
@@ -34,128 +50,225 @@ pub(crate) struct Sites<'a, G> {
     pub(crate) federation: &'a Federation<G>,
 }
 
-/// Where a thread stands: a site, a seat of its own, and what was answered there.
+/// A seat, and what was answered by it so far.
+#[derive(Drop)]
+pub(crate) struct Log {
+    seat: Seat,
+    text: String,
+}
+
+/// Where a thread stands: at a site.
 #[derive(Drop)]
 struct Place<'a, R, G> {
     rt: &'a R,
     sites: &'a Sites<'a, G>,
     here: SiteId,
-    // the nodes of the site
-    nodes: u64,
-    seat: Seat,
-    text: String,
 }
 
-/// The site that a line asks, where it is asked by a thread of its own.
-fn site_of(line: &Line) -> Option<SiteId> {
+/// Whether a line asks the site, by a thread of the site.
+fn asks(here: SiteId, line: &Line) -> bool
+    ensures { result ≡ asks_site here (said_by line.now) }
+{
     match line {
         Line::Act { site, .. }
         | Line::List { site, .. }
         | Line::Misuse { site, .. }
         | Line::Ship { site, .. }
-        | Line::Plan { site, .. } => Some(*site),
-        Line::Skip | Line::Begin { .. } | Line::Take { .. } | Line::Compare { .. } => None,
+        | Line::Plan { site, .. } => site.get() == here.get(),
+        Line::Skip | Line::Begin { .. } | Line::Take { .. } | Line::Compare { .. } => false,
     }
 }
 
 /// What came of a command.
-fn outcome_of(said: Result<Reply, Refusal>) -> Outcome {
+fn outcome_of(said: Result<Reply, Refusal>) -> Outcome
+    ensures { result ≡ outcome_of_said said }
+{
     match said {
         Ok(reply) => Outcome::Replied(reply),
         Err(refusal) => Outcome::Refused(refusal),
     }
 }
 
-impl<'a, R: Wait, G: Gate> Place<'a, R, G> {
-    /// The place of a thread at the site with this number, or `None` where the roster has no such site.
-    fn new(rt: &'a R, sites: &'a Sites<'a, G>, number: u8) -> Option<Place<'a, R, G>> {
-        let here = SiteId::new(number)?;
-        let nodes = sites.roster.nodes(here)?;
-        Some(Place {
-            rt,
-            sites,
-            here,
-            nodes,
+/// The listing of a site's board.
+fn listing_text(
+    alloc: Global,
+    roster: &Roster,
+    board: &Board,
+    is_full: bool,
+    jobs: &[JobId],
+) -> Result<String, NoMemory>
+    ensures { IfOk result (λ text. string_bytes text ≡
+        listing (lines_of is_full roster.now) (reads_board board.now) jobs.now) }
+{
+    if is_full {
+        list_in_full(alloc, board, roster, jobs)
+    } else {
+        list(alloc, board, roster, jobs)
+    }
+}
+
+impl Log {
+    /// A seat of its own, by which nothing was answered yet.
+    fn new<G: Gate>(sites: &Sites<'_, G>) -> Log
+        ensures { reads result ≡ record { known = starts; text = [] } }
+    {
+        Log {
             seat: sites.federation.seat(),
             text: String::new(sites.alloc),
-        })
+        }
+    }
+
+    /// An answer more.
+    fn add(&mut self, answer: &str) -> Result<(), AllocError>
+        ensures { OnOk result (reads self.new ≡
+            record { known = (reads self.old).known; text = (reads self.old).text ++ answer.now }) }
+    {
+        self.text.push_str(answer)?;
+        Ok(())
+    }
+
+    /// What the thread leaves, which ended so.
+    fn report(self, ended: Result<(), CallFault>) -> Report
+        ensures known { known_by result.seat ≡ (reads self).known }
+        ensures text { string_bytes result.text ≡ (reads self).text }
+        ensures fault { result.fault ≡ result_err ended }
+    {
+        let Log { seat, text } = self;
+        Report {
+            seat,
+            text,
+            fault: ended.err(),
+        }
+    }
+}
+
+impl<'a, R: Wait, G: Gate> Place<'a, R, G> {
+    /// The place of a thread at the site with this number, or `None` where the roster has no such site.
+    fn new(rt: &'a R, sites: &'a Sites<'a, G>, number: u8) -> Option<Place<'a, R, G>>
+        ensures none { IsNone result → length sites.now.roster.now ≤ number }
+        ensures here { IfSome result (λ p. p.here ≡ number) }
+        ensures inside { IfSome result (λ p. p.here < length sites.now.roster.now) }
+        ensures sites { IfSome result (λ p. p.sites.now.roster.now ≡ sites.now.roster.now) }
+    {
+        if usize::from(number) >= sites.roster.len() {
+            return None;
+        }
+        let here = SiteId::new(number)?;
+        Some(Place { rt, sites, here })
     }
 
     /// A copy of the site's board.
-    fn board(&mut self) -> Result<Board, CallFault> {
+    fn board(&self, log: &mut Log) -> Result<Board, CallFault>
+        ensures looks { IfOk result (λ b. Looks (reads log.old).known (reads log.new).known self.now.here (reads_board b)) }
+        ensures text { (reads log.new).text ≡ (reads log.old).text }
+    {
         self.sites
             .federation
-            .look(self.rt, self.here, &mut self.seat)
+            .look(self.rt, self.here, &mut log.seat)
+    }
+
+    /// Somebody asks the site for a command.
+    fn ask(&self, who: &Who, command: &Command, log: &mut Log) -> Result<(), CallFault>
+        ensures { OnOk result (Answers
+            (Does self.now.sites.now.roster.now self.now.here who.now command.now) (reads log.old) (reads log.new)) }
+    {
+        let said = self
+            .sites
+            .federation
+            .call(self.rt, self.here, who, command, &mut log.seat)?;
+        let answer = outcome_line(self.sites.alloc, self.sites.roster, outcome_of(said))?;
+        log.add(answer.as_str())?;
+        Ok(())
     }
 
     /// Somebody asks the site for commands, one after another.
-    fn act(&mut self, who: &Who, commands: &[Command]) -> Result<(), CallFault> {
+    fn act(&self, who: &Who, commands: &[Command], log: &mut Log) -> Result<(), CallFault>
+        ensures { OnOk result (Answers
+            (Each (Does self.now.sites.now.roster.now self.now.here who.now) commands.now) (reads log.old) (reads log.new)) }
+    {
         for command in commands {
-            let said = self
-                .sites
-                .federation
-                .call(self.rt, self.here, who, command, &mut self.seat)?;
-            let answer = outcome_line(self.sites.alloc, self.sites.roster, outcome_of(said))?;
-            self.text.push_str(answer.as_str())?;
+            self.ask(who, command, log)?;
         }
         Ok(())
     }
 
     /// The site lists jobs.
-    fn list(&mut self, is_full: bool, jobs: &[JobId]) -> Result<(), CallFault> {
-        let board = self.board()?;
-        let (alloc, roster) = (self.sites.alloc, self.sites.roster);
-        let listing = if is_full {
-            list_in_full(alloc, &board, roster, jobs)?
-        } else {
-            list(alloc, &board, roster, jobs)?
-        };
-        self.text.push_str(listing.as_str())?;
+    fn list(&self, is_full: bool, jobs: &[JobId], log: &mut Log) -> Result<(), CallFault>
+        ensures { OnOk result (Answers
+            (Looked self.now.here (λ board. listing (lines_of is_full self.now.sites.now.roster.now) board jobs.now))
+            (reads log.old) (reads log.new)) }
+    {
+        let board = self.board(log)?;
+        let text = listing_text(self.sites.alloc, self.sites.roster, &board, is_full, jobs)?;
+        log.add(text.as_str())?;
         Ok(())
     }
 
     /// The site plans its machine.
-    fn plan(&mut self, moment: Moment) -> Result<(), CallFault> {
-        let board = self.board()?;
-        let (alloc, roster) = (self.sites.alloc, self.sites.roster);
-        let plan = copy_plan_text(alloc, roster, &board, self.here, self.nodes, moment)?;
-        self.text.push_str(plan.as_str())?;
+    fn plan(&self, moment: Moment, log: &mut Log) -> Result<(), CallFault>
+        requires { self.now.here < length self.now.sites.now.roster.now }
+        ensures { OnOk result (Answers
+            (Looked self.now.here (λ board. planned self.now.sites.now.roster.now board self.now.here moment))
+            (reads log.old) (reads log.new)) }
+    {
+        let board = self.board(log)?;
+        let text = copy_plan_text(
+            self.sites.alloc,
+            self.sites.roster,
+            &board,
+            self.here,
+            moment,
+        )?;
+        log.add(text.as_str())?;
         Ok(())
     }
 
     /// The site makes a packet for a site.
-    fn ship(&mut self, to: SiteId) -> Result<(), CallFault> {
+    fn ship(&self, to: SiteId, log: &mut Log) -> Result<(), CallFault>
+        ensures { OnOk result (Answers (MakesPacket self.now.here to) (reads log.old) (reads log.new)) }
+    {
         self.sites
             .federation
-            .ship(self.rt, self.here, to, &mut self.seat)?;
-        self.text.push_str("shipped\n")?;
+            .ship(self.rt, self.here, to, &mut log.seat)?;
+        log.add("shipped\n")?;
         Ok(())
     }
 
     /// Words of a utility ask nothing.
-    fn misuse(&mut self, fault: UsageFault) -> Result<(), CallFault> {
+    fn misuse(&self, fault: UsageFault, log: &mut Log) -> Result<(), CallFault>
+        ensures { OnOk result (Answers (Only (answer_line (codes "usage " ++ decimal (fault_number fault))))
+            (reads log.old) (reads log.new)) }
+    {
         let answer = usage_line(self.sites.alloc, fault)?;
-        self.text.push_str(answer.as_str())?;
+        log.add(answer.as_str())?;
         Ok(())
     }
 
     /// Does what a line says.
-    fn run_line(&mut self, line: &Line) -> Result<(), CallFault> {
+    fn run_line(&self, line: &Line, log: &mut Log) -> Result<(), CallFault>
+        requires { self.now.here < length self.now.sites.now.roster.now }
+        ensures { OnOk result (Answers
+            (LineSays self.now.sites.now.roster.now self.now.here (said_by line.now)) (reads log.old) (reads log.new)) }
+    {
         match line {
-            Line::Act { who, commands, .. } => self.act(who, commands),
-            Line::List { full, jobs, .. } => self.list(*full, jobs),
-            Line::Misuse { fault, .. } => self.misuse(*fault),
-            Line::Ship { to, .. } => self.ship(*to),
-            Line::Plan { moment, .. } => self.plan(*moment),
+            Line::Act { who, commands, .. } => self.act(who, commands, log),
+            Line::List { full, jobs, .. } => self.list(*full, jobs, log),
+            Line::Misuse { fault, .. } => self.misuse(*fault, log),
+            Line::Ship { to, .. } => self.ship(*to, log),
+            Line::Plan { moment, .. } => self.plan(*moment, log),
             Line::Skip | Line::Begin { .. } | Line::Take { .. } | Line::Compare { .. } => Ok(()),
         }
     }
 
     /// Runs those lines that ask the site, up to the first fault.
-    fn run_lines(&mut self, lines: &[Line]) -> Result<(), CallFault> {
+    fn run_lines(&self, lines: &[Line], log: &mut Log) -> Result<(), CallFault>
+        requires { self.now.here < length self.now.sites.now.roster.now }
+        ensures { OnOk result (Answers
+            (ThreadSays self.now.sites.now.roster.now self.now.here (map said_by lines.now)) (reads log.old) (reads log.new)) }
+    {
         for line in lines {
-            if site_of(line) == Some(self.here) {
-                self.run_line(line)?;
+            if asks(self.here, line) {
+                self.run_line(line, log)?;
             }
         }
         Ok(())
@@ -173,38 +286,16 @@ impl<'a, R: Wait, G: Gate> Place<'a, R, G> {
     }
 
     /// Takes what is in the site's queue until each site has put an end mark there, or up to the first fault.
-    fn take_all(&mut self) -> Result<(), CallFault> {
+    fn take_all(&self, seat: &mut Seat) -> Result<(), CallFault> {
         let mut ended = 0usize;
         for _ in self.rt.forever() {
             if ended >= self.sites.roster.len() {
                 break;
             }
-            let next = self
-                .sites
-                .federation
-                .take_next(self.rt, self.here, &mut self.seat)?;
+            let next = self.sites.federation.take_next(self.rt, self.here, seat)?;
             ended = ended.saturating_add(usize::from(next == Next::Ended));
         }
         Ok(())
-    }
-
-    /// What the thread leaves.
-    fn report(self, ended: Result<(), CallFault>) -> Report {
-        let Place { seat, text, .. } = self;
-        Report {
-            seat,
-            text,
-            fault: ended.err(),
-        }
-    }
-}
-
-/// What a thread leaves that has no place.
-fn nothing<G: Gate>(sites: &Sites<'_, G>) -> Report {
-    Report {
-        seat: sites.federation.seat(),
-        text: String::new(sites.alloc),
-        fault: None,
     }
 }
 
@@ -215,20 +306,28 @@ pub(crate) fn run_lines<R: Wait, G: Gate>(
     sites: &Sites<'_, G>,
     number: u8,
     lines: &[Line],
-) -> Report {
-    let Some(mut place) = Place::new(rt, sites, number) else {
-        return nothing(sites);
+) -> Report
+    ensures { number < length sites.now.roster.now → result.fault ≡ None →
+        ThreadSays sites.now.roster.now number (map said_by lines.now)
+        starts (known_by result.seat) (string_bytes result.text) }
+{
+    let mut log = Log::new(sites);
+    let Some(place) = Place::new(rt, sites, number) else {
+        return log.report(Ok(()));
     };
-    let ran = place.run_lines(lines);
+    let ran = place.run_lines(lines, &mut log);
     let ended = place.end_all();
-    place.report(ran.and(ended))
+    log.report(ran.and(ended))
 }
 
 /// Takes what comes to the site with this number.
-pub(crate) fn take_all<R: Wait, G: Gate>(rt: &R, sites: &Sites<'_, G>, number: u8) -> Report {
-    let Some(mut place) = Place::new(rt, sites, number) else {
-        return nothing(sites);
+pub(crate) fn take_all<R: Wait, G: Gate>(rt: &R, sites: &Sites<'_, G>, number: u8) -> Report
+    ensures { string_bytes result.text ≡ [] }
+{
+    let mut log = Log::new(sites);
+    let Some(place) = Place::new(rt, sites, number) else {
+        return log.report(Ok(()));
     };
-    let ended = place.take_all();
-    place.report(ended)
+    let ended = place.take_all(&mut log.seat);
+    log.report(ended)
 }

@@ -37,6 +37,14 @@ fn machine_plan_text(
     }
 }
 
+/// The nodes of a site of the roster.
+fn nodes_of(roster: &Roster, site: SiteId) -> u64
+    requires { site < length roster.now }
+    ensures { result ≡ nodes_at roster.now site }
+{
+    roster.nodes(site).unwrap()
+}
+
 /// The plan of a site at a moment, with the roster's nodes and what the board says runs there, which a machine may have.
 pub(crate) fn site_plan_text(
     alloc: Global,
@@ -49,7 +57,7 @@ pub(crate) fn site_plan_text(
     requires machine { first_fault (nodes_at roster.now site) (running_in site (reads board.now)) ≡ None }
     ensures { IfOk result (λ text. string_bytes text ≡ planned roster.now (reads board.now) site moment) }
 {
-    let nodes = roster.nodes(site).unwrap();
+    let nodes = nodes_of(roster, site);
     match machine_of(alloc, board, site, nodes) {
         Ok(machine) => machine_plan_text(alloc, roster, board, site, moment, &machine),
         Err(fault) => {
@@ -60,19 +68,18 @@ pub(crate) fn site_plan_text(
     }
 }
 
-/// The plan of a site of so many nodes at a moment, by a copy of its board.
+/// The plan of a site at a moment, by a copy of its board.
 pub(crate) fn copy_plan_text(
     alloc: Global,
     roster: &Roster,
     board: &Board,
     site: SiteId,
-    nodes: u64,
     moment: Moment,
 ) -> Result<String, NoMemory>
-    ensures { IfOk result (λ text. string_bytes text ≡ plan_lines roster.now (site_plan (reads board.now) site moment
-        (record { nodes = nodes; running = running_in site (reads board.now) }))) }
+    requires { site < length roster.now }
+    ensures { IfOk result (λ text. string_bytes text ≡ planned roster.now (reads board.now) site moment) }
 {
-    match machine_of(alloc, board, site, nodes) {
+    match machine_of(alloc, board, site, nodes_of(roster, site)) {
         Ok(machine) => machine_plan_text(alloc, roster, board, site, moment, &machine),
         // in a run no machine of a site is refused, so that want of memory is all that is left; nothing is known of the
         // copy by which this could be proved

@@ -30,21 +30,21 @@ fn site(number: u8) -> SiteId {
     SiteId::new(number).unwrap_or_default()
 }
 
-fn stamp(counter: u64, number: u8) -> Stamp {
+pub(crate) fn stamp(counter: u64, number: u8) -> Stamp {
     Stamp::new(counter, site(number)).unwrap_or_default()
 }
 
 /// The job of these tests, submitted at site 2.
-fn job() -> JobId {
+pub(crate) fn job() -> JobId {
     stamp(5, 2)
 }
 
-fn owner(rt: &impl Abort) -> Word {
+pub(crate) fn owner(rt: &impl Abort) -> Word {
     Word::new("ann").expect(rt, "a name")
 }
 
 /// The values of a submission to the sites 1 and 4.
-fn values(rt: &impl Abort) -> JobValues {
+pub(crate) fn values(rt: &impl Abort) -> JobValues {
     JobValues {
         name: Word::new("STDIN").expect(rt, "a name"),
         priority: Priority::new(0).unwrap(),
@@ -376,7 +376,7 @@ fn sites_that_a_set_has_seen_are_replaced(rt: HostRuntime) {
 }
 
 /// The record that is made of what this one reads as is equal to it. Its readers alone show that.
-fn made_again(alloc: Global, seen: &JobRecord) -> Result<JobRecord, NoMemory>
+pub(crate) fn made_again(alloc: Global, seen: &JobRecord) -> Result<JobRecord, NoMemory>
     requires { IsTrue (is_job_submitted (reads seen.now)) }
     ensures { IfOk result (λ made. made ≡ seen.now) }
 {
@@ -407,4 +407,28 @@ fn a_record_is_made_of_what_it_reads_as(rt: HostRuntime) {
     assert!(rt; again == seen);
     let further = after(&rt, seen, stamp(8, 2), Operation::Delete { job: job() });
     assert!(rt; again != further);
+}
+
+/// A hold that is set a thousand times, and released each time.
+#[test]
+fn released_holds_leave_no_tag_behind(rt: HostRuntime) {
+    let mut record = submitted(&rt, false);
+    for turn in 0..1000u64 {
+        let at = stamp(2 * turn + 6, 3);
+        let hold = Operation::Hold {
+            job: job(),
+            kinds: HoldKinds::USER,
+        };
+        record.apply(at, &hold).expect(&rt, "memory");
+        assert!(rt; record.hold_tags().eq([(HoldKind::User, at)]));
+        let release = Operation::Release {
+            job: job(),
+            removed: Vec::from_slice(rt.alloc(), &[(HoldKind::User, at)]).expect(&rt, "memory"),
+        };
+        record
+            .apply(stamp(2 * turn + 7, 3), &release)
+            .expect(&rt, "memory");
+        assert!(rt; record.hold_tags().next().is_none());
+    }
+    assert!(rt; record.touched() == Version::default().with(job()).with(stamp(2005, 3)));
 }

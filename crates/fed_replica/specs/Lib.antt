@@ -6,3 +6,4 @@ pub mod Answer
 pub mod Packet
 pub mod Replica
 pub mod Ranges
+pub mod Growth

@@ -1,5 +1,5 @@
 //! What commands add.
-ghost use Rattle.std.specs.Prelude.{◌≡◌, ◌+◌, ◌<◌, ◌≤◌, ◌^◌, true, Some, None, IsTrue, IsSome, IfOk, is_some, filter};
+ghost use Rattle.std.specs.Prelude.{◌≡◌, ◌+◌, ◌<◌, ◌≤◌, ◌^◌, true, Some, None, IsTrue, IsSome, IfOk, OnErr, is_some, filter};
 ghost use Rattle.fed_record.specs.declared.askers.Who.{Who};
 ghost use Rattle.fed_record.specs.declared.terms.TheConstants.{MAX_TERM};
 ghost use Rattle.fed_record.specs.Body.{Body.Finish, Body.Release, Body.Set};
@@ -9,6 +9,7 @@ ghost use Rattle.fed_record.specs.Letter.{is_submitted};
 ghost use Rattle.fed_record.specs.Operation.{body_of, has_hold_pair, has_site_pair};
 ghost use Rattle.fed_board.specs.Board.{reads};
 ghost use Rattle.fed_replica.specs.Answer.{beginning as beginning_of, effect, has_hold_among as is_hold_among, released_holds, replaced_sites, reply_with as reply_of_addition, reply_without as reply_of_nothing, term_in};
+ghost use Rattle.fed_replica.specs.Growth.{HasList};
 ghost use Rattle.fed_replica.specs.Refusals.{MayBeDone};
 
 use crate::jobs::last_term;
@@ -70,7 +71,8 @@ fn replaced(
     sites: Option<SiteSet>,
 ) -> Result<Vec<(SiteId, Stamp)>, NoMemory>
     requires { IsTrue (is_submitted ((reads board.now).job job)) }
-    ensures { IfOk result (λ v. has_site_pair v.items ≡ replaced_sites ((reads board.now).job job) sites) }
+    ensures pairs { IfOk result (λ v. has_site_pair v.items ≡ replaced_sites ((reads board.now).job job) sites) }
+    ensures err { OnErr result (IsSome sites) }
 {
     match sites {
         Some(_) => site_pairs(alloc, known(board, job)),
@@ -118,8 +120,9 @@ fn beginning(job: &JobRecord, moment: Moment) -> Beginning
 /// The operation of an Alter.
 fn set(alloc: Global, board: &Board, job: JobId, changes: &Changes) -> Result<Operation, NoMemory>
     requires { IsTrue (is_submitted ((reads board.now).job job)) }
-    ensures { IfOk result (λ op. body_of op ≡
+    ensures set { IfOk result (λ op. body_of op ≡
         Set job changes.now (replaced_sites ((reads board.now).job job) changes.now.sites)) }
+    ensures err { OnErr result (IsSome changes.now.sites) }
 {
     Ok(Operation::Set {
         job,
@@ -165,8 +168,8 @@ pub(crate) fn adds(board: &Board, command: &Command) -> bool
     }
 }
 
-/// The operation that a command adds that isn't refused and that adds one. The only error is `NoMemory`, which comes to
-/// an Alter and a Release alone.
+/// The operation that a command adds that isn't refused and that adds one. The only error is `NoMemory`, which comes only
+/// to an Alter that names sites and to a Release.
 pub(crate) fn operation(
     alloc: Global,
     board: &Board,
@@ -175,7 +178,8 @@ pub(crate) fn operation(
 ) -> Result<Operation, NoMemory>
     requires done { MayBeDone (reads board.now) command.now }
     requires adds { IsTrue (is_some (effect (reads board.now) who.now command.now)) }
-    ensures { IfOk result (λ op. effect (reads board.now) who.now command.now ≡ Some (body_of op)) }
+    ensures added { IfOk result (λ op. effect (reads board.now) who.now command.now ≡ Some (body_of op)) }
+    ensures err { OnErr result (HasList command.now) }
 {
     Ok(match command {
         Command::Submit { values, held } => Operation::Submit {

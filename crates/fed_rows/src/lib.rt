@@ -5,6 +5,9 @@
 /// reservations.
 #[cfg(test)]
 mod forms;
+/// A site that has as many jobs as it may.
+#[cfg(test)]
+mod full;
 /// Scripts where memory may be refused.
 #[cfg(test)]
 mod growths;
@@ -20,6 +23,9 @@ mod misused;
 /// Worked scripts with plans, each as a whole.
 #[cfg(test)]
 mod plans;
+/// Random scripts in which no site ships, run live and as a replay.
+#[cfg(test)]
+mod random;
 /// Worked scripts with their answers, each as a whole.
 #[cfg(test)]
 mod rows;

@@ -1,3 +1,4 @@
+pub mod AskedLines
 pub mod LineCuts
 pub mod ReadableLines
 pub mod Slashes

@@ -1,4 +1,4 @@
--- The sites that a line names are of the roster.
+-- The sites that a line asks, ships to and compares are of the roster.
 use Rattle.std.proofs.Common.{◌≡◌, ℕ, ◌<◌, Bool, true, false, List, [], ◌∷◌, length, Option, Some, None, Ok, Err, refl, subst, arith}
 use Rattle.std.specs.Prelude.{codes, option_map, if◌then◌else◌}
 use Rattle.std.specs.Option.{option_map_or}

@@ -1,8 +1,8 @@
--- The sites that a line names.
+-- The sites that a line asks, ships to and compares. Sites inside a command are not looked at.
 use Rattle.std.specs.Prelude.{ℕ, ◌<◌}
 use Rattle.fed_script.specs.Line.{Line, skips, begins, acts, lists, misuses, ships, takes, plans, compares}
 
--- the sites that the line names are of a federation of n sites
+-- these sites are of a federation of n sites
 abbrev pub HasSites : ℕ → Line → Type 0
 HasSites n skips = Unit {0}
 HasSites n (begins roster) = Unit {0}

@@ -3,7 +3,8 @@ ghost use Rattle.std.specs.Prelude.{◌≡◌, ℕ, List, length, Some};
 ghost use Rattle.fed_script.specs.Line.{Line, later_line_in};
 ghost use Rattle.fed_script.specs.LineSites.{HasSites};
 
-/// The sites that a line names are of the roster.
+/// The site that a line asks is of the roster, and so are the site that it ships to and the other site that it compares.
+/// Sites inside a command are not looked at here.
 pub fn lines_name_sites_of_the_roster()
     ensures { (roster : List (List ℕ × ℕ)) (made : ℕ) (bytes : List ℕ) (line : Line) →
         later_line_in roster made bytes ≡ Some line → HasSites (length roster) line }

@@ -1,11 +1,13 @@
 //! What a line of a script says.
-ghost use Rattle.std.specs.Prelude.{◌≡◌, IfOk, option_map};
+ghost use Rattle.std.specs.Prelude.{◌≡◌, IfOk, IsErr, OnErr, option_map};
+ghost use Rattle.fed_words.specs.Fault.{answer_map};
 ghost use Rattle.fed_words.specs.Item.{words_of as texts_of};
 ghost use Rattle.fed_script.specs.Forms.{one, two};
 ghost use Rattle.fed_script.specs.Line.{act as act_of, asked_at, compares, first_line, first_line_in, is_comment as are_of_comment, later_line, later_line_in, plans, ships, site_line, takes, user_line, verb_line, words_in};
 ghost use Rattle.fed_script.specs.LineView.{said_by};
 ghost use Rattle.fed_script.specs.Values.{moment as moment_of, packet as packet_of, site as site_of_roster};
 ghost use Rattle.fed_words.specs.Request.{request_in};
+ghost use Rattle.fed_words.specs.RequestView.{asked_by};
 
 use crate::askers::{read_who, scheduler};
 use crate::commands::{read_cancel, read_reserve, read_scheduled};
@@ -89,6 +91,24 @@ fn act(
     }))
 }
 
+/// The line of what the words of a utility were read as, but for want of memory.
+fn asked_line(site: SiteId, who: Who, read: Result<Request, UsageFault>) -> Result<Line, NoMemory>
+    ensures ok { IfOk result (λ line. said_by line ≡ asked_at site who (answer_map asked_by read)) }
+    ensures told { read ≡ Err UsageFault.NoMemory → IsErr result }
+    ensures err { OnErr result (read ≡ Err UsageFault.NoMemory) }
+{
+    match read {
+        Ok(Request::Acts(commands)) => Ok(Line::Act {
+            site,
+            who,
+            commands,
+        }),
+        Ok(Request::List { full, jobs }) => Ok(Line::List { site, full, jobs }),
+        Err(UsageFault::NoMemory) => Err(NoMemory),
+        Err(fault) => Ok(Line::Misuse { site, fault }),
+    }
+}
+
 /// What the words of a utility ask of a site.
 fn read_asked(
     alloc: Global,
@@ -99,16 +119,7 @@ fn read_asked(
 ) -> Result<Line, NoMemory>
     ensures { IfOk result (λ line. said_by line ≡ asked_at site who (request_in roster.now site (texts_of words.now))) }
 {
-    match read_words(alloc, words, roster, site) {
-        Ok(Request::Acts(commands)) => Ok(Line::Act {
-            site,
-            who,
-            commands,
-        }),
-        Ok(Request::List { full, jobs }) => Ok(Line::List { site, full, jobs }),
-        Err(UsageFault::NoMemory) => Err(NoMemory),
-        Err(fault) => Ok(Line::Misuse { site, fault }),
-    }
+    asked_line(site, who, read_words(alloc, words, roster, site))
 }
 
 /// `ship SITE`

@@ -12,8 +12,10 @@ pub mod Firsts
 pub mod Cursors
 pub mod Nexts
 pub mod OnePlacing
+pub mod NoFaults
 pub mod Numbers
 pub mod Courses
 pub mod Boards
 pub mod Answered
 pub mod Fits
+pub mod CallFaults

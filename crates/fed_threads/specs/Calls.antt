@@ -13,12 +13,12 @@ use Rattle.fed_threads.specs.Replay.{Kept, replay, Appends}
 use Rattle.fed_threads.specs.Seat.{Known, IsBehind, IsUpToDate, Covers, claimed, looked, version_of}
 
 -- a call at a site of the roster answers no NoSite, and Behind only where what the lock keeps is behind what the seat has
--- seen
+-- seen; want of memory only where it is not
 abbrev pub IsFaultOf : Kept → Known → ℕ → CallFault → Type 0
 IsFaultOf held k site NoSite = ⊥
 IsFaultOf held k site (Behind seen found version) =
     IsBehind k site (length held.entries) (replay held).view.version (Behind seen found version)
-IsFaultOf held k site NoMemory = Unit {0}
+IsFaultOf held k site NoMemory = IsUpToDate k site (length held.entries) (replay held).view.version
 
 -- a fault of a call, for what some lock kept
 pub record OnlyBehind (k : Known) (site : ℕ) (fault : CallFault) : Type 0 where

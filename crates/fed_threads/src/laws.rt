@@ -6,7 +6,8 @@ ghost use Rattle.fed_world.specs.Run.{run};
 ghost use Rattle.fed_threads.specs.declared.journal.Claim.{Claim};
 ghost use Rattle.fed_threads.specs.declared.journal.Entry.{Entry};
 ghost use Rattle.fed_threads.specs.Placing.{IsPlacing};
-ghost use Rattle.fed_threads.specs.Settle.{AreReplays, HasItsOutcomes, IsSettled};
+ghost use Rattle.fed_threads.specs.declared.fault.CloseFault.{CloseFault};
+ghost use Rattle.fed_threads.specs.Settle.{AreReplays, HasItsOutcomes, IsCloseFault, IsSettled};
 
 /// There is only one placing, whatever may be placed when; so journals and claims have only one settled list.
 pub fn there_is_one_placing()
@@ -14,6 +15,12 @@ pub fn there_is_one_placing()
         IsPlacing ready start sites → IsPlacing ready start others → sites ≡ others }
     ensures settled { (journals : List (List Entry)) (seats : List (List Claim)) (events others : List Event) →
         IsSettled journals seats events → IsSettled journals seats others → events ≡ others }
+{}
+
+/// Journals and claims that are settled to some list meet no fault but want of memory.
+pub fn settled_journals_meet_no_fault()
+    ensures { (journals : List (List Entry)) (seats : List (List Claim)) (events : List Event) (fault : CloseFault) →
+        IsSettled journals seats events → IsCloseFault journals seats fault → fault ≡ CloseFault.NoMemory }
 {}
 
 /// Where entries are settled, the board of each site, once the events are run, is that of the replay of its journal.

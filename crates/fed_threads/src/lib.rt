@@ -1,5 +1,5 @@
 //! Sites that run at the same time, each behind a lock of its own, with parcels in queues between them, and the one list
-//! of events that their journals come to.
+//! of events that their journals are settled to, where they are.
 #![tactic(auto)]
 
 /// What calls do to a site whose lock is held, and to the seat.

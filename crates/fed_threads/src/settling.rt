@@ -1,6 +1,8 @@
 //! The entries of all journals as one list of events.
-ghost use Rattle.std.specs.Prelude.{◌≡◌, ◌<◌, ◌≤◌, ◌↔◌, ℕ, IfOk, IfErr, IsTrue, length, slice_index};
+ghost use Rattle.std.specs.Prelude.{◌≡◌, ◌<◌, ◌≤◌, ◌↔◌, ℕ, List, IfOk, IfErr, IsTrue, length, slice_index};
 ghost use Rattle.fed_stamp.specs.declared.sites.TheConstants.{SITES};
+ghost use Rattle.fed_world.specs.declared.events.Event.{Event};
+ghost use Rattle.fed_threads.specs.declared.fault.CloseFault.TheVariants as CloseFault;
 ghost use Rattle.fed_threads.specs.Placing.{claims_of, entries_of};
 ghost use Rattle.fed_threads.specs.Settle.{IsCloseFault, IsRunFault, IsSettled, IsWhole, RunsAll};
 
@@ -16,7 +18,7 @@ use std::alloc::Global;
 /// The events that the entries of the journals come to, in the one order that is chosen. It asks for one journal for each
 /// site of the roster, in the order of their numbers; the claims of the seats must be of just these entries. Else
 /// it answers the first of the faults of `CloseFault`, in the order of their numbers, or `NoMemory` wherever a growth is
-/// refused.
+/// refused. Where there is a list that the journals and claims are settled to, want of memory is the only fault.
 pub fn settle(
     alloc: Global,
     roster: &Roster,
@@ -26,6 +28,8 @@ pub fn settle(
     requires { length journals.now ≡ length roster.now }
     ensures ok { IfOk result (λ events. IsSettled (entries_of journals.now) (claims_of seats.now) events.items) }
     ensures err { IfErr result (λ e. IsCloseFault (entries_of journals.now) (claims_of seats.now) e) }
+    ensures settled { (events : List Event) → IsSettled (entries_of journals.now) (claims_of seats.now) events →
+        IfErr result (λ e. e ≡ CloseFault.NoMemory) }
 {
     let world = settle_in(alloc, roster, journals, seats)?;
     let mut events = Vec::new(alloc);

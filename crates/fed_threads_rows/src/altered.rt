@@ -99,6 +99,12 @@ fn settled_scene(rt: &(impl Abort + AllocGlobal)) -> Scene {
     }
 }
 
+/// The journals of the two sites once argonne has done that and lemont has taken the second packet.
+pub(crate) fn settled_journals(rt: &(impl Abort + AllocGlobal)) -> Vec<Vec<Entry>> {
+    let Scene { journals, .. } = settled_scene(rt);
+    journals
+}
+
 /// The entry of a site's journal.
 fn entry_of<'a>(
     rt: &impl Abort,

@@ -6,6 +6,9 @@
 /// Journals and claims that are settled, and the same with one thing altered, or two, which are not.
 #[cfg(test)]
 mod altered;
+/// What stands behind the locks, of which contracts know nothing.
+#[cfg(test)]
+mod behind_locks;
 /// Many threads at once: at each of four sites four users and one taking thread.
 #[cfg(test)]
 mod many;

@@ -32,30 +32,39 @@ fn opened(alloc: Global, roster: &Roster) -> Result<Federation<OpenGate>, NoMemo
     }
 }
 
-/// What is known by a seat: how many calls it was answered, and how far it has seen a site.
-#[derive(Clone, Copy, PartialEq, Eq, Debug)]
-struct Known {
-    claims: usize,
-    asked: usize,
-    seen: u64,
-    version: Version,
+/// All that a seat of a federation of two sites keeps: what it was answered and what it asked, and how far it has seen
+/// each site.
+#[derive(PartialEq, Eq, Drop)]
+struct Kept {
+    claims: Vec<Claim>,
+    asked: Vec<Asked>,
+    seen: [u64; 2],
+    versions: [Version; 2],
 }
 
-fn known_by(seat: &Seat, site: SiteId) -> Known {
-    Known {
-        claims: seat.claims().len(),
-        asked: seat.asked().len(),
-        seen: seat.seen(site),
-        version: seat.version(site),
-    }
+fn read_seat(alloc: Global, seat: &Seat) -> Result<Kept, AllocError> {
+    let mut claims = room(alloc, seat.claims().len())?;
+    claims.extend_from_slice(seat.claims())?;
+    let mut asked = room(alloc, seat.asked().len())?;
+    asked.extend_from_slice(seat.asked())?;
+    Ok(Kept {
+        claims,
+        asked,
+        seen: [seat.seen(site(0)), seat.seen(site(1))],
+        versions: [seat.version(site(0)), seat.version(site(1))],
+    })
+}
+
+fn kept_by(rt: &(impl Abort + AllocGlobal), seat: &Seat) -> Kept {
+    read_seat(rt.alloc(), seat).expect(rt, "memory")
 }
 
 /// Fails where a call was not answered for anything but want of memory, or left the seat other than before.
-fn see_refused(rt: &impl Abort, fault: CallFault, before: Known, after: Known) {
+fn see_refused(rt: &impl Abort, fault: CallFault, before: &Kept, after: &Kept) {
     assert!(rt; fault.number() == 3 && before == after);
 }
 
-fn called<R: Abort + Wait>(
+fn called<R: Abort + AllocGlobal + Wait>(
     rt: &R,
     federation: &Federation<OpenGate>,
     site: SiteId,
@@ -63,41 +72,45 @@ fn called<R: Abort + Wait>(
     seat: &mut Seat,
 ) -> Option<Reply> {
     let who = user(rt, "ann");
-    let before = known_by(seat, site);
+    let before = kept_by(rt, seat);
     match federation.call(rt, site, &who, command, seat) {
         Ok(said) => said.ok(),
         Err(fault) => {
-            see_refused(rt, fault, before, known_by(seat, site));
+            see_refused(rt, fault, &before, &kept_by(rt, seat));
             let again = federation.call(rt, site, &who, command, seat);
             again.expect(rt, "an answer").ok()
         }
     }
 }
 
-fn looked<R: Abort + Wait>(
+fn looked<R: Abort + AllocGlobal + Wait>(
     rt: &R,
     federation: &Federation<OpenGate>,
     site: SiteId,
     seat: &mut Seat,
 ) -> Board {
-    let before = known_by(seat, site);
+    let before = kept_by(rt, seat);
     match federation.look(rt, site, seat) {
         Ok(board) => board,
         Err(fault) => {
-            see_refused(rt, fault, before, known_by(seat, site));
+            see_refused(rt, fault, &before, &kept_by(rt, seat));
             federation.look(rt, site, seat).expect(rt, "a board")
         }
     }
 }
 
 /// Ships from argonne to lemont.
-fn shipped<R: Abort + Wait>(rt: &R, federation: &Federation<OpenGate>, seat: &mut Seat) -> Sent {
+fn shipped<R: Abort + AllocGlobal + Wait>(
+    rt: &R,
+    federation: &Federation<OpenGate>,
+    seat: &mut Seat,
+) -> Sent {
     let (argonne, lemont) = (site(0), site(1));
-    let before = known_by(seat, argonne);
+    let before = kept_by(rt, seat);
     match federation.ship(rt, argonne, lemont, seat) {
         Ok(sent) => sent,
         Err(fault) => {
-            see_refused(rt, fault, before, known_by(seat, argonne));
+            see_refused(rt, fault, &before, &kept_by(rt, seat));
             federation
                 .ship(rt, argonne, lemont, seat)
                 .expect(rt, "a shipment")
@@ -106,17 +119,17 @@ fn shipped<R: Abort + Wait>(rt: &R, federation: &Federation<OpenGate>, seat: &mu
 }
 
 /// What lemont takes next, and how many parcels left its queue: that of a refused take is dropped.
-fn taken_next<R: Abort + Wait>(
+fn taken_next<R: Abort + AllocGlobal + Wait>(
     rt: &R,
     federation: &Federation<OpenGate>,
     seat: &mut Seat,
 ) -> (Next, usize) {
     let lemont = site(1);
-    let before = known_by(seat, lemont);
+    let before = kept_by(rt, seat);
     match federation.take_next(rt, lemont, seat) {
         Ok(next) => (next, 1),
         Err(fault) => {
-            see_refused(rt, fault, before, known_by(seat, lemont));
+            see_refused(rt, fault, &before, &kept_by(rt, seat));
             let next = federation.take_next(rt, lemont, seat);
             (next.expect(rt, "a parcel"), 2)
         }
@@ -139,7 +152,11 @@ fn emptied<R: Abort + Wait>(rt: &R, federation: &Federation<OpenGate>, site: Sit
 
 /// Submits a job at argonne, ships it to lemont three times, takes one parcel and drops the others; all is answered as
 /// with ample memory. The journals have five entries then.
-fn answered<R: Abort + Wait>(rt: &R, federation: &Federation<OpenGate>, seat: &mut Seat) {
+fn answered<R: Abort + AllocGlobal + Wait>(
+    rt: &R,
+    federation: &Federation<OpenGate>,
+    seat: &mut Seat,
+) {
     let (argonne, lemont, job) = (site(0), site(1), stamp(1, 0));
     let said = called(rt, federation, argonne, &submission(rt), seat);
     assert!(rt; said == Some(Reply::Submitted(job)));

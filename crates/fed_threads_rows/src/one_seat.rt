@@ -1,9 +1,10 @@
 //! One seat at a federation of two sites.
+use crate::altered::settled_journals;
 use crate::values::{site, stamp, submission, two_sites, user};
 use fed_record::Reply;
 use fed_replica::Taken;
 use fed_stamp::SiteId;
-use fed_threads::{CallFault, Dropped, Federation, Next, OpenGate, Seat};
+use fed_threads::{CallFault, Dropped, Entry, Federation, Next, OpenGate, Seat};
 use fed_world::Event;
 use std::process::Abort;
 use std::sync::Wait;
@@ -24,6 +25,25 @@ fn submit_and_pass<R: Abort + Wait>(rt: &R, federation: &Federation<OpenGate>, s
     assert!(rt; federation.drop_next(rt, lemont) == Ok(Dropped::Parcel));
     let taken = federation.take_next(rt, lemont, seat);
     assert!(rt; taken == Ok(Next::Taken(Taken { grew: true })));
+}
+
+/// Whether both entries have the same packet, or none.
+fn have_same_packet(a: &Entry, b: &Entry) -> bool {
+    match (&a.packet, &b.packet) {
+        (None, None) => true,
+        (Some(x), Some(y)) => *x == *y,
+        _ => false,
+    }
+}
+
+/// Whether both journals have the same entries.
+fn have_same_entries(a: &[Entry], b: &[Entry]) -> bool {
+    for (x, y) in a.iter().zip(b) {
+        if x.asked != y.asked || x.outcome != y.outcome || !have_same_packet(x, y) {
+            return false;
+        }
+    }
+    a.len() == b.len()
 }
 
 #[test]
@@ -61,4 +81,11 @@ fn one_job_is_passed_on(rt: HostRuntime) {
     assert!(rt; run.order().len() == 4 && run.order().get(3) == Some(&take));
     assert!(rt; run.board(argonne).is_some() && run.board(argonne) == run.board(lemont));
     assert!(rt; run.board(site(2)).is_none() && run.journal(site(2)).is_none());
+    // the scene whose journals are given to `settle` is this one
+    let journals = settled_journals(&rt);
+    for number in 0..2u8 {
+        let kept = run.journal(site(number)).expect(&rt, "a journal");
+        let given = journals.get(usize::from(number)).expect(&rt, "a journal");
+        assert!(rt; have_same_entries(kept, given));
+    }
 }

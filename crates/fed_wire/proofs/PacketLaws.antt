@@ -12,8 +12,8 @@ use Rattle.fed_json.specs.Reading.{Reading, where_true}
 use Rattle.fed_json.specs.Reading.{◌>>=◌ as ◌>>-◌}
 use Rattle.fed_json.specs.Numbers.{natural_value}
 use Rattle.fed_json.specs.Values.{list_value, elements_of}
-use Rattle.fed_json.specs.Objects.{has_names, HasMembers}
-use Rattle.fed_json.specs.Forms.{IsForm}
+use Rattle.fed_json.specs.Objects.{has_names}
+use Rattle.fed_json.proofs.Forms.{HasMembers, IsForm}
 use Rattle.fed_json.proofs.Steps as reading
 use Rattle.fed_json.proofs.FormLaws.{elements_takes, list_of-items_of}
 use Rattle.fed_json.proofs.ObjectLaws.{object_is, object_has}

@@ -1,4 +1,4 @@
-//! Which packets are within limits. The function does nothing: its contract is the law.
+//! Which packets are within limits. The function changes nothing: its contract is the law.
 ghost use Rattle.std.specs.Prelude.{◌≡◌, ℕ, List};
 ghost use Rattle.fed_stamp.specs.Version.{met};
 ghost use Rattle.fed_lattice.specs.History.{History};

@@ -1,5 +1,6 @@
 //! Packets as text.
-ghost use Rattle.std.specs.Prelude.{◌≡◌, Some, Ok, IfOk};
+ghost use Rattle.std.specs.Prelude.{◌≡◌, ◌↔◌, Some, Ok, IfOk};
+ghost use Rattle.serde_json.specs.Errors.{IsMemory};
 ghost use Rattle.serde_json.specs.Written.{compact_text};
 ghost use Rattle.fed_job_json.specs.declared.formats.Format.TheVariants.{Two};
 ghost use Rattle.fed_job_json.specs.declared.formats.Format.{Format as AFormat};
@@ -12,8 +13,20 @@ use crate::faults::WireFault;
 use crate::packets::Packet;
 use crate::writing::packet_value as value_of_packet;
 use fed_lattice::NoMemory;
-use serde_json::Value;
+use serde_json::{Error, Value};
 use std::alloc::Global;
+
+/// Why bytes are not read as a JSON value: want of memory alone is told as such.
+fn unread(error: &Error) -> WireFault
+    ensures memory { (result ≡ WireFault.NoMemory) ↔ IsMemory error.now }
+    ensures text { ¬ IsMemory error.now → result ≡ WireFault.NotJson }
+{
+    if error.is_memory() {
+        WireFault::NoMemory
+    } else {
+        WireFault::NotJson
+    }
+}
 
 // The packet of the text, or its first fault.
 fn packet_in_text(alloc: Global, bytes: &[u8]) -> Result<Packet, WireFault>
@@ -21,12 +34,7 @@ fn packet_in_text(alloc: Global, bytes: &[u8]) -> Result<Packet, WireFault>
 {
     match Value::from_slice(alloc, bytes) {
         Ok(value) => packet(alloc, &value),
-        Err(error) => {
-            if error.is_memory() {
-                return Err(WireFault::NoMemory);
-            }
-            Err(WireFault::NotJson)
-        }
+        Err(error) => Err(unread(&error)),
     }
 }
 

@@ -88,10 +88,23 @@ module _ (w : World) (i : ℕ) (who : Who) (command : Command) (lawful : IsLawfu
       (ap (λ r. Outcome.Replied r) d.0, grown e (d.1 ∙ sym (view_push ops e lawful (next_uncovered (version_of ops) i e.0 allowed.0))))
   went (Replies reply (Some e)) is (Err refusal) d = λ full. absurd (full d.0)
 
+  here_done : (said : Result Reply Refusal) → IsDone (answer_to (reads old.board) old.site who command) (reads old.board) said (reads new.board) → IsDone (answer ops i who command) (view ops) said (reads new.board)
+  here_done said d =
+      subst (λ v. IsDone (answer_to v i who command) v said (reads new.board)) held.board (subst (λ (k : ℕ). IsDone (answer_to (reads old.board) k who command) (reads old.board) said (reads new.board)) held.site d)
+
   pub command_went : (said : Result Reply Refusal) → IsDone (answer_to (reads old.board) old.site who command) (reads old.board) said (reads new.board) → Gone (answer ops i who command) said
-  command_went said d =
-      went (answer ops i who command) refl said
-      (subst (λ v. IsDone (answer_to v i who command) v said (reads new.board)) held.board (subst (λ (k : ℕ). IsDone (answer_to (reads old.board) k who command) (reads old.board) said (reads new.board)) held.site d))
+  command_went said d = went (answer ops i who command) refl said (here_done said d)
+
+  -- where want of memory is said, no other refusal was due
+  due_memory : (a : Answer) → IsDone a (view ops) (Err Refusal.NoMemory) (reads new.board) → (refusal : Refusal) → (does w i a).outcome ≡ Outcome.Refused refusal → refusal ≡ Refusal.NoMemory
+  due_memory (Refuses due) d refusal e = let p : Refusal.NoMemory ≡ due = (let q = d.0 in cc) in let r : due ≡ refusal = cc in cc
+  due_memory (Replies reply None) d refusal e = cc
+  due_memory (Replies reply (Some op)) d refusal e = cc
+
+  pub memory_went : (said : Result Reply Refusal) → said ≡ Err Refusal.NoMemory → IsDone (answer_to (reads old.board) old.site who command) (reads old.board) said (reads new.board)
+      → (refusal : Refusal) → (does w i (answer ops i who command)).outcome ≡ Outcome.Refused refusal → refusal ≡ Refusal.NoMemory
+  memory_went said e d =
+      due_memory (answer ops i who command) (subst (λ r. IsDone (answer ops i who command) (view ops) r (reads new.board)) e (here_done said d))
 
 -- ---- in the run
 pub site_lawful : (n : ℕ) (events : List Event) → n ≤ 16 → (i : ℕ) → IsLawful ((run n events).site i).set
@@ -134,6 +147,15 @@ module _ (n : ℕ) (events : List Event) (few : n ≤ 16) (rs : List ReplicaValu
 
     pub refusal_done : (refusal : Refusal) → said ≡ Err refusal → (refusal ≡ Refusal.NoMemory → ⊥) → IsStep n (step n w (Do i who command)) (Outcome.Refused refusal) (set rs k new)
     refusal_done refusal e other = in_place _ (subst Told e told other)
+
+    abbrev OnlyMemory : Step → Type 0
+    OnlyMemory s = (refusal : Refusal) → s.outcome ≡ Outcome.Refused refusal → refusal ≡ Refusal.NoMemory
+
+    pub memory_done : said ≡ Err Refusal.NoMemory → OnlyMemory (step n w (Do i who command))
+    memory_done e =
+        let here : OnlyMemory (step n w (Do k who command)) =
+        subst OnlyMemory (sym (do_here n w k who command small)) (memory_went w k who command lawful old new before site heard said e done) in
+        subst (λ (j : ℕ). OnlyMemory (step n w (Do j who command))) at here
 
 -- ---- the first replicas
 site_is : (k s : ℕ) (o : Option ℕ) → k < 16 → o ≡ Some s → o ≡ cond (nat_lt k 16) (Some k) None → s ≡ k

@@ -1,8 +1,10 @@
 //! What an event does to the replicas and the packets of a world.
-ghost use Rattle.std.specs.Prelude.{◌≡◌, ◌≤◌, ℕ, List, length, IfOk, OnErr};
+ghost use Rattle.std.specs.Prelude.{◌≡◌, ◌≢◌, ◌≤◌, ℕ, List, length, Ok, IfOk, OnErr};
+ghost use Rattle.fed_record.specs.declared.refusals.Refusal.{Refusal};
 ghost use Rattle.fed_stamp.specs.declared.sites.TheConstants.{SITES};
 ghost use Rattle.fed_world.specs.declared.events.Event.{Event};
 ghost use Rattle.fed_world.specs.declared.events.Event.TheVariants.{Do, Ship, Take};
+ghost use Rattle.fed_world.specs.declared.outcomes.Outcome.TheVariants as Outcome;
 ghost use Rattle.fed_world.specs.Kept.{AreReplicas, AreTexts};
 ghost use Rattle.fed_world.specs.Ranges.{AreRanged, IsRangedEvent};
 ghost use Rattle.fed_world.specs.Run.{run, step};
@@ -28,6 +30,11 @@ pub(crate) fn act_at(
     ensures done { IfOk result (λ o. (n : ℕ) (events : List Event) → n ≤ SITES → AreReplicas n (run n events) replicas.old →
         (o ≡ (step n (run n events) (Do site who.now command.now)).outcome) ×
         AreReplicas n (step n (run n events) (Do site who.now command.now)).after replicas.new) }
+    ensures told { result ≢ Ok (Outcome.Refused Refusal.NoMemory) }
+    // a refusal is told as such, and never as want of memory
+    ensures memory { OnErr result ((n : ℕ) (events : List Event) → n ≤ SITES → AreReplicas n (run n events) replicas.old →
+        (refusal : Refusal) → (step n (run n events) (Do site who.now command.now)).outcome ≡ Outcome.Refused refusal →
+        refusal ≡ Refusal.NoMemory) }
     ensures unchanged { OnErr result (replicas.new ≡ replicas.old) }
 {
     let index = site.get() as usize;
@@ -55,6 +62,7 @@ pub(crate) fn ship_at(
         AreReplicas n (run n events) replicas.now → AreTexts (run n events).packets texts.old.items →
         (o ≡ (step n (run n events) (Ship site to)).outcome) ×
         AreTexts (step n (run n events) (Ship site to)).after.packets texts.new.items) }
+    ensures told { result ≢ Ok (Outcome.Refused Refusal.NoMemory) }
     ensures unchanged { OnErr result (texts.new.items ≡ texts.old.items) }
 {
     let index = site.get() as usize;
@@ -81,6 +89,7 @@ pub(crate) fn take_at(
         AreTexts (run n events).packets texts.now →
         (o ≡ (step n (run n events) (Take site number)).outcome) ×
         AreReplicas n (step n (run n events) (Take site number)).after replicas.new) }
+    ensures told { result ≢ Ok (Outcome.Refused Refusal.NoMemory) }
     ensures unchanged { OnErr result (replicas.new ≡ replicas.old) }
 {
     let index = site.get() as usize;
@@ -116,6 +125,7 @@ pub(crate) fn run_event(
         (o ≡ (step n (run n events) event.now).outcome) ×
         AreReplicas n (step n (run n events) event.now).after replicas.new ×
         AreTexts (step n (run n events) event.now).after.packets texts.new.items) }
+    ensures told { result ≢ Ok (Outcome.Refused Refusal.NoMemory) }
     ensures replicas { OnErr result (replicas.new ≡ replicas.old) }
     ensures texts { OnErr result (texts.new.items ≡ texts.old.items) }
 {

@@ -1,10 +1,12 @@
 //! Worlds: all sites of a federation and the packets between them.
-ghost use Rattle.std.specs.Prelude.{◌≡◌, ◌<◌, ◌≤◌, ◌++◌, ◌∷◌, [], ℕ, length, IfOk, None, Some, OnOk, OnErr, MatchOption, option_copied, vec_capacity, vec_len};
+ghost use Rattle.std.specs.Prelude.{◌≡◌, ◌≢◌, ◌<◌, ◌≤◌, ◌++◌, ◌∷◌, [], ℕ, length, Ok, IfOk, None, Some, OnOk, OnErr, MatchOption, option_copied, vec_capacity, vec_len};
 ghost use Rattle.fed_stamp.specs.declared.sites.TheConstants.{SITES};
 ghost use Rattle.fed_board.specs.Board.{reads};
 ghost use Rattle.fed_board.specs.View.{view};
 ghost use Rattle.fed_wire.specs.Limits.{IsWithinLimits};
 ghost use Rattle.fed_replica.specs.Packet.{Packet};
+ghost use Rattle.fed_record.specs.declared.refusals.Refusal.{Refusal};
+ghost use Rattle.fed_world.specs.declared.outcomes.Outcome.TheVariants as Outcome;
 ghost use Rattle.fed_world.specs.Kept.{AreReplicas, IsTextOf};
 ghost use Rattle.fed_world.specs.Run.{outcomes as outcomes_of, packet as packet_of, run as run_of, start, step as step_of};
 
@@ -120,12 +122,14 @@ impl World {
         Some(self.texts[place].bytes())
     }
 
-    /// Runs one event more. On an error, which a refused growth alone makes, the world is as before.
+    /// Runs one event more. On an error, which a refused growth alone makes, the world is as before: want of memory is no
+    /// outcome.
     pub fn step(&mut self, event: &Event) -> Result<Outcome, NoMemory>
         ensures outcome { IfOk result (λ o. o ≡
             (step_of self.old.sites (run_of self.old.sites self.old.events) event.now).outcome) }
         ensures events { OnOk result (self.new ≡
             record { sites = self.old.sites; events = self.old.events ++ event.now ∷ [] }) }
+        ensures told { result ≢ Ok (Outcome.Refused Refusal.NoMemory) }
         ensures unchanged { OnErr result (self.new ≡ self.old) }
     {
         self.events.reserve(1)?;

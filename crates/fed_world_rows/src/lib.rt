@@ -5,7 +5,10 @@
 /// The lines that answer a row.
 #[cfg(test)]
 mod answers;
-/// The limits of a replica: counters, jobs and reservations.
+/// The library as docs/LIBRARY.md shows it.
+#[cfg(test)]
+mod library;
+/// The limits of a replica and of the sites of a world: counters, jobs and reservations.
 #[cfg(test)]
 mod limits;
 /// Lines of a row, and what they ask.

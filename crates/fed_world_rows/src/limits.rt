@@ -1,9 +1,11 @@
-//! The limits of a replica: counters, jobs and reservations.
+//! The limits of a replica and of the sites of a world: counters, jobs and reservations.
+use crate::runs::{submit as submit_at, two_sites};
 use crate::values::{asker, reservation, site, stamp, submission};
 use fed_record::{Command, Refusal, Reply, Role, Who};
 use fed_replica::Replica;
 use fed_stamp::{MAX_COUNTER, Stamp};
 use fed_wire::{Packet, read};
+use fed_world::{Event, Outcome, World};
 use std::process::Abort;
 
 /// An empty packet of argonne, site 0, that reaches the last counter of lemont, site 1.
@@ -146,4 +148,37 @@ fn site_has_1_000_reservations(rt: HostRuntime) {
         &reservations(&rt),
         &cancellations(&rt),
     );
+}
+
+/// A refusal of a world's site is an outcome, which changes nothing; a site that is not full goes on.
+#[test]
+fn a_site_of_a_world_has_10_000_jobs(rt: HostRuntime) {
+    let mut world = World::new(rt.alloc(), &two_sites(&rt)).expect(&rt, "memory");
+    let event = submit_at(&rt, 0);
+    for counter in 1..=10_000 {
+        let submitted = Outcome::Replied(Reply::Submitted(stamp(counter, 0)));
+        assert!(rt; world.step(&event) == Ok(submitted));
+    }
+    let full = Outcome::Refused(Refusal::SiteFull);
+    assert!(rt; world.step(&event) == Ok(full) && world.step(&event) == Ok(full));
+    let submitted = Outcome::Replied(Reply::Submitted(stamp(1, 1)));
+    assert!(rt; world.step(&submit_at(&rt, 1)) == Ok(submitted));
+    assert!(rt; world.events().len() == 10_003);
+}
+
+/// So for reservations.
+#[test]
+fn a_site_of_a_world_has_1_000_reservations(rt: HostRuntime) {
+    let mut world = World::new(rt.alloc(), &two_sites(&rt)).expect(&rt, "memory");
+    let event = Event::Do {
+        site: site(0),
+        who: asker(&rt, "root", Role::Administrator),
+        command: reservation(),
+    };
+    for counter in 1..=1_000 {
+        let reserved = Outcome::Replied(Reply::Reserved(stamp(counter, 0)));
+        assert!(rt; world.step(&event) == Ok(reserved));
+    }
+    let full = Outcome::Refused(Refusal::SiteFull);
+    assert!(rt; world.step(&event) == Ok(full) && world.step(&event) == Ok(full));
 }

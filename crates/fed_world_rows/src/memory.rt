@@ -11,7 +11,7 @@ use fed_replica::Replica;
 use fed_stamp::{Roster, SiteId, SiteSet};
 use fed_wire::Packet;
 use fed_world::{Event, Outcome, World, run};
-use std::alloc::Global;
+use std::alloc::{AllocError, Global};
 use std::process::Abort;
 
 fn copied(rt: &impl Abort, board: &Board) -> Board {
@@ -86,14 +86,16 @@ fn shipped(rt: &impl Abort, replica: &Replica, to: SiteId) -> Packet {
     }
 }
 
-/// Whether the board grows by the packet. A fault has the number 2 and leaves the board.
+/// Whether the board grows by the packet. A fault has the number 2, and leaves the board and what was heard of each site.
 fn grown(rt: &impl Abort, replica: &mut Replica, packet: &Packet) -> bool {
     let before = copied(rt, replica.board());
+    let heard = [replica.heard(site(0)), replica.heard(site(1))];
     let fault = match replica.take(packet) {
         Ok(taken) => return taken.grew,
         Err(fault) => fault,
     };
     assert!(rt; fault.number() == 2 && *replica.board() == before);
+    assert!(rt; [replica.heard(site(0)), replica.heard(site(1))] == heard);
     replica.take(packet).expect(rt, "a packet that fits").grew
 }
 
@@ -114,6 +116,7 @@ fn refused_growths_of_a_replica(rt: HostRuntime) {
     assert!(rt; grown(&rt, &mut lemont, &packet));
     assert!(rt; !grown(&rt, &mut lemont, &packet));
     assert!(rt; *lemont.board() == *argonne.board());
+    assert!(rt; lemont.heard(site(0)) == argonne.board().version());
 }
 
 fn new_world(alloc: Global, roster: &Roster) -> Result<World, NoMemory> {
@@ -123,13 +126,38 @@ fn new_world(alloc: Global, roster: &Roster) -> Result<World, NoMemory> {
     }
 }
 
-/// What is answered to the event. A refused step leaves the events.
-fn answered(rt: &impl Abort, world: &mut World, event: &Event) -> Outcome {
+/// The texts of all packets, one behind another.
+fn texts_of(alloc: Global, world: &World) -> Result<Vec<u8>, AllocError> {
+    let mut texts = Vec::new(alloc);
+    for packet in 1..=world.made() {
+        texts.extend_from_slice(world.text(packet).unwrap_or_default())?;
+    }
+    Ok(texts)
+}
+
+fn texts(rt: &(impl Abort + AllocGlobal), world: &World) -> Vec<u8> {
+    match texts_of(rt.alloc(), world) {
+        Ok(texts) => texts,
+        Err(_) => texts_of(rt.alloc(), world).expect(rt, "memory"),
+    }
+}
+
+/// The board of a site of the world.
+fn board(rt: &impl Abort, world: &World, number: u8) -> Board {
+    copied(rt, world.board(site(number)).expect(rt, "a board"))
+}
+
+/// What is answered to the event. A refused step leaves the events, the boards and the texts.
+fn answered(rt: &(impl Abort + AllocGlobal), world: &mut World, event: &Event) -> Outcome {
     let before = world.events().len();
+    let boards = [board(rt, world, 0), board(rt, world, 1)];
+    let made = texts(rt, world);
     if let Ok(outcome) = world.step(event) {
         return outcome;
     }
     assert!(rt; world.events().len() == before);
+    assert!(rt; [board(rt, world, 0), board(rt, world, 1)] == boards);
+    assert!(rt; texts(rt, world) == made);
     world.step(event).expect(rt, "memory")
 }
 

@@ -8,7 +8,7 @@ use fed_stamp::Roster;
 use fed_world::{Event, Outcome, World, run};
 use std::process::Abort;
 
-fn submit(rt: &impl Abort, number: u8) -> Event {
+pub(crate) fn submit(rt: &impl Abort, number: u8) -> Event {
     Event::Do {
         site: site(number),
         who: asker(rt, "ann", Role::User),

@@ -178,10 +178,14 @@ fn refused<'a>(words: &'a [&'a str]) -> Case<'a> {
     }
 }
 
-fn cases() -> [Case<'static>; 11] {
+fn cases() -> [Case<'static>; 12] {
     let script = b"roster a:1\na ann qsub\n";
     [
         ran(script, b"1.a\n"),
+        Case {
+            words: &["federation", "--", "replay"],
+            ..ran(script, b"1.a\n")
+        },
         Case {
             status: 1,
             errors: b"line 3: cannot be read\n",

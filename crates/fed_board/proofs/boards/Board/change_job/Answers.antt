@@ -1,10 +1,16 @@
-use Rattle.std.proofs.Common.{◌≡◌, true, sym, subst, ◌∙◌}
+use Rattle.std.proofs.Common.{◌≡◌, true, List, sym, subst, ◌∙◌}
+use Rattle.std.specs.Map.{keys_of}
+use Rattle.fed_stamp.specs.Stamp.{StampValue}
+use Rattle.fed_record.specs.JobRecord.{JobRecordValue}
 use Rattle.fed_stamp.specs.Version.{covers}
 use Rattle.fed_record.specs.Operation.{body_of}
 use Rattle.fed_record.proofs.JobRecordReads.{applied_job_reads}
 use Rattle.fed_record.specs.JobRecordSteps.{changed_record}
 use Rattle.fed_board.specs.Board.{BoardValue, IsBoard, HasNamed}
-use Rattle.fed_board.proofs.BoardKeeps.{changed_job_keeps}
+use Rattle.fed_board.specs.Changes.{AreListed, IsListed, site_at}
+use Rattle.fed_board.specs.Counts.{AreCounts}
+use Rattle.fed_board.proofs.BoardKeeps.{applied_touched, changed_job_keeps}
+use Rattle.fed_board.proofs.ListedJobs.{applied_listed, still_listed}
 use Rattle.fed_board.proofs.BoardReads.{changed_job_same}
 use Rattle.fed_board.proofs.boards.Board.change_job.Goals as goal
 
@@ -21,6 +27,20 @@ invariant_of-self-2 c =
       subst IsBoard (λ i. record { version = version i; jobs = jobs i; reservations = b.reservations }) keeps,
       c.in_ok-change_at.ensures.counted,
       c.self.invariant.2,
+      subst (AreListed c.note_at.new.changes) jobs
+          (applied_listed c.self.inside.changes c.note_at.new.changes c.note_at.ensures.kept c.self.inside.jobs c.self.invariant.3 changed_record (applied_touched changed_record applied_job_reads)
+          at c.args.job op (subst (IsListed (site_at c.note_at.new.changes at.site) c.args.job) c.counter.ensures.same
+          (subst (λ s. IsListed (site_at c.note_at.new.changes s) c.args.job c.counter.result) (c.get-site.ensures.same ∙ c.site.ensures) c.in_ok-note_at.ensures.listed))),
+    )
+
+pub invariant_of-self-in_err-change_at : goal.invariant_of-self-in_err-change_at
+invariant_of-self-in_err-change_at c =
+    let jobs = sym c.in_err-change_at.ensures.unchanged in
+    let counts = sym c.in_err-change_at.ensures.uncounted in (
+      subst IsBoard (λ i. record { version = c.self.inside.version; jobs = jobs i; reservations = c.self.inside.reservations }) c.self.invariant.0,
+      subst (λ ks. AreCounts ks (keys_of c.change_at.new.table)) counts (subst (λ (t : List (StampValue × JobRecordValue)). AreCounts c.self.inside.job_counts (keys_of t)) jobs c.self.invariant.1),
+      c.self.invariant.2,
+      subst (AreListed c.note_at.new.changes) jobs (still_listed c.self.inside.changes c.note_at.new.changes c.note_at.ensures.kept c.self.inside.jobs c.self.invariant.3),
     )
 
 pub returns-clause-changed : goal.returns-clause-changed

@@ -18,4 +18,5 @@ invariant_of-self-2 c =
       subst IsBoard (λ i. record { version = version i; jobs = b.jobs; reservations = reservations i }) keeps,
       c.self.invariant.1,
       c.in_ok-change_at.ensures.counted,
+      c.self.invariant.3,
     )

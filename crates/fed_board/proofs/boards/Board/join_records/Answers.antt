@@ -5,6 +5,9 @@ use Rattle.fed_lattice.specs.Latest.{stamp_cmp}
 use Rattle.fed_record.proofs.JobRecordReads.{joined_jobs_read}
 use Rattle.fed_record.specs.JobRecordSteps.{joined_record}
 use Rattle.fed_board.specs.Board.{BoardValue, IsBoard, reads}
+use Rattle.fed_board.specs.Changes.{AreListed}
+use Rattle.fed_board.proofs.BoardKeeps.{join_touched}
+use Rattle.fed_board.proofs.ListedJobs.{joined_listed}
 use Rattle.fed_board.proofs.CountLaws.{counting_joined}
 use Rattle.fed_board.proofs.RecordJoins.{with_records_keeps, with_records_reads, with_records_same}
 use Rattle.fed_board.proofs.boards.Board.join_records.Goals as goal
@@ -32,6 +35,9 @@ invariant_of-self-2 c =
       subst IsBoard (λ i. record { version = version i; jobs = jobs i; reservations = reservations i }) keeps,
       c.count_more-self-inside.ensures,
       c.count_more-self-inside-2.ensures,
+      subst (AreListed c.note_records.new.changes) jobs
+          (joined_listed c.self.inside.changes c.note_records.new.changes c.note_records.ensures.kept c.self.inside.jobs c.self.invariant.3 joined_record (join_touched joined_record joined_jobs_read)
+          c.other.inside.jobs c.self.inside.version c.other.inside.version c.in_ok-note_records.ensures.listed),
     )
 
 pub returns-clause-value : goal.returns-clause-value

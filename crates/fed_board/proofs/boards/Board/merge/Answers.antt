@@ -6,6 +6,7 @@ use Rattle.fed_board.specs.Board.{BoardValue, IsBoard, reads, no_operation}
 use Rattle.fed_board.specs.ViewSteps.{join_views}
 use Rattle.fed_board.proofs.BoardKeeps.{merged_keeps}
 use Rattle.fed_board.proofs.BoardReads.{merged_reads, merged_same}
+use Rattle.fed_board.proofs.ListedJobs.{listed_after}
 use Rattle.fed_board.proofs.StandingBoards.{stands_merged}
 use Rattle.fed_board.proofs.boards.Board.merge.Goals as goal
 
@@ -16,10 +17,12 @@ invariant_of-self c =
     let keeps = merged_keeps joined_record joined_jobs_read b d c.self.invariant.0 c.other.invariant.0 in
     let version = sym c.join-self-inside.ensures in
     let jobs = sym c.in_ok-jobs.ensures.joined in
-    let reservations = sym c.in_ok-reservations.ensures.joined in (
-      subst IsBoard (λ i. record { version = version i; jobs = jobs i; reservations = reservations i }) keeps,
+    let reservations = sym c.in_ok-reservations.ensures.joined in
+    let whole = subst IsBoard (λ i. record { version = version i; jobs = jobs i; reservations = reservations i }) keeps in (
+      whole,
       c.count_names-self-inside.ensures,
       c.count_names-self-inside-2.ensures,
+      listed_after c.forget_all.new.changes (record { version = c.join-self-inside.result; jobs = c.in_ok-jobs.jobs; reservations = c.in_ok-reservations.reservations }) whole c.forget_all.ensures,
     )
 
 pub returns-clause-value : goal.returns-clause-value

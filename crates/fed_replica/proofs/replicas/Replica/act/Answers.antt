@@ -30,7 +30,7 @@ apply-requires-clause-fresh c =
 
 pub apply-requires-clause-named : goal.apply-requires-clause-named
 apply-requires-clause-named c =
-    named c.self.inside.board c.args.who.now c.args.command.now _ (c.self.inside.site, c.args.who.now, sym c.in_default.ensures) c.in_ok-operation.ensures
+    named c.self.inside.board c.args.who.now c.args.command.now _ (c.self.inside.site, c.args.who.now, sym c.in_default.ensures) c.in_ok-operation.ensures.added
 
 pub returns-in_err-apply-clause-done : goal.returns-in_err-apply-clause-done
 returns-in_err-apply-clause-done c =
@@ -40,5 +40,5 @@ returns-in_err-apply-clause-done c =
 
 pub returns-clause-done : goal.returns-clause-done
 returns-clause-done c =
-    rw (← c.self.view_is) (added_done _ _ c.args.who.now _ (sym c.in_default.ensures) c.in_ok-at.at _ _ _ c.in_ok-operation.ensures
+    rw (← c.self.view_is) (added_done _ _ c.args.who.now _ (sym c.in_default.ensures) c.in_ok-at.at _ _ _ c.in_ok-operation.ensures.added
     (next_from _ _ _ _ _ c.version.ensures.value c.next.ensures c.in_ok-at.was) c.reply_with.ensures c.in_ok-apply.ensures.added)

@@ -1,8 +1,14 @@
--- Laws that tie what is read to the value that stands for it.
-use Rattle.std.specs.Prelude.{◌≡◌, Ok}
+-- What ties a reader to the value that stands for what it reads.
+use Rattle.std.specs.Prelude.{◌≡◌, [], ◌∷◌, Some, Ok}
 use Rattle.serde_json.specs.Data.{Data}
+use Rattle.serde_json.specs.Find.{get}
 use Rattle.fed_json.specs.Reading.{Reading}
-use Rattle.fed_json.specs.Objects.{Named, HasMembers}
+use Rattle.fed_json.specs.Objects.{Named}
+
+-- the value is an object that has these members, and perhaps others
+abbrev pub HasMembers : Named → Data → Type 0
+HasMembers [] d = Unit {0}
+HasMembers (m ∷ ms) d = (get m.0 d ≡ Some m.1) × HasMembers ms d
 
 -- just the values of what is in range are read, and each is read as what it is the value of
 pub record IsForm {A : Type 0} (read : Data → Reading A) (value : A → Data) (InRange : A → Type 0) : Type 0 where
