@@ -1,11 +1,15 @@
 -- Pairs whose tags a version covers, after a change and in a join.
 use Rattle.std.specs.Cmp.{IsTotalOrder}
-use Rattle.std.proofs.Common.{◌≡◌, ◌⊎◌, ℕ, ◌≤◌, max, List, Bool, true, false, not, ◌&&◌, ◌||◌, Ordering, refl, sym, ap, subst, ◌∙◌, inl, inr, arith}
+use Rattle.std.proofs.Common.{◌≡◌, ◌⊎◌, ℕ, ◌+◌, ◌≤◌, ◌<◌, max, List, [], ◌∷◌, ◌++◌, length, take, get_or, Bool, true, false, not, ◌&&◌, ◌||◌, Ordering, refl, sym, ap, subst, ◌∙◌, inl, inr, arith}
 use Rattle.std.proofs.lemmas.Bool.{cases_Bool, leb-true, le-leb}
 use Rattle.std.proofs.lemmas.Map.Lookups.{CmpEqualImpliesEq}
+use Rattle.std.proofs.lemmas.List.{take_more}
 use Rattle.fed_stamp.specs.Stamp.{StampValue}
 use Rattle.fed_stamp.specs.Version.{covers, counter_of, joined, raised}
 use Rattle.fed_stamp.proofs.VersionLaws.{covers-joined}
+use Rattle.fed_lattice.specs.Sets.{Has}
+use Rattle.fed_lattice.specs.SetLaws.{Has-push}
+use Rattle.fed_lattice.proofs.EntryLoops.{Has-item}
 use Rattle.fed_lattice.proofs.VersionOfLaws.{raised_cases}
 use Rattle.fed_tags.specs.Tags.{has, stamped, applied_tags, joined_tags, stays}
 use Rattle.fed_tags.specs.TagLaws.{has_member, member, has_joined, has_applied, stamped_at}
@@ -51,4 +55,15 @@ module _ {T : Type 0} (R : T × StampValue → T × StampValue → Ordering) (o 
   covered_applied v s xs c own p k h = elim (old_or_new (has R (stamped s c.0) k) (has R xs k) (has R c.1 k) (sym (has_applied R o exact k xs s c) ∙ has_member R o exact k _ h)) [
     | inl l ↦ subst (IsCoveredStamp (raised v s)) (sym (stamped_at R o exact s c.0 k (member R o exact k _ l)).1) own
     | inr r ↦ covered_raised v s k.1 (p k (member R o exact k xs r))
+  ]
+
+-- ---- pairs one after another
+module _ {T : Type 0} (v : List ℕ) (xs : List (T × StampValue)) (i : ℕ) (x : T × StampValue) (l : i < length xs) (e : x ≡ get_or xs i x) where
+  pub covered_item : AreCovered v xs → IsCoveredStamp v x.1
+  covered_item all = all x (Has-item xs i x l e)
+
+  pub covered_more : AreCovered v (take i xs) → IsCoveredStamp v x.1 → AreCovered v (take (i + 1) xs)
+  covered_more before this p h = elim (Has-push (take i xs) x p (subst (λ ys. Has ys p) (take_more xs i x l ∙ ap (λ (y : T × StampValue). take i xs ++ y ∷ []) (sym e)) h)) [
+    | inl k ↦ before p k
+    | inr j ↦ subst (λ (q : T × StampValue). IsCoveredStamp v q.1) j this
   ]

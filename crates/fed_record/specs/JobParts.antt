@@ -1,7 +1,19 @@
--- That a record reads as the parts that it is made of.
+-- Parts of records, and that a record reads as the parts that it is made of.
 use Rattle.std.specs.Prelude.{◌≡◌, Some}
+use Rattle.std.specs.List.Sorted.{IsStrictlySortedBy}
+use Rattle.std.specs.Ordering.{nat_cmp}
+use Rattle.fed_tags.specs.Tags.{pair_cmp}
 use Rattle.fed_record.specs.declared.job_parts.JobParts.{JobParts}
+use Rattle.fed_record.specs.Hold.{kind_cmp}
+use Rattle.fed_record.specs.Record.{AreCovered}
 use Rattle.fed_record.specs.JobRecord.{JobRecordValue, reads}
+
+-- a record can be made of the parts: the pairs strictly ascend, and the version of the job's operations covers them
+pub record AreRecordParts (parts : JobParts) : Type 0 where
+  pub holds_ascend : IsStrictlySortedBy (pair_cmp kind_cmp) parts.hold_tags.now
+  pub sites_ascend : IsStrictlySortedBy (pair_cmp nat_cmp) parts.site_tags.now
+  pub holds_covered : AreCovered parts.touched parts.hold_tags.now
+  pub sites_covered : AreCovered parts.touched parts.site_tags.now
 
 pub record IsMadeOf (r : JobRecordValue) (parts : JobParts) : Type 0 where
   pub owner : (reads r).owner ≡ Some parts.owner

@@ -1,11 +1,11 @@
 //! Records of jobs made of what they read as.
-ghost use Rattle.std.specs.Prelude.{◌≡◌, Some, IfOk, IsTrue};
+ghost use Rattle.std.specs.Prelude.{◌≡◌, ◌↔◌, Some, IfOk, IsTrue};
 ghost use Rattle.std.specs.List.Sorted.{IsStrictlySortedBy};
 ghost use Rattle.std.specs.Ordering.{nat_cmp};
 ghost use Rattle.fed_tags.specs.Tags.{pair_cmp};
 ghost use Rattle.fed_record.specs.Hold.{kind_cmp};
 ghost use Rattle.fed_record.specs.Record.{AreCovered};
-ghost use Rattle.fed_record.specs.JobParts.{IsMadeOf};
+ghost use Rattle.fed_record.specs.JobParts.{IsMadeOf, AreRecordParts};
 ghost use Rattle.fed_record.specs.JobRecord.{reads};
 ghost use Rattle.fed_record.specs.Letter.{is_submitted};
 
@@ -53,6 +53,34 @@ pub struct JobParts<'a> {
     pub progress: Progress,
     /// For each site the greatest counter among the stamps of the job's operations. It covers every tag.
     pub touched: Version,
+}
+
+// Whether the version covers the stamp of each pair.
+fn covers_pairs<T: Copy>(version: &Version, pairs: &[(T, Stamp)]) -> bool
+    ensures { IsTrue result ↔ AreCovered version.now pairs.now }
+{
+    for pair in pairs {
+        let stamp = pair.1;
+        // it is read, which tells that it is one of the 16 sites
+        let _site = stamp.site().get();
+        if !version.covers(stamp) {
+            return false;
+        }
+    }
+    true
+}
+
+impl JobParts<'_> {
+    /// Whether a record can be made of the parts, as `JobRecord::from_parts` asks: the pairs of `hold_tags` and of
+    /// `site_tags` strictly ascend, and `touched` covers the stamp of each pair.
+    pub fn are_record_parts(&self) -> bool
+        ensures { IsTrue result ↔ AreRecordParts self.now }
+    {
+        TagSet::is_ascending(self.hold_tags)
+            && TagSet::is_ascending(self.site_tags)
+            && covers_pairs(&self.touched, self.hold_tags)
+            && covers_pairs(&self.touched, self.site_tags)
+    }
 }
 
 // The registers of a job.
