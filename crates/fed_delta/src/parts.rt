@@ -1,0 +1,111 @@
+//! Whether records may be those of a delta.
+ghost use Rattle.std.specs.Prelude.{◌≡◌, ◌↔◌, IsTrue};
+ghost use Rattle.fed_lattice.specs.Latest.{stamp_cmp};
+ghost use Rattle.fed_lattice.specs.Table.{IsAtEach};
+ghost use Rattle.fed_record.specs.JobRecord.{reads};
+ghost use Rattle.fed_record.specs.Letter.{is_submitted};
+ghost use Rattle.fed_board.specs.Board.{IsBoard, IsKnownJob, IsKnownReservation};
+ghost use Rattle.fed_delta.specs.Parts.{covers_fields as are_fields_covered, covers_stages as are_stages_covered};
+
+use fed_lattice::Table;
+use fed_record::{JobRecord, Reservation};
+use fed_stamp::{JobId, Stamp, Version};
+
+/// Whether the version covers the stamp of each field.
+fn covers_fields(version: &Version, job: &JobRecord) -> bool
+    requires { IsTrue (is_submitted (reads job.now)) }
+    ensures { result ≡ are_fields_covered version.now (reads job.now) }
+{
+    version.covers(job.owner().0)
+        && version.covers(job.name().0)
+        && version.covers(job.priority().0)
+        && version.covers(job.nodes().0)
+        && version.covers(job.limit().0)
+        && version.covers(job.account().0)
+}
+
+/// Whether the version covers the stamps of the grant, the Begin and the Finish.
+fn covers_stages(version: &Version, job: &JobRecord) -> bool
+    ensures { result ≡ are_stages_covered version.now (reads job.now) }
+{
+    let progress = job.progress();
+    let grant = match job.grant() {
+        Some(grant) => version.covers(grant.stamp()),
+        None => true,
+    };
+    let begun = match progress.begun {
+        Some((stamp, _)) => version.covers(stamp),
+        None => true,
+    };
+    let finished = match progress.finished {
+        Some((stamp, _)) => version.covers(stamp),
+        None => true,
+    };
+    grant && begun && finished
+}
+
+/// Whether a board of the version may have the job with this name.
+fn is_known_job(version: &Version, name: JobId, job: &JobRecord) -> bool
+    ensures { IsTrue result ↔ IsKnownJob version.now name job.now }
+{
+    // these are read for what they ensure: the name is of one of the 16 sites, the version has a counter for each, and
+    // what was touched covers each pair
+    let _site = name.site().get();
+    let touched = job.touched();
+    let _counters = touched.counters();
+    let _holds = job.hold_tags();
+    let _sites = job.site_tags();
+    if !version.covers(name) || !touched.le(version) {
+        return false;
+    }
+    if !job.is_submitted() || !covers_fields(&touched, job) {
+        return false;
+    }
+    covers_stages(&touched, job)
+}
+
+/// Whether a board of the version may have the reservation with this name.
+fn is_known_reservation(version: &Version, name: Stamp, reservation: &Reservation) -> bool
+    ensures { IsTrue result ↔ IsKnownReservation version.now name reservation.now }
+{
+    let _site = name.site().get();
+    version.covers(name) && reservation.is_made() && version.covers(reservation.stamp())
+}
+
+/// Whether a board of the version may have these jobs.
+fn are_known_jobs(version: &Version, jobs: &Table<JobId, JobRecord>) -> bool
+    ensures { IsTrue result ↔ IsAtEach stamp_cmp (IsKnownJob version.now) jobs.now }
+{
+    for (name, job) in jobs.iter() {
+        if !is_known_job(version, *name, job) {
+            return false;
+        }
+    }
+    true
+}
+
+/// Whether a board of the version may have these reservations.
+fn are_known_reservations(version: &Version, reservations: &Table<Stamp, Reservation>) -> bool
+    ensures { IsTrue result ↔ IsAtEach stamp_cmp (IsKnownReservation version.now) reservations.now }
+{
+    for (name, reservation) in reservations.iter() {
+        if !is_known_reservation(version, *name, reservation) {
+            return false;
+        }
+    }
+    true
+}
+
+/// Whether these may be what a delta reaches and tells, as `Delta::from_parts` asks: each job is submitted, its name and
+/// its operations are covered by the version, and each stamp that is read of it is covered by that of its operations; each
+/// reservation is made, and its name and its stamp are covered by the version. It takes no memory.
+pub fn are_parts(
+    reached: &Version,
+    jobs: &Table<JobId, JobRecord>,
+    reservations: &Table<Stamp, Reservation>,
+) -> bool
+    ensures { IsTrue result ↔
+        IsBoard (record { version = reached.now; jobs = jobs.now; reservations = reservations.now }) }
+{
+    are_known_jobs(reached, jobs) && are_known_reservations(reached, reservations)
+}
