@@ -5,8 +5,7 @@ use Rattle.std.specs.List.{AllByRecursion, filter_map}
 use Rattle.std.specs.List.Sorted.{IsStrictlySortedBy}
 use Rattle.std.specs.Map.{keys_of, lookup}
 use Rattle.std.specs.Ordering.{is_eq}
-use Rattle.std.specs.Prelude.{min}
-use Rattle.std.proofs.Common.{◌≡◌, ℕ, List, [], ◌∷◌, ◌++◌, Bool, true, false, Option, Some, None, unwrap_or, refl, sym, ap, subst, ◌∙◌, ◌+◌, inl, inr, append-nil}
+use Rattle.std.proofs.Common.{◌≡◌, ℕ, List, [], ◌∷◌, ◌++◌, Bool, true, false, Option, Some, None, unwrap_or, refl, sym, ap, subst, ◌∙◌, inl, inr, append-nil}
 use Rattle.std.proofs.lemmas.Cmp.{tied_itself}
 use Rattle.std.proofs.lemmas.Map.Views.{tells_apart}
 use Rattle.fed_stamp.specs.Stamp.{StampValue}
@@ -23,7 +22,6 @@ use Rattle.fed_easy.specs.declared.machines.Running.{Running}
 use Rattle.fed_easy.specs.Machine.{running_in, running_of}
 use Rattle.fed_easy.specs.Queue.{queued, waiting_in}
 use Rattle.fed_easy.specs.SitePlan.{booked_at, reserved_in}
-use Rattle.fed_easy.specs.Use.{use_at}
 
 -- ---- entries in the order of their names
 all_has : {A : Type 0} (P : A → Type 0) (xs : List A) (x : A) → AllByRecursion P xs → Has xs x → P x
@@ -99,14 +97,8 @@ reserved_read site b sorted names =
     ∙ names_read (λ name. booked_at site ((reads b).reservation name)) (λ e. booked_at site e.1) b.reservations
     (λ e h. ap (λ (o : Option ReservationView). booked_at site (unwrap_or o None)) (entry_found b.reservations e sorted h))
 
-pub reserved_told : (site : ℕ) (b : BoardValue) → IsStrictlySortedBy stamp_cmp (keys_of b.reservations) → keys_of b.reservations ≡ reservations_in (reads b) → (n used c u : ℕ)
-    → min n c ≡ min (used + use_at (read_reserved site b.reservations) u) c → min n c ≡ min (used + use_at (reserved_in site (reads b)) u) c
-reserved_told site b sorted names n used c u e = subst (λ (bs : List Booking). min n c ≡ min (used + use_at bs u) c) (sym (reserved_read site b sorted names)) e
-
-pub reserved_taken : (site : ℕ) (es : List (StampValue × ReservationView)) (e : StampValue × ReservationView) (rest : List (StampValue × ReservationView)) (b : Booking) → es ≡ e ∷ rest → booked_at site e.1 ≡ Some b
-    → read_reserved site es ≡ b ∷ read_reserved site rest
-reserved_taken site es e rest b same booked = rw (same, booked) refl
-
-pub reserved_passed : (site : ℕ) (es : List (StampValue × ReservationView)) (e : StampValue × ReservationView) (rest : List (StampValue × ReservationView)) → es ≡ e ∷ rest → booked_at site e.1 ≡ None
-    → read_reserved site es ≡ read_reserved site rest
-reserved_passed site es e rest same booked = rw (same, booked) refl
+pub reserved_done : (site : ℕ) (b : BoardValue) → IsStrictlySortedBy stamp_cmp (keys_of b.reservations) → keys_of b.reservations ≡ reservations_in (reads b) → (old xs : List Booking) (rest : List (StampValue × ReservationView))
+    → xs ++ read_reserved site rest ≡ old ++ read_reserved site b.reservations → rest ≡ [] → xs ≡ old ++ reserved_in site (reads b)
+reserved_done site b sorted names old xs rest same none =
+    let whole : xs ++ [] ≡ old ++ read_reserved site b.reservations = rw none at same in
+    sym (append-nil xs) ∙ whole ∙ ap (λ (bs : List Booking). old ++ bs) (sym (reserved_read site b sorted names))

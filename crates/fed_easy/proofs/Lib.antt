@@ -12,8 +12,8 @@ pub mod BoardEntries
 pub mod BadEntries
 pub mod Gathered
 pub mod QueueMembers
-pub mod Booked
-pub mod Ends
+pub mod EventSums
+pub mod Sweep
 pub mod NoDelay
 pub mod Within
 pub mod PlanFacts
