@@ -62,16 +62,6 @@ module _ (capacity now : ℕ) where
     pub ends : last_level nodes ss ≡ 0
     pub first : first_step ss ≡ first_second es
 
-  pub swept_none : IsSwept [] 0 0 0 []
-  swept_none = record {
-    tells = λ u from. omega arith;
-    closed_is = λ u b. refl;
-    opened_is = λ u b. refl;
-    after = tt;
-    ends = refl;
-    first = refl;
-  }
-
   -- one event more, in front of the others
   module _ (e : Event) (es : List Event) (closed opened nodes : ℕ) (ss : List Step) (s : IsSwept es closed opened nodes ss) (order : (u : ℕ) → u < e.second → IsBefore u es) where
     closed_more : (u : ℕ) → u < e.second → closed_after u (e ∷ es) ≡ closed + e.closed
