@@ -1,12 +1,11 @@
 -- What is read of the entries of a board, and of their names.
 use Rattle.std.specs.declared.cmp.Ordering.TheVariants.{Less}
 use Rattle.std.specs.BTreeMap.{is_at}
-use Rattle.std.specs.List.{AllByRecursion, filter_map}
+use Rattle.std.specs.List.{filter_map}
 use Rattle.std.specs.List.Sorted.{IsStrictlySortedBy}
 use Rattle.std.specs.Map.{keys_of, lookup}
 use Rattle.std.specs.Ordering.{is_eq}
-use Rattle.std.specs.Prelude.{min}
-use Rattle.std.proofs.Common.{◌≡◌, ℕ, List, [], ◌∷◌, ◌++◌, Bool, true, false, Option, Some, None, unwrap_or, refl, sym, ap, subst, ◌∙◌, ◌+◌, inl, inr, append-nil}
+use Rattle.std.proofs.Common.{◌≡◌, ℕ, List, [], ◌∷◌, ◌++◌, Bool, true, false, Option, Some, None, unwrap_or, refl, sym, ap, subst, ◌∙◌, inl, inr, append-nil, append_assoc}
 use Rattle.std.proofs.lemmas.Cmp.{tied_itself}
 use Rattle.std.proofs.lemmas.Map.Views.{tells_apart}
 use Rattle.fed_stamp.specs.Stamp.{StampValue}
@@ -20,17 +19,13 @@ use Rattle.fed_board.specs.Board.{BoardValue, no_operation, reads}
 use Rattle.fed_board.specs.Names.{jobs_in, reservations_in}
 use Rattle.fed_easy.specs.declared.bookings.Booking.{Booking}
 use Rattle.fed_easy.specs.declared.machines.Running.{Running}
+use Rattle.fed_easy.specs.declared.queues.QueuedJob.{QueuedJob}
 use Rattle.fed_easy.specs.Machine.{running_in, running_of}
 use Rattle.fed_easy.specs.Queue.{queued, waiting_in}
 use Rattle.fed_easy.specs.SitePlan.{booked_at, reserved_in}
-use Rattle.fed_easy.specs.Use.{use_at}
+use Rattle.fed_easy.proofs.Ordered.{all_has}
 
 -- ---- entries in the order of their names
-all_has : {A : Type 0} (P : A → Type 0) (xs : List A) (x : A) → AllByRecursion P xs → Has xs x → P x
-all_has P [] x all h = elim h [ ]
-all_has P (y ∷ xs) x all (inl e) = subst P e all.0
-all_has P (y ∷ xs) x all (inr h) = all_has P xs x all.1 h
-
 pub key_has : {X : Type 0} (es : List (StampValue × X)) (e : StampValue × X) → Has es e → Has (keys_of es) e.0
 key_has [] e h = elim h [ ]
 key_has (x ∷ es) e (inl same) = inl (ap (λ x. x.0) same)
@@ -65,9 +60,12 @@ names_read f g (e ∷ es) h =
     let rest = names_read f g es (λ x k. h x (inr k)) in
     rw (first, rest) refl
 
--- ---- running jobs
+-- ---- running jobs, and jobs that wait
 abbrev pub entry_running : ℕ → StampValue × JobRecordValue → Option Running
 entry_running site e = running_of site (reads_job e.1)
+
+abbrev pub entry_waiting : ℕ → ℕ → StampValue × JobRecordValue → Option QueuedJob
+entry_waiting site capacity e = queued site capacity e.0 (reads_job e.1)
 
 module _ (b : BoardValue) (sorted : IsStrictlySortedBy stamp_cmp (keys_of b.jobs)) (names : keys_of b.jobs ≡ jobs_in (reads b)) where
   entry_read : (e : StampValue × JobRecordValue) → Has b.jobs e → (reads b).job e.0 ≡ reads_job e.1
@@ -84,10 +82,25 @@ module _ (b : BoardValue) (sorted : IsStrictlySortedBy stamp_cmp (keys_of b.jobs
       let whole : xs ++ [] ≡ filter_map (entry_running site) b.jobs = rw none at same in
       sym (append-nil xs) ∙ whole ∙ sym (running_read site)
 
-  pub waiting_read : (site capacity : ℕ) → waiting_in site capacity (reads b) ≡ filter_map (λ e. queued site capacity e.0 (reads_job e.1)) b.jobs
+  waiting_read : (site capacity : ℕ) → waiting_in site capacity (reads b) ≡ filter_map (entry_waiting site capacity) b.jobs
   waiting_read site capacity =
       ap (filter_map (λ job. queued site capacity job ((reads b).job job))) (sym names)
-      ∙ names_read (λ job. queued site capacity job ((reads b).job job)) (λ e. queued site capacity e.0 (reads_job e.1)) b.jobs (λ e h. ap (queued site capacity e.0) (entry_read e h))
+      ∙ names_read (λ job. queued site capacity job ((reads b).job job)) (entry_waiting site capacity) b.jobs (λ e h. ap (queued site capacity e.0) (entry_read e h))
+
+  pub waiting_done : (site capacity : ℕ) (xs : List QueuedJob) → xs ≡ filter_map (entry_waiting site capacity) b.jobs → xs ≡ waiting_in site capacity (reads b)
+  waiting_done site capacity xs same = same ∙ sym (waiting_read site capacity)
+
+-- a job that waits goes from what is left to the list
+pub waiting_more : (site capacity : ℕ) (xs new : List QueuedJob) (es : List (StampValue × JobRecordValue)) (e : StampValue × JobRecordValue) (rest : List (StampValue × JobRecordValue)) (j : QueuedJob) (whole : List QueuedJob)
+    → es ≡ e ∷ rest → entry_waiting site capacity e ≡ Some j → new ≡ xs ++ j ∷ [] → xs ++ filter_map (entry_waiting site capacity) es ≡ whole → new ++ filter_map (entry_waiting site capacity) rest ≡ whole
+waiting_more site capacity xs new es e rest j whole left waits pushed so_far =
+    let step : filter_map (entry_waiting site capacity) es ≡ j ∷ filter_map (entry_waiting site capacity) rest = rw (left, waits) refl in
+    rw (pushed, append_assoc) (rw step at so_far)
+
+pub none_left : (site capacity : ℕ) (xs : List QueuedJob) (rest : List (StampValue × JobRecordValue)) (whole : List QueuedJob) → xs ++ filter_map (entry_waiting site capacity) rest ≡ whole → rest ≡ [] → xs ≡ whole
+none_left site capacity xs rest whole same none =
+    let all : xs ++ [] ≡ whole = rw none at same in
+    sym (append-nil xs) ∙ all
 
 -- ---- reservations
 abbrev pub read_reserved : ℕ → List (StampValue × ReservationView) → List Booking
@@ -99,14 +112,8 @@ reserved_read site b sorted names =
     ∙ names_read (λ name. booked_at site ((reads b).reservation name)) (λ e. booked_at site e.1) b.reservations
     (λ e h. ap (λ (o : Option ReservationView). booked_at site (unwrap_or o None)) (entry_found b.reservations e sorted h))
 
-pub reserved_told : (site : ℕ) (b : BoardValue) → IsStrictlySortedBy stamp_cmp (keys_of b.reservations) → keys_of b.reservations ≡ reservations_in (reads b) → (n used c u : ℕ)
-    → min n c ≡ min (used + use_at (read_reserved site b.reservations) u) c → min n c ≡ min (used + use_at (reserved_in site (reads b)) u) c
-reserved_told site b sorted names n used c u e = subst (λ (bs : List Booking). min n c ≡ min (used + use_at bs u) c) (sym (reserved_read site b sorted names)) e
-
-pub reserved_taken : (site : ℕ) (es : List (StampValue × ReservationView)) (e : StampValue × ReservationView) (rest : List (StampValue × ReservationView)) (b : Booking) → es ≡ e ∷ rest → booked_at site e.1 ≡ Some b
-    → read_reserved site es ≡ b ∷ read_reserved site rest
-reserved_taken site es e rest b same booked = rw (same, booked) refl
-
-pub reserved_passed : (site : ℕ) (es : List (StampValue × ReservationView)) (e : StampValue × ReservationView) (rest : List (StampValue × ReservationView)) → es ≡ e ∷ rest → booked_at site e.1 ≡ None
-    → read_reserved site es ≡ read_reserved site rest
-reserved_passed site es e rest same booked = rw (same, booked) refl
+pub reserved_done : (site : ℕ) (b : BoardValue) → IsStrictlySortedBy stamp_cmp (keys_of b.reservations) → keys_of b.reservations ≡ reservations_in (reads b) → (old xs : List Booking) (rest : List (StampValue × ReservationView))
+    → xs ++ read_reserved site rest ≡ old ++ read_reserved site b.reservations → rest ≡ [] → xs ≡ old ++ reserved_in site (reads b)
+reserved_done site b sorted names old xs rest same none =
+    let whole : xs ++ [] ≡ old ++ read_reserved site b.reservations = rw none at same in
+    sym (append-nil xs) ∙ whole ∙ ap (λ (bs : List Booking). old ++ bs) (sym (reserved_read site b sorted names))

@@ -8,12 +8,13 @@ pub mod Fits
 pub mod FirstFit
 pub mod Started
 pub mod Fronts
+pub mod Ordered
 pub mod BoardEntries
 pub mod BadEntries
-pub mod Gathered
 pub mod QueueMembers
-pub mod Booked
-pub mod Ends
+pub mod InOrder
+pub mod EventSums
+pub mod Sweep
 pub mod NoDelay
 pub mod Within
 pub mod PlanFacts

@@ -21,7 +21,7 @@ use Rattle.fed_easy.specs.Queue.{in_order, is_waiting, queue_in, queued, queued_
 use Rattle.fed_easy.specs.QueueLaws.{queue_total, exact_queue}
 use Rattle.fed_easy.specs.QueueOrder.{queue_cmp}
 
-has_job : (ks : List QueuedJob) (j : QueuedJob) → Has ks j ↔ (list_any (eq_by_cmp queue_cmp j) ks ≡ true)
+pub has_job : (ks : List QueuedJob) (j : QueuedJob) → Has ks j ↔ (list_any (eq_by_cmp queue_cmp j) ks ≡ true)
 has_job ks j = (
   λ h. any_from (eq_by_cmp queue_cmp j) ks j h (ap is_eq (tied_itself queue_total j)),
   λ e. let f = found (eq_by_cmp queue_cmp j) ks e in subst (Has ks) (sym (tells_apart exact_queue j f.0 f.2)) f.1,
@@ -47,11 +47,11 @@ more_adds ks j =
     more_has ks j j (has_insert_key queue_cmp queue_total exact_queue j j ks ∙ or_left (is_eq (queue_cmp j j)) (list_any (eq_by_cmp queue_cmp j) ks) (ap is_eq (tied_itself queue_total j)))
 
 -- ---- all jobs
-order_sorted : (ks js : List QueuedJob) → IsStrictlySortedBy queue_cmp ks → IsStrictlySortedBy queue_cmp (in_order ks js)
+pub order_sorted : (ks js : List QueuedJob) → IsStrictlySortedBy queue_cmp ks → IsStrictlySortedBy queue_cmp (in_order ks js)
 order_sorted ks [] s = s
 order_sorted ks (j ∷ js) s = order_sorted (insert_key queue_cmp ks j) js (sorted_insert_key queue_cmp queue_total ks j s)
 
-order_from : (ks js : List QueuedJob) (q : QueuedJob) → Has (in_order ks js) q → Has ks q ⊎ Has js q
+pub order_from : (ks js : List QueuedJob) (q : QueuedJob) → Has (in_order ks js) q → Has ks q ⊎ Has js q
 order_from ks [] q h = inl h
 order_from ks (j ∷ js) q h =
     elim (order_from (insert_key queue_cmp ks j) js q h) [
@@ -63,7 +63,7 @@ order_keeps : (ks js : List QueuedJob) (q : QueuedJob) → Has ks q → Has (in_
 order_keeps ks [] q h = h
 order_keeps ks (j ∷ js) q h = order_keeps (insert_key queue_cmp ks j) js q (more_keeps ks j q h)
 
-order_adds : (ks js : List QueuedJob) (q : QueuedJob) → Has js q → Has (in_order ks js) q
+pub order_adds : (ks js : List QueuedJob) (q : QueuedJob) → Has js q → Has (in_order ks js) q
 order_adds ks [] q h = absurd h
 order_adds ks (j ∷ js) q (inl same) = order_keeps (insert_key queue_cmp ks j) js q (subst (Has (insert_key queue_cmp ks j)) same (more_adds ks j))
 order_adds ks (j ∷ js) q (inr h) = order_adds (insert_key queue_cmp ks j) js q h
@@ -83,7 +83,7 @@ module _ {X Y : Type 0} (f : X → Option Y) where
   cons_adds None ys y e = absurd cc
   cons_adds (Some z) ys y e = inl (let same : z ≡ y = cc in same)
 
-  kept_from : (xs : List X) (y : Y) → Has (filter_map f xs) y → (x : X) × Has xs x × (f x ≡ Some y)
+  pub kept_from : (xs : List X) (y : Y) → Has (filter_map f xs) y → (x : X) × Has xs x × (f x ≡ Some y)
   kept_from [] y h = absurd h
   kept_from (x ∷ xs) y h = elim (cons_from (f x) (filter_map f xs) y h) [
     | inl here ↦ (x, inl refl, here)
@@ -106,7 +106,7 @@ with_id capacity id granted None n l q e = absurd cc
 with_id capacity id granted (Some p) None l q e = absurd cc
 with_id capacity id granted (Some p) (Some n) None q e = absurd cc
 
-queued_id : (site capacity : ℕ) (id : StampValue) (j : JobView) (q : QueuedJob) → queued site capacity id j ≡ Some q → id ≡ q.id
+pub queued_id : (site capacity : ℕ) (id : StampValue) (j : JobView) (q : QueuedJob) → queued site capacity id j ≡ Some q → id ≡ q.id
 queued_id site capacity id j q e = go (is_waiting site j) e
   where
     go : (t : Bool) → cond t (queued_with capacity id (is_granted_to j site) j.priority j.nodes j.limit) None ≡ Some q → id ≡ q.id

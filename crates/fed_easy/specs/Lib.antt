@@ -6,6 +6,7 @@ pub mod QueueLaws
 pub mod Queue
 pub mod Plan
 pub mod Machine
+pub mod Events
 pub mod SitePlan
 pub mod Extra
 pub mod Promises

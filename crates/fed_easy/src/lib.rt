@@ -3,8 +3,8 @@
 
 /// Times at which nodes are in use.
 mod bookings;
-/// Profiles of what is in use beside running entries.
-mod entries;
+/// The seconds at which the use of a machine changes.
+mod events;
 /// Laws of queues and of shadows.
 pub mod laws;
 /// The machine of a site.
@@ -19,6 +19,8 @@ mod profiles;
 mod queues;
 /// What plans tell.
 pub mod starts;
+/// Profiles of bookings.
+mod sweeps;
 
 pub use machines::{MAX_RUNNING, Machine, MachineFault, Running, machine_of};
 pub use plans::{PlanFault, plan};

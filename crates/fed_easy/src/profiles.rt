@@ -3,7 +3,6 @@ ghost use Rattle.std.specs.Prelude.{◌≡◌, ◌↔◌, ℕ, ◌+◌, ◌≤�
 ghost use Rattle.fed_easy.specs.Profile.{IsAfter, IsProfile, is_step, level_at, nodes_in, raised};
 ghost use Rattle.fed_easy.specs.Use.{is_during, HasRoom, IsLeastRoom};
 
-use crate::bookings::Booking;
 use fed_lattice::NoMemory;
 use std::alloc::Global;
 
@@ -81,8 +80,8 @@ fn split_both(
     split(steps, nodes, until)
 }
 
-/// So many nodes more, where what is beyond the capacity counts as one node beyond it.
-pub(crate) fn counted(nodes: u64, more: u64, capacity: u64) -> u64
+// So many nodes more, where what is beyond the capacity counts as one node beyond it.
+fn counted(nodes: u64, more: u64, capacity: u64) -> u64
     requires { capacity < 2 ^ 63 }
     ensures { result ≡ min (nodes + more) (suc capacity) }
 {
@@ -188,22 +187,5 @@ impl Profile {
         raise(&mut self.steps, from, until, nodes, self.capacity);
         self.nodes = raised_step(first, from, until, nodes, self.capacity).nodes;
         Ok(())
-    }
-
-    /// Adds the nodes of a booking, so far as it isn't over.
-    pub(crate) fn book(&mut self, booking: Booking) -> Result<(), NoMemory>
-        requires { IsProfile self.old }
-        ensures profile { OnOk result (IsProfile self.new) }
-        ensures nodes { OnOk result ((u : ℕ) → self.old.start ≤ u →
-            nodes_in self.new u ≡ (if is_during booking.from booking.until u
-            then min (nodes_in self.old u + booking.nodes) (suc self.old.capacity) else nodes_in self.old u)) }
-        ensures start { OnOk result (self.new.start ≡ self.old.start) }
-        ensures capacity { OnOk result (self.new.capacity ≡ self.old.capacity) }
-    {
-        let from = booking.from.max(self.start);
-        if booking.until <= from {
-            return Ok(());
-        }
-        self.add(from, booking.until, booking.nodes)
     }
 }

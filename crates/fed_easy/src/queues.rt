@@ -1,12 +1,13 @@
 //! The jobs that wait at a site.
 ghost use Rattle.std.specs.Prelude.{◌≡◌, ◌&&◌, ◌||◌, All, IfOk, IfSome, IsTrue, Some, not, refl};
 ghost use Rattle.std.specs.Cmp.{partial_equiv_from_equiv, eq_by_cmp_equiv, po};
+ghost use Rattle.std.specs.List.{IsDistinct};
 ghost use Rattle.std.specs.Ordering.{eq_by_cmp};
 ghost use Rattle.fed_record.specs.JobRecord.{reads as reads_job};
 ghost use Rattle.fed_record.specs.Letter.{is_granted, is_granted_to};
 ghost use Rattle.fed_board.specs.Board.{reads};
 ghost use Rattle.fed_easy.specs.Promises.{IsSized};
-ghost use Rattle.fed_easy.specs.Queue.{is_waiting as is_job_waiting, queue_in, queued as job_queued};
+ghost use Rattle.fed_easy.specs.Queue.{is_waiting as is_job_waiting, queue_in, queued as job_queued, waiting_in};
 ghost use Rattle.fed_easy.specs.QueueLaws.{queue_total};
 ghost use Rattle.fed_easy.specs.QueueOrder.{queue_cmp};
 
@@ -16,7 +17,6 @@ use fed_record::{JobRecord, Limit, Nodes, Priority};
 use fed_stamp::{JobId, SiteId};
 use std::alloc::Global;
 use std::cmp::Ordering;
-use std::collections::BTreeSet;
 
 /// A job that waits to start, with what its place in the queue and its time depend on.
 ///
@@ -123,20 +123,21 @@ fn queued(id: JobId, held: &JobRecord, site: SiteId, capacity: u64) -> Option<Qu
     })
 }
 
-// The jobs that wait at the site.
+// The jobs that wait at the site, in the order of their stamps.
 fn waiting_jobs(
     alloc: Global,
     board: &Board,
     site: SiteId,
     capacity: u64,
-) -> Result<BTreeSet<QueuedJob>, NoMemory>
-    ensures queue { IfOk result (λ waiting. waiting.keys ≡ queue_in site capacity (reads board.now)) }
-    ensures sized { IfOk result (λ waiting. All (IsSized capacity) waiting.keys) }
+) -> Result<Vec<QueuedJob>, NoMemory>
+    ensures waiting { IfOk result (λ waiting. waiting.items ≡ waiting_in site capacity (reads board.now)) }
+    ensures distinct { IfOk result (λ waiting. IsDistinct (eq_by_cmp queue_cmp) waiting.items) }
+    ensures sized { IfOk result (λ waiting. All (IsSized capacity) waiting.items) }
 {
-    let mut waiting = BTreeSet::new(alloc);
+    let mut waiting = Vec::new(alloc);
     for (id, held) in board.jobs() {
         if let Some(job) = queued(*id, held, site, capacity) {
-            waiting.insert(job)?;
+            waiting.push(job)?;
         }
     }
     Ok(waiting)
@@ -152,10 +153,7 @@ pub(crate) fn queue_of(
     ensures queue { IfOk result (λ queue. queue.items ≡ queue_in site capacity (reads board.now)) }
     ensures sized { IfOk result (λ queue. All (IsSized capacity) queue.items) }
 {
-    let waiting = waiting_jobs(alloc, board, site, capacity)?;
-    let mut queue = Vec::new(alloc);
-    for job in waiting {
-        queue.push(job)?;
-    }
+    let mut queue = waiting_jobs(alloc, board, site, capacity)?;
+    queue.sort()?;
     Ok(queue)
 }

@@ -85,6 +85,53 @@ fn reservations_made_apart_both_stand(rt: HostRuntime) {
     assert!(rt; plans(&rt, &board, 8, 41, &[], Some((2, 60))));
 }
 
+/// The reservations of the next test, each with its site, its start, its end and its nodes.
+const OVERLAPPING: [(u8, u64, u64, u64); 13] = [
+    // over at second 100, begun before it, and of another site
+    (0, 0, 100, 8),
+    (0, 50, 130, 2),
+    (1, 100, 500, 8),
+    // one begins where others end, two begin at one second, two end at one, and together they need up to 12 nodes
+    (0, 110, 130, 3),
+    (0, 130, 150, 3),
+    (0, 120, 140, 3),
+    (0, 120, 160, 1),
+    (0, 140, 150, 8),
+    // of no second
+    (0, 170, 170, 8),
+    (0, 175, 172, 8),
+    // of more nodes than a sum of 64 bits has
+    (0, 200, 210, u64::MAX),
+    (0, 200, 210, u64::MAX),
+    (0, 205, 220, 5),
+];
+
+#[test]
+fn reservations_overlap(rt: HostRuntime) {
+    let mut board = Board::new(rt.alloc());
+    let mut counter: u64 = 10;
+    for (number, start, end, nodes) in OVERLAPPING {
+        reserve(
+            &rt,
+            &mut board,
+            stamp(counter, 0),
+            number,
+            start,
+            end,
+            nodes,
+        );
+        counter = counter.saturating_add(1);
+    }
+    submit(&rt, &mut board, 31, 3, 20);
+    submit(&rt, &mut board, 32, 2, 30);
+    submit(&rt, &mut board, 33, 4, 5);
+    submit(&rt, &mut board, 34, 3, 10);
+    submit(&rt, &mut board, 35, 1, 1);
+    assert!(rt; plans(&rt, &board, 8, 100, &[31, 34], Some((32, 150))));
+    assert!(rt; plans(&rt, &board, 8, 150, &[31, 32, 35], Some((33, 170))));
+    assert!(rt; plans(&rt, &board, 8, 195, &[33, 35], Some((31, 210))));
+}
+
 #[test]
 fn extra_nodes_are_used(rt: HostRuntime) {
     let mut board = busy(&rt);

@@ -1,4 +1,4 @@
-use Rattle.std.proofs.Common.{◌≡◌, ◌≤◌, List, map, sym, ◌∙◌, subst}
+use Rattle.std.proofs.Common.{◌≡◌, ◌≤◌, List, sym, ◌∙◌, subst}
 use Rattle.std.specs.List.{AllByRecursion}
 use Rattle.std.proofs.lemmas.List.Elements.{All-weaker, recursion_from_All}
 use Rattle.fed_board.specs.Board.{reads}
@@ -8,10 +8,9 @@ use Rattle.fed_easy.specs.Plan.{reads as reads_plan}
 use Rattle.fed_easy.specs.Machine.{MachineValue}
 use Rattle.fed_easy.specs.Promises.{IsOver, IsSized, NoDelay, StaysWithin}
 use Rattle.fed_easy.specs.Profile.{Tells}
-use Rattle.fed_easy.specs.SitePlan.{bookings_in, reserved_in, running_booking, site_plan}
+use Rattle.fed_easy.specs.SitePlan.{bookings_in, reserved_in, site_plan}
 use Rattle.fed_easy.specs.Queue.{queue_in}
 use Rattle.fed_easy.specs.Use.{last_end, use_at}
-use Rattle.fed_easy.proofs.Booked.{use_at_append}
 use Rattle.fed_easy.proofs.ByExtra.{by_extra_nodes}
 use Rattle.fed_easy.proofs.Falls.{falls_site}
 use Rattle.fed_easy.proofs.PlanFacts.{not_delayed, stays_within}
@@ -20,33 +19,22 @@ use Rattle.fed_easy.proofs.plans.plan.Goals as goal
 
 pub plan_queue-requires-clause-narrow : goal.plan_queue-requires-clause-narrow
 plan_queue-requires-clause-narrow c =
-    let running = c.in_ok-profile.ensures in
-    let booked = c.in_ok-book_reserved.ensures in
-    let same : c.book_reserved.new.profile.capacity ≡ c.nodes.result = booked.capacity ∙ running.capacity ∙ c.nodes-2.ensures.same ∙ sym c.nodes.ensures.same in
-    rw (c.deref.ensures.value, same) (All-weaker (IsSized c.nodes.result) (λ (j : QueuedJob). j.nodes ≤ c.nodes.result) (λ j s. s.narrow) c.in_ok-queue.queue.items c.in_ok-queue.ensures.sized)
+    let same : c.in_ok-profile.profile.capacity ≡ c.nodes.result = c.in_ok-profile.ensures.capacity ∙ c.nodes-2.ensures.same ∙ sym c.nodes.ensures.same in
+    rw (c.deref-2.ensures.value, same) (All-weaker (IsSized c.nodes.result) (λ (j : QueuedJob). j.nodes ≤ c.nodes.result) (λ j s. s.narrow) c.in_ok-queue.queue.items c.in_ok-queue.ensures.sized)
 
 -- what is in use before any job starts
 abbrev bookings_of : (c : goal.After-drop-queue-2) → List Booking
 bookings_of c = bookings_in c.args.site (reads c.args.board.now) c.args.moment c.args.machine.now
 
--- what is in use, in the order of the definition
-told : (c : goal.After-drop-queue-2) → Tells c.book_reserved.new.profile (use_at (bookings_of c))
-told c = λ u from.
-    let running = c.in_ok-profile.ensures in
-    let booked = c.in_ok-book_reserved.ensures in
-    let bs : List Booking = map (running_booking c.args.moment) c.args.machine.now.running in
-    let cs : List Booking = reserved_in c.args.site (reads c.args.board.now) in
-    let before : Tells c.in_ok-profile.profile (use_at bs) = rw c.running.ensures at running.tells in
-    rw (use_at_append bs cs u) (booked.tells (use_at bs) before u from)
+told : (c : goal.After-drop-queue-2) → Tells c.in_ok-profile.profile (use_at (bookings_of c))
+told c = rw (c.deref.ensures.value, c.in_ok-bookings.ensures) at c.in_ok-profile.ensures.tells
 
 plan_is : (c : goal.After-drop-queue-2) → reads_plan c.in_ok-plan.plan ≡ site_plan (reads c.args.board.now) c.args.site c.args.moment c.args.machine.now
 plan_is c =
-    let running = c.in_ok-profile.ensures in
-    let booked = c.in_ok-book_reserved.ensures in
-    let capacity : c.book_reserved.new.profile.capacity ≡ c.args.machine.now.nodes = booked.capacity ∙ running.capacity ∙ c.nodes-2.ensures.same in
-    let start : c.book_reserved.new.profile.start ≡ c.args.moment = booked.start ∙ running.start in
+    let profile = c.in_ok-profile.ensures in
+    let capacity : c.in_ok-profile.profile.capacity ≡ c.args.machine.now.nodes = profile.capacity ∙ c.nodes-2.ensures.same in
     let plan = c.in_ok-plan.ensures (use_at (bookings_of c)) (last_end (bookings_of c)) (told c) (idle_bookings (bookings_of c)) in
-    rw (capacity, start, c.deref.ensures.value, c.in_ok-queue.ensures.queue, c.nodes.ensures.same) at plan
+    rw (capacity, profile.start, c.deref-2.ensures.value, c.in_ok-queue.ensures.queue, c.nodes.ensures.same) at plan
 
 -- the queue, of which each job takes nodes and time
 abbrev queue_of : (c : goal.After-drop-queue-2) → List QueuedJob
