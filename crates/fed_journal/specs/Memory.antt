@@ -1,11 +1,10 @@
 -- What a file in memory shows.
 use Rattle.std.specs.Prelude.{ℕ, List, reverse}
-use Rattle.fed_journal.specs.Calls.{left_by, seen_by}
-use Rattle.fed_journal.specs.declared.calls.Call.{Call}
+use Rattle.fed_journal.specs.Calls.{Event, left_by, seen_by}
 use Rattle.fed_journal.specs.declared.memory.Memory.{Memory}
 
 -- the calls on it, the newest first
-abbrev pub calls_of : Memory → List Call
+abbrev pub calls_of : Memory → List Event
 calls_of memory = reverse memory.calls.items
 
 -- its members `seen` and `may_leave`

@@ -1,12 +1,13 @@
 //! A file in memory, for tests. It can be told to stop at a call, as a machine does that loses its power. Its disk then has
 //! what was synced last, and a part of what was changed since.
 ghost use Rattle.std.specs.Prelude.{◌≡◌, ◌≤◌, length, true, IfOk, reverse};
-ghost use Rattle.fed_journal.specs.Calls.{counts_now, faults_by, left_by, left_since, only_now, overlaid, seen_by};
+ghost use Rattle.fed_journal.specs.Calls.{counts_now, errors_by, left_by, left_since, only_now, overlaid, seen_by};
 
-use crate::calls::{Call, note};
+use crate::calls::{Call, Calls};
 use crate::devices::Device;
 use crate::faults::DeviceFault;
 use std::alloc::{AllocError, Global};
+use std::io;
 
 /// How much the disk has of the last change where a file stops before the sync of it.
 #[derive(Clone, Copy, PartialEq, Eq, Debug, Drop)]
@@ -25,7 +26,9 @@ pub struct Memory {
     bytes: Vec<u8>,
     // what a crash leaves for certain
     disk: Vec<u8>,
-    calls: Vec<Call>,
+    // the last change, until it is synced
+    change: Option<Call>,
+    calls: Calls,
     is_up: bool,
     // how many calls are done before it stops
     left: usize,
@@ -81,10 +84,10 @@ fn tear_change(
     tear: Tear,
 ) -> Result<Vec<u8>, AllocError> {
     match change {
-        Call::Wrote { at, bytes, .. } if *at <= disk.len() => {
+        Call::Wrote { at, bytes } if *at <= disk.len() => {
             tear_write(alloc, disk, *at, bytes, tear)
         }
-        Call::Resized { len, .. } if tear != Tear::Front(0) && *len <= disk.len() => {
+        Call::Resized { len } if tear != Tear::Front(0) && *len <= disk.len() => {
             disk[..*len].to_vec(alloc)
         }
         _ => disk.to_vec(alloc),
@@ -113,14 +116,13 @@ impl Memory {
         ensures bytes { IfOk result (λ file. memory_seen file ≡ bytes.now) }
         ensures durable { IfOk result (λ file. LeavesJust (memory_seen file) (memory_may_leave file)) }
     {
-        let mut calls = Vec::new(alloc);
         let found = bytes.to_vec(alloc)?;
-        note(&mut calls, Call::Found { bytes: found })?;
         Ok(Memory {
             alloc,
             bytes: bytes.to_vec(alloc)?,
             disk: bytes.to_vec(alloc)?,
-            calls,
+            change: None,
+            calls: Calls::new().and(&Call::Found { bytes: found }, &Ok(())),
             is_up: true,
             left,
             tear,
@@ -138,6 +140,11 @@ impl Memory {
     }
 }
 
+/// Why a call fails once the file has stopped.
+fn stopped() -> io::Error {
+    io::Error::other("the machine has stopped")
+}
+
 impl Device for Memory {
     ghost seen = { λ d. seen_by (reverse d.calls.items) };
 
@@ -147,7 +154,7 @@ impl Device for Memory {
 
     ghost left_since = { λ d t c. left_since (reverse d.calls.items) t c };
 
-    ghost faults = { λ d. faults_by (reverse d.calls.items) };
+    ghost errors = { λ d. errors_by (reverse d.calls.items) };
 
     ghost counts_now = { λ d t c le now. counts_now (reverse d.calls.items) t c le now };
 
@@ -155,77 +162,80 @@ impl Device for Memory {
 
     fn read(&mut self, alloc: Global) -> Result<Vec<u8>, DeviceFault> {
         if !self.is_up {
-            note(&mut self.calls, Call::Failed)?;
-            return Err(DeviceFault::Failed);
+            let error = stopped();
+            self.calls = self.calls.and(&Call::Refused, &Err(error));
+            return Err(DeviceFault::Failed(error));
         }
         Ok(self.bytes.to_vec(alloc)?)
     }
 
     fn write_at(&mut self, at: usize, bytes: &[u8]) -> Result<(), DeviceFault> {
         if !self.is_up {
-            note(&mut self.calls, Call::Failed)?;
-            return Err(DeviceFault::Failed);
+            let error = stopped();
+            self.calls = self.calls.and(&Call::Refused, &Err(error));
+            return Err(DeviceFault::Failed(error));
         }
-        let is_done = self.left > 0;
         let written = bytes.to_vec(self.alloc)?;
-        let call = Call::Wrote {
-            at,
-            bytes: written,
-            is_done,
-        };
-        if !is_done {
+        let call = Call::Wrote { at, bytes: written };
+        if self.left == 0 {
             let disk = tear_change(self.alloc, &self.disk, &call, self.tear)?;
-            note(&mut self.calls, call)?;
+            let error = stopped();
+            self.calls = self.calls.and(&call, &Err(error));
             self.is_up = false;
             self.disk = disk;
-            return Err(DeviceFault::Failed);
+            return Err(DeviceFault::Failed(error));
         }
         let changed = overlay(self.alloc, &self.bytes, at, bytes)?;
-        note(&mut self.calls, call)?;
+        self.calls = self.calls.and(&call, &Ok(()));
         self.bytes = changed;
+        self.change = Some(call);
         self.left -= 1;
         Ok(())
     }
 
     fn cut(&mut self, len: usize) -> Result<(), DeviceFault> {
         if !self.is_up {
-            note(&mut self.calls, Call::Failed)?;
-            return Err(DeviceFault::Failed);
+            let error = stopped();
+            self.calls = self.calls.and(&Call::Refused, &Err(error));
+            return Err(DeviceFault::Failed(error));
         }
-        let is_done = self.left > 0;
-        let call = Call::Resized { len, is_done };
-        if !is_done {
+        let call = Call::Resized { len };
+        if self.left == 0 {
             let disk = tear_change(self.alloc, &self.disk, &call, self.tear)?;
-            note(&mut self.calls, call)?;
+            let error = stopped();
+            self.calls = self.calls.and(&call, &Err(error));
             self.is_up = false;
             self.disk = disk;
-            return Err(DeviceFault::Failed);
+            return Err(DeviceFault::Failed(error));
         }
-        note(&mut self.calls, call)?;
+        self.calls = self.calls.and(&call, &Ok(()));
         self.bytes.truncate(len);
+        self.change = Some(call);
         self.left -= 1;
         Ok(())
     }
 
     fn sync(&mut self) -> Result<(), DeviceFault> {
         if !self.is_up {
-            note(&mut self.calls, Call::Failed)?;
-            return Err(DeviceFault::Failed);
+            let error = stopped();
+            self.calls = self.calls.and(&Call::Refused, &Err(error));
+            return Err(DeviceFault::Failed(error));
         }
-        let is_done = self.left > 0;
-        if !is_done {
-            let disk = match self.calls.last() {
+        if self.left == 0 {
+            let disk = match &self.change {
                 Some(change) => tear_change(self.alloc, &self.disk, change, self.tear)?,
                 None => self.disk.to_vec(self.alloc)?,
             };
-            note(&mut self.calls, Call::Flushed { is_done })?;
+            let error = stopped();
+            self.calls = self.calls.and(&Call::Flushed, &Err(error));
             self.is_up = false;
             self.disk = disk;
-            return Err(DeviceFault::Failed);
+            return Err(DeviceFault::Failed(error));
         }
         let disk = self.bytes.to_vec(self.alloc)?;
-        note(&mut self.calls, Call::Flushed { is_done })?;
+        self.calls = self.calls.and(&Call::Flushed, &Ok(()));
         self.disk = disk;
+        self.change = None;
         self.left -= 1;
         Ok(())
     }

@@ -5,6 +5,7 @@ ghost use Rattle.fed_journal.specs.Memory.{memory_may_leave, memory_seen};
 
 use crate::{Device, Journal, JournalFault, Memory, Recovered, Tear, are_lines};
 use std::alloc::Global;
+use std::io;
 use std::test::Fail;
 
 // By sha256sum: of sixteen zeros and the first text, and of the digits that this gives and the second.
@@ -113,7 +114,7 @@ fn is_told(alloc: Global, at: usize, byte: u8) -> Result<bool, JournalFault> {
         return Ok(true);
     }
     match opened(alloc, &file) {
-        Err(fault) => Ok(fault == JournalFault::Damaged { line }),
+        Err(fault) => Ok(matches!(fault, JournalFault::Damaged { line: told } if told == line)),
         Ok(recovered) => {
             let is_gate = byte == b'-' && FILE.get(at) == Some(&b'+');
             let entries = recovered.entries.len() as u64;
@@ -168,7 +169,7 @@ fn stopped(
         Err(unopened) => Ok((0, unopened.device.into_disk())),
         Ok((mut journal, _)) => {
             let groups = add_groups(&mut journal);
-            Ok((groups, journal.device.into_disk()))
+            Ok((groups, journal.into_device().into_disk()))
         }
     }
 }
@@ -242,7 +243,7 @@ fn a_write_that_was_not_synced_is_lost(rt: HostRuntime) -> Result<(), Fail> {
 fn a_fault_has_its_number(rt: HostRuntime) {
     let faults = [
         JournalFault::NoMemory,
-        JournalFault::Failed,
+        JournalFault::Failed(io::ErrorKind::StorageFull.into()),
         JournalFault::Damaged { line: 1 },
         JournalFault::Full,
     ];
