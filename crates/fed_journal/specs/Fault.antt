@@ -23,6 +23,11 @@ abbrev pub fault_of : DeviceFault → JournalFault
 fault_of device.NoMemory = journal.NoMemory
 fault_of (device.Failed error) = journal.Failed error
 
+-- what a device says where a call on its file is answered so
+abbrev pub told : {T : Type 0} → Result T Error → Result T DeviceFault
+told (Ok value) = Ok value
+told (Err error) = Err (device.Failed error)
+
 -- By the disk's errors before a call and now, the newest first: the call tells the one error that the disk has had since, or the disk has had none.
 abbrev pub Tells : {T : Type 0} → List Error → List Error → Result T DeviceFault → Type 0
 Tells before now (Ok value) = now ≡ before

@@ -2,7 +2,7 @@
 ghost use Rattle.fed_journal.specs.Device.{LeavesJust};
 ghost use Rattle.fed_journal.specs.Files.{file_may_leave, file_seen};
 
-use crate::{Device, FileDevice, Journal, OpenFault, Recovered, are_lines};
+use crate::{Device, FileDevice, Journal, OpenFault, Recovered, are_lines, keep};
 use std::fs;
 use std::io::ErrorKind;
 use std::os::unix::fs::PermissionsExt;
@@ -159,6 +159,21 @@ fn a_file_is_read_once(rt: HostRuntime) -> Result<(), Fail> {
     device.sync()?;
     let written = fs::read(&rt, "journal_once/journal")?;
     assert_eq!(rt; written.as_slice(), b"sec".as_slice());
+    fs::remove_dir_all(&rt, directory)?;
+    Ok(())
+}
+
+#[test]
+fn what_is_cut_is_kept_in_a_new_file(rt: HostRuntime) -> Result<(), Fail> {
+    let directory = "journal_cut";
+    fresh(&rt, directory)?;
+    let mut first = FileDevice::make(&rt, directory, "journal.cut-1")?;
+    assert!(rt; keep(rt.alloc(), &mut first, b" half a gr\n+oup")?);
+    drop(first);
+    let mut again = FileDevice::make(&rt, directory, "journal.cut-1")?;
+    assert!(rt; !keep(rt.alloc(), &mut again, b"another")?);
+    let bytes = fs::read(&rt, "journal_cut/journal.cut-1")?;
+    assert_eq!(rt; bytes.as_slice(), b" half a gr\n+oup".as_slice());
     fs::remove_dir_all(&rt, directory)?;
     Ok(())
 }

@@ -10,9 +10,10 @@
 //! - What `open` reads is what the disk has. The file and its directory are synced first, and the system is told to drop
 //!   its copies, which a sync that failed in an earlier process may have left other than the disk has them.
 //! - Nobody else changes the file. The lock keeps out other processes that take it, and no others.
-ghost use Rattle.std.specs.Prelude.{◌≡◌, ℕ, length, reverse, Vec, Some, IfOk};
+ghost use Rattle.std.specs.Prelude.{◌≡◌, ℕ, [], ◌∷◌, ◌++◌, length, reverse, Vec, Some, IfOk};
 ghost use Rattle.std.specs.declared.alloc.Global.{Global};
 ghost use Rattle.fed_journal.specs.Calls.{counts_now, errors_by, left_by, left_since, only_now, seen_by};
+ghost use Rattle.fed_journal.specs.Fault.{told};
 
 use crate::calls::{Call, Calls, note_found};
 use crate::devices::Device;
@@ -124,6 +125,17 @@ impl FileDevice {
             calls,
         })
     }
+
+    /// Notes a call with its answer. What was found before it is then nothing to rely on.
+    fn note(&mut self, call: Call, answer: io::Result<()>) -> Result<(), DeviceFault>
+        ensures noted { self.new.calls.items ≡ self.old.calls.items ++ (call, answer) ∷ [] }
+        ensures told { result ≡ told answer }
+    {
+        self.found = None;
+        self.calls = self.calls.and(&call, &answer);
+        self.failed = answer.err();
+        answer.map_err(DeviceFault::Failed)
+    }
 }
 
 impl Device for FileDevice {
@@ -141,7 +153,7 @@ impl Device for FileDevice {
 
     ghost only_now = { λ d c left. only_now (reverse d.calls.items) c left };
 
-    /// Gives what was found when the file was opened, once, and before the file is changed.
+    /// Gives what was found when the file was opened, once, and before the file is changed or synced.
     fn read(&mut self, _alloc: Global) -> Result<Vec<u8>, DeviceFault> {
         match self.found.take() {
             Some(bytes) => Ok(bytes),
@@ -154,38 +166,27 @@ impl Device for FileDevice {
     }
 
     fn write_at(&mut self, at: usize, bytes: &[u8]) -> Result<(), DeviceFault> {
-        self.found = None;
         if let Some(error) = self.failed {
-            self.calls = self.calls.and(&Call::Refused, &Err(error));
-            return Err(DeviceFault::Failed(error));
+            return self.note(Call::Refused, Err(error));
         }
         let written = bytes.to_vec(self.alloc)?;
         let answer = self.file.write_all_at(bytes, at as u64);
-        self.calls = self.calls.and(&Call::Wrote { at, bytes: written }, &answer);
-        self.failed = answer.err();
-        answer.map_err(DeviceFault::Failed)
+        self.note(Call::Wrote { at, bytes: written }, answer)
     }
 
     fn cut(&mut self, len: usize) -> Result<(), DeviceFault> {
-        self.found = None;
         if let Some(error) = self.failed {
-            self.calls = self.calls.and(&Call::Refused, &Err(error));
-            return Err(DeviceFault::Failed(error));
+            return self.note(Call::Refused, Err(error));
         }
         let answer = self.file.set_len(len as u64);
-        self.calls = self.calls.and(&Call::Resized { len }, &answer);
-        self.failed = answer.err();
-        answer.map_err(DeviceFault::Failed)
+        self.note(Call::Resized { len }, answer)
     }
 
     fn sync(&mut self) -> Result<(), DeviceFault> {
         if let Some(error) = self.failed {
-            self.calls = self.calls.and(&Call::Refused, &Err(error));
-            return Err(DeviceFault::Failed(error));
+            return self.note(Call::Refused, Err(error));
         }
         let answer = self.file.sync_data();
-        self.calls = self.calls.and(&Call::Flushed, &answer);
-        self.failed = answer.err();
-        answer.map_err(DeviceFault::Failed)
+        self.note(Call::Flushed, answer)
     }
 }

@@ -22,6 +22,8 @@ pub mod lines;
 pub mod memory;
 /// Steps on a disk that end with a sync.
 mod steps;
+/// What a journal cuts.
+pub mod tails;
 
 pub use devices::Device;
 pub use faults::{DeviceFault, JournalFault, OpenFault};
@@ -29,6 +31,7 @@ pub use files::FileDevice;
 pub use journals::{Journal, MAX_BYTES, Recovered, Unopened};
 pub use lines::{are_lines, is_line};
 pub use memory::{Memory, Tear};
+pub use tails::keep;
 
 #[cfg(test)]
 mod file_tests;

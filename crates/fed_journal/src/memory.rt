@@ -1,6 +1,7 @@
 //! A file in memory, for tests. It can be told to stop at a call, as a machine does that loses its power. Its disk then has
 //! what was synced last, and a part of what was changed since.
-ghost use Rattle.std.specs.Prelude.{◌≡◌, ◌≤◌, length, true, IfOk, reverse};
+ghost use Rattle.std.specs.Prelude.{◌≡◌, ◌≤◌, [], ◌∷◌, ◌++◌, length, true, Err, IfOk, reverse};
+ghost use Rattle.std.specs.declared.io.Error.{Error};
 ghost use Rattle.fed_journal.specs.Calls.{counts_now, errors_by, left_by, left_since, only_now, overlaid, seen_by};
 
 use crate::calls::{Call, Calls};
@@ -94,9 +95,14 @@ fn tear_change(
     }
 }
 
+/// Why a call fails in whose midst the file stops, or behind that.
+fn stopped() -> io::Error {
+    io::Error::other("the machine has stopped")
+}
+
 impl Memory {
     ghost use Rattle.fed_journal.specs.Device.{LeavesJust};
-    ghost use Rattle.fed_journal.specs.Memory.{memory_may_leave, memory_seen};
+    ghost use Rattle.fed_journal.specs.Memory.{calls_left, disk_of, is_running, memory_may_leave, memory_seen, tear_of};
 
     /// A file with these bytes, which doesn't stop.
     pub fn new(alloc: Global, bytes: &[u8]) -> Result<Memory, DeviceFault>
@@ -115,6 +121,7 @@ impl Memory {
     ) -> Result<Memory, DeviceFault>
         ensures bytes { IfOk result (λ file. memory_seen file ≡ bytes.now) }
         ensures durable { IfOk result (λ file. LeavesJust (memory_seen file) (memory_may_leave file)) }
+        ensures stop { IfOk result (λ file. (calls_left file ≡ left) × (tear_of file ≡ tear) × (is_running file ≡ true)) }
     {
         let found = bytes.to_vec(alloc)?;
         Ok(Memory {
@@ -129,20 +136,29 @@ impl Memory {
         })
     }
 
+    /// Fails a call and each one behind it, and gives what the call says.
+    fn fail(&mut self, call: &Call) -> DeviceFault
+        ensures { (error : Error) × (result ≡ DeviceFault.Failed error) × (self.new.calls.items ≡ self.old.calls.items ++ (call.now, Err error) ∷ []) }
+    {
+        let error = stopped();
+        self.calls = self.calls.and(call, &Err(error));
+        self.is_up = false;
+        DeviceFault::Failed(error)
+    }
+
     /// What the disk has: nothing of a change after the last sync, but for the part of it that a stop left.
-    pub fn into_disk(self) -> Vec<u8> {
+    pub fn into_disk(self) -> Vec<u8>
+        ensures { result ≡ disk_of self }
+    {
         self.disk
     }
 
     /// Whether it has not stopped.
-    pub fn is_up(&self) -> bool {
+    pub fn is_up(&self) -> bool
+        ensures { result ≡ is_running self.now }
+    {
         self.is_up
     }
-}
-
-/// Why a call fails once the file has stopped.
-fn stopped() -> io::Error {
-    io::Error::other("the machine has stopped")
 }
 
 impl Device for Memory {
@@ -162,28 +178,20 @@ impl Device for Memory {
 
     fn read(&mut self, alloc: Global) -> Result<Vec<u8>, DeviceFault> {
         if !self.is_up {
-            let error = stopped();
-            self.calls = self.calls.and(&Call::Refused, &Err(error));
-            return Err(DeviceFault::Failed(error));
+            return Err(self.fail(&Call::Refused));
         }
         Ok(self.bytes.to_vec(alloc)?)
     }
 
     fn write_at(&mut self, at: usize, bytes: &[u8]) -> Result<(), DeviceFault> {
         if !self.is_up {
-            let error = stopped();
-            self.calls = self.calls.and(&Call::Refused, &Err(error));
-            return Err(DeviceFault::Failed(error));
+            return Err(self.fail(&Call::Refused));
         }
         let written = bytes.to_vec(self.alloc)?;
         let call = Call::Wrote { at, bytes: written };
         if self.left == 0 {
-            let disk = tear_change(self.alloc, &self.disk, &call, self.tear)?;
-            let error = stopped();
-            self.calls = self.calls.and(&call, &Err(error));
-            self.is_up = false;
-            self.disk = disk;
-            return Err(DeviceFault::Failed(error));
+            self.disk = tear_change(self.alloc, &self.disk, &call, self.tear)?;
+            return Err(self.fail(&call));
         }
         let changed = overlay(self.alloc, &self.bytes, at, bytes)?;
         self.calls = self.calls.and(&call, &Ok(()));
@@ -195,18 +203,12 @@ impl Device for Memory {
 
     fn cut(&mut self, len: usize) -> Result<(), DeviceFault> {
         if !self.is_up {
-            let error = stopped();
-            self.calls = self.calls.and(&Call::Refused, &Err(error));
-            return Err(DeviceFault::Failed(error));
+            return Err(self.fail(&Call::Refused));
         }
         let call = Call::Resized { len };
         if self.left == 0 {
-            let disk = tear_change(self.alloc, &self.disk, &call, self.tear)?;
-            let error = stopped();
-            self.calls = self.calls.and(&call, &Err(error));
-            self.is_up = false;
-            self.disk = disk;
-            return Err(DeviceFault::Failed(error));
+            self.disk = tear_change(self.alloc, &self.disk, &call, self.tear)?;
+            return Err(self.fail(&call));
         }
         self.calls = self.calls.and(&call, &Ok(()));
         self.bytes.truncate(len);
@@ -217,20 +219,13 @@ impl Device for Memory {
 
     fn sync(&mut self) -> Result<(), DeviceFault> {
         if !self.is_up {
-            let error = stopped();
-            self.calls = self.calls.and(&Call::Refused, &Err(error));
-            return Err(DeviceFault::Failed(error));
+            return Err(self.fail(&Call::Refused));
         }
         if self.left == 0 {
-            let disk = match &self.change {
-                Some(change) => tear_change(self.alloc, &self.disk, change, self.tear)?,
-                None => self.disk.to_vec(self.alloc)?,
-            };
-            let error = stopped();
-            self.calls = self.calls.and(&Call::Flushed, &Err(error));
-            self.is_up = false;
-            self.disk = disk;
-            return Err(DeviceFault::Failed(error));
+            if let Some(change) = &self.change {
+                self.disk = tear_change(self.alloc, &self.disk, change, self.tear)?;
+            }
+            return Err(self.fail(&Call::Flushed));
         }
         let disk = self.bytes.to_vec(self.alloc)?;
         self.calls = self.calls.and(&Call::Flushed, &Ok(()));

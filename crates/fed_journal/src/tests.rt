@@ -3,7 +3,7 @@ ghost use Rattle.std.specs.Prelude.{List, ℕ};
 ghost use Rattle.fed_journal.specs.Journal.{IsRead};
 ghost use Rattle.fed_journal.specs.Memory.{memory_may_leave, memory_seen};
 
-use crate::{Device, Journal, JournalFault, Memory, Recovered, Tear, are_lines};
+use crate::{Device, DeviceFault, Journal, JournalFault, Memory, Recovered, Tear, are_lines};
 use std::alloc::Global;
 use std::io;
 use std::test::Fail;
@@ -249,6 +249,17 @@ fn a_fault_has_its_number(rt: HostRuntime) {
     ];
     let numbers = faults.map(|fault| fault.number());
     assert_eq!(rt; numbers, [1, 2, 3, 4]);
+}
+
+// 28 is the system's number of a disk that is full.
+#[test]
+fn a_fault_says_the_cause(rt: HostRuntime) -> Result<(), Fail> {
+    let full = JournalFault::from(DeviceFault::Failed(io::Error::from_raw_os_error(28)));
+    let words = format!(in rt.alloc(); "{full}")?;
+    assert_eq!(rt; words.as_str(), "No space left on device (os error 28)");
+    let damaged = format!(in rt.alloc(); "{}", JournalFault::Damaged { line: 17 })?;
+    assert_eq!(rt; damaged.as_str(), "line 17 of the journal is damaged");
+    Ok(())
 }
 
 /// Opens a file, with a second trial where memory is refused.
