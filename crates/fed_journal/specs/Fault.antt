@@ -1,5 +1,6 @@
 -- Why a journal fails.
-use Rattle.std.specs.Prelude.{◌≡◌, ◌<◌, ◌≤◌, ℕ, List, Result, Err, IsErrOf, ⊤}
+use Rattle.std.specs.Prelude.{◌≡◌, ◌<◌, ℕ, List, ◌∷◌, Result, Ok, Err, ⊤}
+use Rattle.std.specs.declared.io.Error.{Error}
 use Rattle.fed_journal.specs.Lines.{recovered}
 use Rattle.fed_journal.specs.declared.faults.DeviceFault.{DeviceFault}
 use Rattle.fed_journal.specs.declared.faults.DeviceFault.TheVariants as device
@@ -9,48 +10,54 @@ use Rattle.fed_journal.specs.declared.faults.JournalFault.TheVariants as journal
 
 abbrev pub number_of : JournalFault → ℕ
 number_of journal.NoMemory = 1
-number_of journal.Failed = 2
+number_of (journal.Failed error) = 2
 number_of (journal.Damaged line) = 3
 number_of journal.Full = 4
 
 abbrev pub device_number_of : DeviceFault → ℕ
 device_number_of device.NoMemory = 1
-device_number_of device.Failed = 2
+device_number_of (device.Failed error) = 2
 
 -- what a journal says where its device failed
 abbrev pub fault_of : DeviceFault → JournalFault
 fault_of device.NoMemory = journal.NoMemory
-fault_of device.Failed = journal.Failed
+fault_of (device.Failed error) = journal.Failed error
 
--- A call tells of a failed disk only where the disk has failed since, by the count of its failures.
-pub record HasCause {T : Type 0} (before now : ℕ) (result : Result T DeviceFault) : Type 0 where
-  pub later : before ≤ now
-  pub failed : IsErrOf result device.Failed → before < now
+-- what a device says where a call on its file is answered so
+abbrev pub told : {T : Type 0} → Result T Error → Result T DeviceFault
+told (Ok value) = Ok value
+told (Err error) = Err (device.Failed error)
+
+-- By the disk's errors before a call and now, the newest first: the call tells the one error that the disk has had since, or the disk has had none.
+abbrev pub Tells : {T : Type 0} → List Error → List Error → Result T DeviceFault → Type 0
+Tells before now (Ok value) = now ≡ before
+Tells before now (Err device.NoMemory) = now ≡ before
+Tells before now (Err (device.Failed error)) = now ≡ error ∷ before
 
 -- a fault that is the file's names the line that is damaged
 abbrev pub IsDamage : List ℕ → JournalFault → Type 0
 IsDamage file journal.NoMemory = ⊤
-IsDamage file journal.Failed = ⊥
+IsDamage file (journal.Failed error) = ⊥
 IsDamage file (journal.Damaged line) = recovered file ≡ Err line
 IsDamage file journal.Full = ⊥
 
--- Why a group isn't added: the disk has failed, by the count of its failures, or the file would have too many bytes. Or there was no memory.
-abbrev pub StopsGroup : ℕ → ℕ → ℕ → JournalFault → Type 0
-StopsGroup before now bytes journal.NoMemory = ⊤
-StopsGroup before now bytes journal.Failed = before < now
+-- Why a group isn't added: the disk has had this error, or the file would have too many bytes. Or there was no memory.
+abbrev pub StopsGroup : List Error → List Error → ℕ → JournalFault → Type 0
+StopsGroup before now bytes journal.NoMemory = now ≡ before
+StopsGroup before now bytes (journal.Failed error) = now ≡ error ∷ before
 StopsGroup before now bytes (journal.Damaged line) = ⊥
 StopsGroup before now bytes journal.Full = MAX_BYTES < bytes
 
--- Why a file isn't opened: the disk has failed, or the line of this number is damaged. Or there was no memory.
-abbrev pub StopsOpening : ℕ → ℕ → List ℕ → JournalFault → Type 0
-StopsOpening before now file journal.NoMemory = ⊤
-StopsOpening before now file journal.Failed = before < now
+-- Why a file isn't opened: the disk has had this error, or the line of this number is damaged. Or there was no memory.
+abbrev pub StopsOpening : List Error → List Error → List ℕ → JournalFault → Type 0
+StopsOpening before now file journal.NoMemory = now ≡ before
+StopsOpening before now file (journal.Failed error) = now ≡ error ∷ before
 StopsOpening before now file (journal.Damaged line) = recovered file ≡ Err line
 StopsOpening before now file journal.Full = ⊥
 
--- Why the end of a file isn't repaired: the disk has failed. Or there was no memory.
-abbrev pub StopsRepair : ℕ → ℕ → JournalFault → Type 0
-StopsRepair before now journal.NoMemory = ⊤
-StopsRepair before now journal.Failed = before < now
+-- Why the end of a file isn't repaired: the disk has had this error. Or there was no memory.
+abbrev pub StopsRepair : List Error → List Error → JournalFault → Type 0
+StopsRepair before now journal.NoMemory = now ≡ before
+StopsRepair before now (journal.Failed error) = now ≡ error ∷ before
 StopsRepair before now (journal.Damaged line) = ⊥
 StopsRepair before now journal.Full = ⊥

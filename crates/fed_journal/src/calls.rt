@@ -1,40 +1,53 @@
-//! Calls on a file in memory.
-ghost use Rattle.std.specs.Prelude.{◌≡◌, ◌∷◌, OnErr, OnOk, reverse};
+//! Calls on a file, each with its answer. Clauses alone read them, and they take no memory.
+ghost use Rattle.std.specs.Prelude.{◌≡◌, ℕ, [], ◌∷◌, Ok, Vec};
+ghost use Rattle.std.specs.declared.alloc.Global.{Global};
 
-use crate::faults::DeviceFault;
+use http_server::Log;
+use std::io;
 
-/// A call with its answer.
+/// A call on a file.
 #[derive(Drop)]
 pub enum Call {
     /// The disk has these bytes, and a read gives them.
-    Found {
-        bytes: Vec<u8>,
-    },
+    Found { bytes: Vec<u8> },
     /// A write at an offset.
-    Wrote {
-        at: usize,
-        bytes: Vec<u8>,
-        is_done: bool,
-    },
+    Wrote { at: usize, bytes: Vec<u8> },
     /// A cut to a length.
-    Resized {
-        len: usize,
-        is_done: bool,
-    },
+    Resized { len: usize },
     /// A sync.
-    Flushed {
-        is_done: bool,
-    },
-    /// A call that failed and changed nothing.
-    Failed,
+    Flushed,
+    /// A call that changed nothing.
+    Refused,
 }
 
-/// Notes a call behind the others.
-pub(crate) fn note(calls: &mut Vec<Call>, call: Call) -> Result<(), DeviceFault>
-    ensures noted { OnOk result (reverse calls.new.items ≡ call ∷ reverse calls.old.items) }
-    ensures same { OnErr result (calls.new.items ≡ calls.old.items) }
-    ensures fault { OnErr result (result ≡ Err DeviceFault.NoMemory) }
+/// The calls so far, the oldest first, each with the error where it failed.
+pub(crate) type Calls = Log<Call, io::Result<()>>;
+
+impl Call {
+    /// The bytes that were found.
+    fn into_found(self) -> Vec<u8>
+        requires { (bytes : Vec ℕ Global) × (self ≡ Call.Found bytes) }
+        ensures { self ≡ Call.Found result }
+    {
+        match self {
+            Call::Found { bytes } => bytes,
+            Call::Wrote {
+                at: _at,
+                bytes: _bytes,
+            } => unreachable!(),
+            Call::Resized { len: _len } => unreachable!(),
+            Call::Flushed => unreachable!(),
+            Call::Refused => unreachable!(),
+        }
+    }
+}
+
+/// Notes what was found in a file, as the first of its calls, and gives it back.
+pub(crate) fn note_found(bytes: Vec<u8>) -> (Calls, Vec<u8>)
+    ensures noted { result.0.items ≡ (Call.Found bytes, Ok tt) ∷ [] }
+    ensures same { result.1 ≡ bytes }
 {
-    calls.push(call)?;
-    Ok(())
+    let found = Call::Found { bytes };
+    let calls = Log::new().and(&found, &Ok(()));
+    (calls, found.into_found())
 }

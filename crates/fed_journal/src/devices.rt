@@ -2,7 +2,8 @@
 //! file that the disk has may be left torn until the next sync. Of a second one before that sync nothing is said.
 ghost use Rattle.std.specs.Prelude.{◌≡◌, ◌≤◌, List, ℕ, length, take, IfOk, OnOk};
 ghost use Rattle.fed_journal.specs.Device.{Holds, Leaves, LeavesJust, Passes, Shortened, Torn};
-ghost use Rattle.fed_journal.specs.Fault.{HasCause};
+ghost use Rattle.fed_journal.specs.Fault.{Tells};
+ghost use Rattle.std.specs.declared.io.Error.{Error};
 
 use crate::faults::DeviceFault;
 use std::alloc::Global;
@@ -21,8 +22,8 @@ pub trait Device {
     /// What a crash at this moment or an earlier one might have left, back to the one of this count: in the middle of a call too.
     ghost left_since: { Self → ℕ → List ℕ → Type 0 };
 
-    /// How often the disk has failed.
-    ghost faults: { Self → ℕ };
+    /// The errors of the calls that failed, the newest first.
+    ghost errors: { Self → List Error };
 
     /// The whole file.
     fn read(&mut self, alloc: Global) -> Result<Vec<u8>, DeviceFault>
@@ -30,7 +31,7 @@ pub trait Device {
         ensures same { seen self.new ≡ seen self.old }
         ensures crash { (c : List ℕ) → may_leave self.new c → may_leave self.old c }
         ensures time { Passes (moment self.old) (moment self.new) (left_since self.old) (left_since self.new) (may_leave self.new) }
-        ensures cause { HasCause (faults self.old) (faults self.new) result };
+        ensures cause { Tells (errors self.old) (errors self.new) result };
 
     /// Writes over what stands at an offset, and past the end.
     fn write_at(&mut self, at: usize, bytes: &[u8]) -> Result<(), DeviceFault>
@@ -38,7 +39,7 @@ pub trait Device {
         ensures written { OnOk result (Holds at bytes.now (seen self.old) (seen self.new)) }
         ensures crash { LeavesJust (seen self.old) (may_leave self.old) → Leaves (Torn at bytes.now (seen self.old)) (may_leave self.new) }
         ensures time { Passes (moment self.old) (moment self.new) (left_since self.old) (left_since self.new) (may_leave self.new) }
-        ensures cause { HasCause (faults self.old) (faults self.new) result };
+        ensures cause { Tells (errors self.old) (errors self.new) result };
 
     /// Cuts the file to a length.
     fn cut(&mut self, len: usize) -> Result<(), DeviceFault>
@@ -46,7 +47,7 @@ pub trait Device {
         ensures cut { OnOk result (seen self.new ≡ take len (seen self.old)) }
         ensures crash { LeavesJust (seen self.old) (may_leave self.old) → Leaves (Shortened len (seen self.old)) (may_leave self.new) }
         ensures time { Passes (moment self.old) (moment self.new) (left_since self.old) (left_since self.new) (may_leave self.new) }
-        ensures cause { HasCause (faults self.old) (faults self.new) result };
+        ensures cause { Tells (errors self.old) (errors self.new) result };
 
     /// Waits until the disk has what a read gives. From then on a crash leaves that.
     fn sync(&mut self) -> Result<(), DeviceFault>
@@ -54,7 +55,7 @@ pub trait Device {
         ensures same { seen self.new ≡ seen self.old }
         ensures crash { (c : List ℕ) → may_leave self.new c → may_leave self.old c }
         ensures time { Passes (moment self.old) (moment self.new) (left_since self.old) (left_since self.new) (may_leave self.new) }
-        ensures cause { HasCause (faults self.old) (faults self.new) result };
+        ensures cause { Tells (errors self.old) (errors self.new) result };
 
     /// This moment is one of those since an earlier one,
     ghost counts_now: { (file : Self) (t : ℕ) (c : List ℕ) → t ≤ moment file → may_leave file c → left_since file t c };

@@ -2,17 +2,18 @@
 ghost use Rattle.std.specs.Prelude.{◌≡◌};
 
 use std::alloc::{AllocError, AllocFailed};
+use std::io;
 use thiserror::Error;
 
 /// Why a call of a device fails.
-#[derive(Clone, Copy, PartialEq, Eq, Debug, Drop, Error)]
+#[derive(Clone, Copy, Debug, Drop, Error)]
 pub enum DeviceFault {
     /// 1: a growth was refused memory.
     #[error("out of memory")]
     NoMemory,
-    /// 2: the disk failed.
-    #[error("the disk failed")]
-    Failed,
+    /// 2: the disk failed, with this error.
+    #[error("{0}")]
+    Failed(io::Error),
 }
 
 impl DeviceFault {
@@ -24,7 +25,7 @@ impl DeviceFault {
     {
         match self {
             DeviceFault::NoMemory => 1,
-            DeviceFault::Failed => 2,
+            DeviceFault::Failed(_) => 2,
         }
     }
 }
@@ -50,14 +51,14 @@ impl<T: Drop> From<AllocFailed<T>> for DeviceFault {
 }
 
 /// Why a journal isn't opened, or a group not added.
-#[derive(Clone, Copy, PartialEq, Eq, Debug, Drop, Error)]
+#[derive(Clone, Copy, Debug, Drop, Error)]
 pub enum JournalFault {
     /// 1: a growth was refused memory.
     #[error("out of memory")]
     NoMemory,
-    /// 2: the disk failed.
-    #[error("the disk failed")]
-    Failed,
+    /// 2: the disk failed, with this error.
+    #[error("{0}")]
+    Failed(io::Error),
     /// 3: a line of the file, counted from 1, is neither an entry's nor has a closed gate, or the file ends before it.
     #[error("line {line} of the journal is damaged")]
     Damaged { line: u64 },
@@ -75,7 +76,7 @@ impl JournalFault {
     {
         match self {
             JournalFault::NoMemory => 1,
-            JournalFault::Failed => 2,
+            JournalFault::Failed(_) => 2,
             JournalFault::Damaged { .. } => 3,
             JournalFault::Full => 4,
         }
@@ -110,7 +111,31 @@ impl From<DeviceFault> for JournalFault {
     fn from(fault: DeviceFault) -> JournalFault {
         match fault {
             DeviceFault::NoMemory => JournalFault::NoMemory,
-            DeviceFault::Failed => JournalFault::Failed,
+            DeviceFault::Failed(error) => JournalFault::Failed(error),
         }
+    }
+}
+
+/// Why a file isn't opened.
+#[derive(Clone, Copy, Debug, Drop, Error)]
+pub enum OpenFault {
+    /// A growth was refused memory.
+    #[error("out of memory")]
+    NoMemory,
+    /// Another open of the file has its lock.
+    #[error("in use by another process")]
+    InUse,
+    /// The system failed, with this error: the file or its directory isn't there, may not be read or written, or its disk failed.
+    #[error("{0}")]
+    Failed(#[from] io::Error),
+}
+
+impl From<AllocError> for OpenFault {
+    ghost use Rattle.fed_journal.specs.declared.faults.OpenFault.TheVariants.{NoMemory};
+
+    ghost from_gives = { λ _ r. r ≡ NoMemory };
+
+    fn from(_error: AllocError) -> OpenFault {
+        OpenFault::NoMemory
     }
 }

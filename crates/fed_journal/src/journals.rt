@@ -20,13 +20,13 @@ pub const MAX_BYTES: usize = 1 << 60;
 #[derive(Drop)]
 pub struct Journal<D: Device + Drop> {
     alloc: Global,
-    pub device: D,
-    /// How long the file is.
-    pub len: usize,
-    /// Where the closed gate stands, behind the last entry.
-    pub gate: usize,
-    /// The digest of the last entry.
-    pub digest: Digest,
+    device: D,
+    // how long the file is
+    len: usize,
+    // where the closed gate stands, behind the last entry
+    gate: usize,
+    // the digest of the last entry
+    digest: Digest,
 }
 
 /// What a journal had when it was opened.
@@ -62,7 +62,7 @@ fn read_contents<D: Device>(alloc: Global, device: &mut D) -> Result<Contents, J
     ensures same { D.seen device.new ≡ D.seen device.old }
     ensures durable { LeavesJust (D.seen device.new) (D.may_leave device.new) }
     ensures any_moment { LeavesOnly D.moment D.left_since device.old device.new (λ c. c ≡ D.seen device.old) }
-    ensures fault { IfErr result (StopsOpening (D.faults device.old) (D.faults device.new) (D.seen device.old)) }
+    ensures fault { IfErr result (StopsOpening (D.errors device.old) (D.errors device.new) (D.seen device.old)) }
 {
     let file = device.read(alloc)?;
     let read = read_lines(alloc, &file)?;
@@ -81,7 +81,7 @@ fn read_contents<D: Device>(alloc: Global, device: &mut D) -> Result<Contents, J
 }
 
 impl<D: Device + Drop> Journal<D> {
-    ghost use Rattle.fed_journal.specs.Journal.{IsBeforeOrAfter, IsRead, IsSettled, entries_in};
+    ghost use Rattle.fed_journal.specs.Journal.{IsBeforeOrAfter, IsRead, IsSettled, device_of, entries_in};
 
     /// Reads the journal of a file that the disk has, as after a crash, or of a new file, which is empty. Changes nothing:
     /// so the tail can be kept elsewhere before `repair` cuts it, and nothing is lost by a crash in between.
@@ -94,11 +94,11 @@ impl<D: Device + Drop> Journal<D> {
         ensures read { IfOk result (λ opened. IsRead D.seen D.may_leave opened.0 opened.1.tail.items) }
 
         // The file is as it was, and a crash at any moment of the call leaves it so.
-        ensures same { MatchResult result (λ opened. D.seen opened.0.device ≡ D.seen device) (λ unopened. D.seen unopened.device ≡ D.seen device) }
+        ensures same { MatchResult result (λ opened. D.seen (device_of opened.0) ≡ D.seen device) (λ unopened. D.seen unopened.device ≡ D.seen device) }
         ensures any_moment { MatchResult result
-            (λ opened. LeavesOnly D.moment D.left_since device opened.0.device (λ c. c ≡ D.seen device))
+            (λ opened. LeavesOnly D.moment D.left_since device (device_of opened.0) (λ c. c ≡ D.seen device))
             (λ unopened. LeavesOnly D.moment D.left_since device unopened.device (λ c. c ≡ D.seen device)) }
-        ensures fault { IfErr result (λ unopened. StopsOpening (D.faults device) (D.faults unopened.device) (D.seen device) unopened.fault) }
+        ensures fault { IfErr result (λ unopened. StopsOpening (D.errors device) (D.errors unopened.device) (D.seen device) unopened.fault) }
     {
         match read_contents(alloc, &mut device) {
             Ok(contents) => {
@@ -120,11 +120,11 @@ impl<D: Device + Drop> Journal<D> {
     pub fn repair(&mut self) -> Result<(), JournalFault>
         requires { (tail : List ℕ) × IsRead D.seen D.may_leave self.old tail }
         ensures settled { OnOk result (IsSettled D.seen D.may_leave self.new) }
-        ensures same { OnOk result (recovered (D.seen self.new.device) ≡ recovered (D.seen self.old.device)) }
+        ensures same { OnOk result (recovered (D.seen (device_of self.new)) ≡ recovered (D.seen (device_of self.old))) }
 
         // A crash at any moment of the call leaves the same entries.
-        ensures any_moment { LeavesOnly D.moment D.left_since self.old.device self.new.device (λ c. recovered c ≡ recovered (D.seen self.old.device)) }
-        ensures fault { IfErr result (StopsRepair (D.faults self.old.device) (D.faults self.new.device)) }
+        ensures any_moment { LeavesOnly D.moment D.left_since (device_of self.old) (device_of self.new) (λ c. recovered c ≡ recovered (D.seen (device_of self.old))) }
+        ensures fault { IfErr result (StopsRepair (D.errors (device_of self.old)) (D.errors (device_of self.new))) }
     {
         if self.len == 0 {
             put(&mut self.device, 0, b"-")?;
@@ -142,13 +142,13 @@ impl<D: Device + Drop> Journal<D> {
         requires settled { IsSettled D.seen D.may_leave self.old }
         requires lines { All IsLine (map (λ text. text.now) texts.now) }
         ensures acknowledged { OnOk result (IsSettled D.seen D.may_leave self.new) }
-        ensures appended { OnOk result (recovered (D.seen self.new.device) ≡ Ok (entries_in (D.seen self.old.device) ++ map (λ text. text.now) texts.now)) }
+        ensures appended { OnOk result (recovered (D.seen (device_of self.new)) ≡ Ok (entries_in (D.seen (device_of self.old)) ++ map (λ text. text.now) texts.now)) }
 
         // A crash at any moment of the call leaves the entries from before it, with the whole group or without any of it.
-        ensures any_moment { LeavesOnly D.moment D.left_since self.old.device self.new.device
-            (IsBeforeOrAfter (entries_in (D.seen self.old.device)) (map (λ text. text.now) texts.now)) }
-        ensures fault { IfErr result (StopsGroup (D.faults self.old.device) (D.faults self.new.device)
-            (length (at_rest (entries_in (D.seen self.old.device) ++ map (λ text. text.now) texts.now)))) }
+        ensures any_moment { LeavesOnly D.moment D.left_since (device_of self.old) (device_of self.new)
+            (IsBeforeOrAfter (entries_in (D.seen (device_of self.old))) (map (λ text. text.now) texts.now)) }
+        ensures fault { IfErr result (StopsGroup (D.errors (device_of self.old)) (D.errors (device_of self.new))
+            (length (at_rest (entries_in (D.seen (device_of self.old)) ++ map (λ text. text.now) texts.now)))) }
         ensures full { IsErrOf result JournalFault.Full → self.new ≡ self.old }
     {
         if texts.is_empty() {
@@ -167,5 +167,12 @@ impl<D: Device + Drop> Journal<D> {
         let digest = group.digest;
         self.digest = digest;
         Ok(())
+    }
+
+    /// Gives the device back.
+    pub fn into_device(self) -> D
+        ensures { result ≡ device_of self }
+    {
+        self.device
     }
 }

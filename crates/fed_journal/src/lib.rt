@@ -10,6 +10,8 @@ pub mod devices;
 pub mod digests;
 /// Why a disk or a journal fails.
 pub mod faults;
+/// Files on the machine's disk.
+pub mod files;
 /// Journals.
 pub mod journals;
 /// Laws of what files stand for.
@@ -20,12 +22,18 @@ pub mod lines;
 pub mod memory;
 /// Steps on a disk that end with a sync.
 mod steps;
+/// What a journal cuts.
+pub mod tails;
 
 pub use devices::Device;
-pub use faults::{DeviceFault, JournalFault};
+pub use faults::{DeviceFault, JournalFault, OpenFault};
+pub use files::FileDevice;
 pub use journals::{Journal, MAX_BYTES, Recovered, Unopened};
 pub use lines::{are_lines, is_line};
 pub use memory::{Memory, Tear};
+pub use tails::keep;
 
+#[cfg(test)]
+mod file_tests;
 #[cfg(test)]
 mod tests;

@@ -1,12 +1,14 @@
 //! A file in memory, for tests. It can be told to stop at a call, as a machine does that loses its power. Its disk then has
 //! what was synced last, and a part of what was changed since.
-ghost use Rattle.std.specs.Prelude.{◌≡◌, ◌≤◌, length, true, IfOk, reverse};
-ghost use Rattle.fed_journal.specs.Calls.{counts_now, faults_by, left_by, left_since, only_now, overlaid, seen_by};
+ghost use Rattle.std.specs.Prelude.{◌≡◌, ◌≤◌, [], ◌∷◌, ◌++◌, length, true, Err, IfOk, reverse};
+ghost use Rattle.std.specs.declared.io.Error.{Error};
+ghost use Rattle.fed_journal.specs.Calls.{counts_now, errors_by, left_by, left_since, only_now, overlaid, seen_by};
 
-use crate::calls::{Call, note};
+use crate::calls::{Call, Calls};
 use crate::devices::Device;
 use crate::faults::DeviceFault;
 use std::alloc::{AllocError, Global};
+use std::io;
 
 /// How much the disk has of the last change where a file stops before the sync of it.
 #[derive(Clone, Copy, PartialEq, Eq, Debug, Drop)]
@@ -25,7 +27,9 @@ pub struct Memory {
     bytes: Vec<u8>,
     // what a crash leaves for certain
     disk: Vec<u8>,
-    calls: Vec<Call>,
+    // the last change, until it is synced
+    change: Option<Call>,
+    calls: Calls,
     is_up: bool,
     // how many calls are done before it stops
     left: usize,
@@ -81,19 +85,24 @@ fn tear_change(
     tear: Tear,
 ) -> Result<Vec<u8>, AllocError> {
     match change {
-        Call::Wrote { at, bytes, .. } if *at <= disk.len() => {
+        Call::Wrote { at, bytes } if *at <= disk.len() => {
             tear_write(alloc, disk, *at, bytes, tear)
         }
-        Call::Resized { len, .. } if tear != Tear::Front(0) && *len <= disk.len() => {
+        Call::Resized { len } if tear != Tear::Front(0) && *len <= disk.len() => {
             disk[..*len].to_vec(alloc)
         }
         _ => disk.to_vec(alloc),
     }
 }
 
+/// Why a call fails in whose midst the file stops, or behind that.
+fn stopped() -> io::Error {
+    io::Error::other("the machine has stopped")
+}
+
 impl Memory {
     ghost use Rattle.fed_journal.specs.Device.{LeavesJust};
-    ghost use Rattle.fed_journal.specs.Memory.{memory_may_leave, memory_seen};
+    ghost use Rattle.fed_journal.specs.Memory.{calls_left, disk_of, is_running, memory_may_leave, memory_seen, tear_of};
 
     /// A file with these bytes, which doesn't stop.
     pub fn new(alloc: Global, bytes: &[u8]) -> Result<Memory, DeviceFault>
@@ -112,28 +121,42 @@ impl Memory {
     ) -> Result<Memory, DeviceFault>
         ensures bytes { IfOk result (λ file. memory_seen file ≡ bytes.now) }
         ensures durable { IfOk result (λ file. LeavesJust (memory_seen file) (memory_may_leave file)) }
+        ensures stop { IfOk result (λ file. (calls_left file ≡ left) × (tear_of file ≡ tear) × (is_running file ≡ true)) }
     {
-        let mut calls = Vec::new(alloc);
         let found = bytes.to_vec(alloc)?;
-        note(&mut calls, Call::Found { bytes: found })?;
         Ok(Memory {
             alloc,
             bytes: bytes.to_vec(alloc)?,
             disk: bytes.to_vec(alloc)?,
-            calls,
+            change: None,
+            calls: Calls::new().and(&Call::Found { bytes: found }, &Ok(())),
             is_up: true,
             left,
             tear,
         })
     }
 
+    /// Fails a call and each one behind it, and gives what the call says.
+    fn fail(&mut self, call: &Call) -> DeviceFault
+        ensures { (error : Error) × (result ≡ DeviceFault.Failed error) × (self.new.calls.items ≡ self.old.calls.items ++ (call.now, Err error) ∷ []) }
+    {
+        let error = stopped();
+        self.calls = self.calls.and(call, &Err(error));
+        self.is_up = false;
+        DeviceFault::Failed(error)
+    }
+
     /// What the disk has: nothing of a change after the last sync, but for the part of it that a stop left.
-    pub fn into_disk(self) -> Vec<u8> {
+    pub fn into_disk(self) -> Vec<u8>
+        ensures { result ≡ disk_of self }
+    {
         self.disk
     }
 
     /// Whether it has not stopped.
-    pub fn is_up(&self) -> bool {
+    pub fn is_up(&self) -> bool
+        ensures { result ≡ is_running self.now }
+    {
         self.is_up
     }
 }
@@ -147,7 +170,7 @@ impl Device for Memory {
 
     ghost left_since = { λ d t c. left_since (reverse d.calls.items) t c };
 
-    ghost faults = { λ d. faults_by (reverse d.calls.items) };
+    ghost errors = { λ d. errors_by (reverse d.calls.items) };
 
     ghost counts_now = { λ d t c le now. counts_now (reverse d.calls.items) t c le now };
 
@@ -155,77 +178,59 @@ impl Device for Memory {
 
     fn read(&mut self, alloc: Global) -> Result<Vec<u8>, DeviceFault> {
         if !self.is_up {
-            note(&mut self.calls, Call::Failed)?;
-            return Err(DeviceFault::Failed);
+            return Err(self.fail(&Call::Refused));
         }
         Ok(self.bytes.to_vec(alloc)?)
     }
 
     fn write_at(&mut self, at: usize, bytes: &[u8]) -> Result<(), DeviceFault> {
         if !self.is_up {
-            note(&mut self.calls, Call::Failed)?;
-            return Err(DeviceFault::Failed);
+            return Err(self.fail(&Call::Refused));
         }
-        let is_done = self.left > 0;
         let written = bytes.to_vec(self.alloc)?;
-        let call = Call::Wrote {
-            at,
-            bytes: written,
-            is_done,
-        };
-        if !is_done {
-            let disk = tear_change(self.alloc, &self.disk, &call, self.tear)?;
-            note(&mut self.calls, call)?;
-            self.is_up = false;
-            self.disk = disk;
-            return Err(DeviceFault::Failed);
+        let call = Call::Wrote { at, bytes: written };
+        if self.left == 0 {
+            self.disk = tear_change(self.alloc, &self.disk, &call, self.tear)?;
+            return Err(self.fail(&call));
         }
         let changed = overlay(self.alloc, &self.bytes, at, bytes)?;
-        note(&mut self.calls, call)?;
+        self.calls = self.calls.and(&call, &Ok(()));
         self.bytes = changed;
+        self.change = Some(call);
         self.left -= 1;
         Ok(())
     }
 
     fn cut(&mut self, len: usize) -> Result<(), DeviceFault> {
         if !self.is_up {
-            note(&mut self.calls, Call::Failed)?;
-            return Err(DeviceFault::Failed);
+            return Err(self.fail(&Call::Refused));
         }
-        let is_done = self.left > 0;
-        let call = Call::Resized { len, is_done };
-        if !is_done {
-            let disk = tear_change(self.alloc, &self.disk, &call, self.tear)?;
-            note(&mut self.calls, call)?;
-            self.is_up = false;
-            self.disk = disk;
-            return Err(DeviceFault::Failed);
+        let call = Call::Resized { len };
+        if self.left == 0 {
+            self.disk = tear_change(self.alloc, &self.disk, &call, self.tear)?;
+            return Err(self.fail(&call));
         }
-        note(&mut self.calls, call)?;
+        self.calls = self.calls.and(&call, &Ok(()));
         self.bytes.truncate(len);
+        self.change = Some(call);
         self.left -= 1;
         Ok(())
     }
 
     fn sync(&mut self) -> Result<(), DeviceFault> {
         if !self.is_up {
-            note(&mut self.calls, Call::Failed)?;
-            return Err(DeviceFault::Failed);
+            return Err(self.fail(&Call::Refused));
         }
-        let is_done = self.left > 0;
-        if !is_done {
-            let disk = match self.calls.last() {
-                Some(change) => tear_change(self.alloc, &self.disk, change, self.tear)?,
-                None => self.disk.to_vec(self.alloc)?,
-            };
-            note(&mut self.calls, Call::Flushed { is_done })?;
-            self.is_up = false;
-            self.disk = disk;
-            return Err(DeviceFault::Failed);
+        if self.left == 0 {
+            if let Some(change) = &self.change {
+                self.disk = tear_change(self.alloc, &self.disk, change, self.tear)?;
+            }
+            return Err(self.fail(&Call::Flushed));
         }
         let disk = self.bytes.to_vec(self.alloc)?;
-        note(&mut self.calls, Call::Flushed { is_done })?;
+        self.calls = self.calls.and(&Call::Flushed, &Ok(()));
         self.disk = disk;
+        self.change = None;
         self.left -= 1;
         Ok(())
     }

@@ -1,7 +1,7 @@
 //! Steps on a disk that end with a sync. Each goes out from a file that the disk has.
 ghost use Rattle.std.specs.Prelude.{◌≡◌, ◌≤◌, length, take, OnOk};
 ghost use Rattle.fed_journal.specs.Device.{Holds, LeavesJust, LeavesOnly, Shortened, Torn};
-ghost use Rattle.fed_journal.specs.Fault.{HasCause};
+ghost use Rattle.fed_journal.specs.Fault.{Tells};
 
 use crate::devices::Device;
 use crate::faults::DeviceFault;
@@ -13,7 +13,7 @@ pub(crate) fn put<D: Device>(device: &mut D, at: usize, bytes: &[u8]) -> Result<
     ensures written { OnOk result (Holds at bytes.now (D.seen device.old) (D.seen device.new)) }
     ensures durable { OnOk result (LeavesJust (D.seen device.new) (D.may_leave device.new)) }
     ensures any_moment { LeavesOnly D.moment D.left_since device.old device.new (Torn at bytes.now (D.seen device.old)) }
-    ensures cause { HasCause (D.faults device.old) (D.faults device.new) result }
+    ensures cause { Tells (D.errors device.old) (D.errors device.new) result }
 {
     device.write_at(at, bytes)?;
     device.sync()
@@ -26,7 +26,7 @@ pub(crate) fn shorten<D: Device>(device: &mut D, len: usize) -> Result<(), Devic
     ensures cut { OnOk result (D.seen device.new ≡ take len (D.seen device.old)) }
     ensures durable { OnOk result (LeavesJust (D.seen device.new) (D.may_leave device.new)) }
     ensures any_moment { LeavesOnly D.moment D.left_since device.old device.new (Shortened len (D.seen device.old)) }
-    ensures cause { HasCause (D.faults device.old) (D.faults device.new) result }
+    ensures cause { Tells (D.errors device.old) (D.errors device.new) result }
 {
     device.cut(len)?;
     device.sync()

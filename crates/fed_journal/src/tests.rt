@@ -3,8 +3,9 @@ ghost use Rattle.std.specs.Prelude.{List, ℕ};
 ghost use Rattle.fed_journal.specs.Journal.{IsRead};
 ghost use Rattle.fed_journal.specs.Memory.{memory_may_leave, memory_seen};
 
-use crate::{Device, Journal, JournalFault, Memory, Recovered, Tear, are_lines};
+use crate::{Device, DeviceFault, Journal, JournalFault, Memory, Recovered, Tear, are_lines};
 use std::alloc::Global;
+use std::io;
 use std::test::Fail;
 
 // By sha256sum: of sixteen zeros and the first text, and of the digits that this gives and the second.
@@ -113,7 +114,7 @@ fn is_told(alloc: Global, at: usize, byte: u8) -> Result<bool, JournalFault> {
         return Ok(true);
     }
     match opened(alloc, &file) {
-        Err(fault) => Ok(fault == JournalFault::Damaged { line }),
+        Err(fault) => Ok(matches!(fault, JournalFault::Damaged { line: told } if told == line)),
         Ok(recovered) => {
             let is_gate = byte == b'-' && FILE.get(at) == Some(&b'+');
             let entries = recovered.entries.len() as u64;
@@ -168,7 +169,7 @@ fn stopped(
         Err(unopened) => Ok((0, unopened.device.into_disk())),
         Ok((mut journal, _)) => {
             let groups = add_groups(&mut journal);
-            Ok((groups, journal.device.into_disk()))
+            Ok((groups, journal.into_device().into_disk()))
         }
     }
 }
@@ -242,12 +243,23 @@ fn a_write_that_was_not_synced_is_lost(rt: HostRuntime) -> Result<(), Fail> {
 fn a_fault_has_its_number(rt: HostRuntime) {
     let faults = [
         JournalFault::NoMemory,
-        JournalFault::Failed,
+        JournalFault::Failed(io::ErrorKind::StorageFull.into()),
         JournalFault::Damaged { line: 1 },
         JournalFault::Full,
     ];
     let numbers = faults.map(|fault| fault.number());
     assert_eq!(rt; numbers, [1, 2, 3, 4]);
+}
+
+// 28 is the system's number of a disk that is full.
+#[test]
+fn a_fault_says_the_cause(rt: HostRuntime) -> Result<(), Fail> {
+    let full = JournalFault::from(DeviceFault::Failed(io::Error::from_raw_os_error(28)));
+    let words = format!(in rt.alloc(); "{full}")?;
+    assert_eq!(rt; words.as_str(), "No space left on device (os error 28)");
+    let damaged = format!(in rt.alloc(); "{}", JournalFault::Damaged { line: 17 })?;
+    assert_eq!(rt; damaged.as_str(), "line 17 of the journal is damaged");
+    Ok(())
 }
 
 /// Opens a file, with a second trial where memory is refused.
