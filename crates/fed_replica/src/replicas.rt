@@ -65,7 +65,7 @@ impl Replica {
         }
     }
 
-    /// An equal replica, with its own memory.
+    /// An equal replica. The only error is `NoMemory`.
     pub fn copy(&self) -> Result<Replica, NoMemory>
         ensures { IfOk result (λ r. r ≡ self.now) }
     {
