@@ -1,13 +1,14 @@
 //! The desk of a job's origin.
-ghost use Rattle.std.specs.Prelude.{◌≡◌};
+ghost use Rattle.std.specs.Prelude.{◌≡◌, IsTrue};
+ghost use Rattle.fed_record.specs.JobRecord.{reads as reads_job};
+ghost use Rattle.fed_record.specs.Letter.{is_submitted};
 ghost use Rattle.fed_board.specs.Board.{reads};
+ghost use Rattle.fed_board.specs.View.{View};
 ghost use Rattle.fed_desk.specs.Desk.{decision, first_of, grant_refusals};
 
-use crate::cases::first_refusal;
 use crate::decisions::Decision;
-use crate::jobs::{is_barred, is_held_back, is_taken};
 use fed_board::Board;
-use fed_record::Refusal;
+use fed_record::{JobRecord, Refusal};
 use fed_stamp::{JobId, SiteId};
 
 /// Why the site `me` refuses to grant the job to the site `asker`: the first that applies of `UnknownJob`, `Gone`,
@@ -16,19 +17,10 @@ use fed_stamp::{JobId, SiteId};
 pub fn grant_refusal(board: &Board, me: SiteId, job: JobId, asker: SiteId) -> Option<Refusal>
     ensures { result ≡ first_of (grant_refusals (reads board.now) me job asker) }
 {
-    let Some(record) = board.job(job) else {
-        return Some(Refusal::UnknownJob);
-    };
-    first_refusal(&[
-        (record.is_gone(), Refusal::Gone),
-        (job.site() != me, Refusal::NotOrigin),
-        (is_held_back(record), Refusal::Held),
-        (is_barred(asker, record), Refusal::NotEligible),
-        (
-            is_taken(asker, record),
-            Refusal::TakenBy(record.holder().unwrap_or(asker)),
-        ),
-    ])
+    match decide(board, me, job, asker) {
+        Decision::Refused(refusal) => Some(refusal),
+        Decision::Grant | Decision::Yours => None,
+    }
 }
 
 /// What the site `me`, as the origin of the job, decides where the site `asker` asks for it: the first refusal that
@@ -37,11 +29,29 @@ pub fn grant_refusal(board: &Board, me: SiteId, job: JobId, asker: SiteId) -> Op
 pub fn decide(board: &Board, me: SiteId, job: JobId, asker: SiteId) -> Decision
     ensures { result ≡ decision (reads board.now) me job asker }
 {
-    if let Some(refusal) = grant_refusal(board, me, job, asker) {
-        return Decision::Refused(refusal);
-    }
     match board.job(job) {
-        Some(record) if record.is_granted_to(asker) => Decision::Yours,
-        _ => Decision::Grant,
+        Some(record) => decide_on(record, me, job, asker),
+        None => Decision::Refused(Refusal::UnknownJob),
+    }
+}
+
+/// What `decide` answers on each board that has this record for the job. It asks that the job is submitted, which holds
+/// of every record on a board.
+pub fn decide_on(found: &JobRecord, me: SiteId, job: JobId, asker: SiteId) -> Decision
+    requires { IsTrue (is_submitted (reads_job found.now)) }
+    ensures { (v : View) → v.job job ≡ reads_job found.now → result ≡ decision v me job asker }
+{
+    if found.is_gone() {
+        return Decision::Refused(Refusal::Gone);
+    }
+    if job.site() != me {
+        return Decision::Refused(Refusal::NotOrigin);
+    }
+    match found.holder() {
+        Some(site) if site == asker => Decision::Yours,
+        Some(site) => Decision::Refused(Refusal::TakenBy(site)),
+        None if found.is_held() => Decision::Refused(Refusal::Held),
+        None if !found.has_site(asker) => Decision::Refused(Refusal::NotEligible),
+        None => Decision::Grant,
     }
 }

@@ -7,9 +7,7 @@ pub mod cases;
 pub mod decisions;
 /// The desk of a job's origin.
 pub mod desks;
-/// What refusals look at of a job.
-mod jobs;
 
 pub use cases::first_refusal;
 pub use decisions::Decision;
-pub use desks::{decide, grant_refusal};
+pub use desks::{decide, decide_on, grant_refusal};

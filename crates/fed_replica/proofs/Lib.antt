@@ -10,4 +10,5 @@ pub mod FullScenes
 pub mod RemovedPairs
 pub mod LeastRefusals
 pub mod Unrefused
-pub mod DoneLaws
+pub mod StepLaws
+pub mod GrantAnswers

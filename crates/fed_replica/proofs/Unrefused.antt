@@ -1,7 +1,7 @@
 -- What holds where a command is not refused.
 use Rattle.std.specs.BTreeMap.{is_at}
 use Rattle.std.specs.Map.{lookup}
-use Rattle.std.specs.Prelude.{cond, is_some, IsSome, unwrap_or}
+use Rattle.std.specs.Prelude.{cond, IsSome, unwrap_or}
 use Rattle.std.proofs.Common.{◌≡◌, ℕ, Bool, true, false, Option, Some, None, refl, subst}
 use Rattle.std.proofs.lemmas.Bool.{not-false}
 use Rattle.fed_stamp.specs.Stamp.{StampValue}
@@ -17,8 +17,13 @@ use Rattle.fed_record.specs.Reservation.{ReservationView}
 use Rattle.fed_board.specs.Board.{BoardValue, HasJob, HasNamed, HasReservation, no_operation, reads}
 use Rattle.fed_board.specs.View.{View}
 use Rattle.fed_replica.specs.Answer.{effect}
-use Rattle.fed_replica.specs.Refusals.{is_standing, MayBeDone, refusals}
+use Rattle.fed_desk.specs.Desk.{first_of}
+use Rattle.fed_replica.specs.Refusals.{is_standing, refusals}
 use Rattle.fed_replica.proofs.Allowed.{AreClear, clear}
+
+-- no refusal of the table applies to the command, where somebody asks some site
+abbrev MayBeDone : View → Command → Type 0
+MayBeDone v command = (here : ℕ) × (who : Who) × (first_of (refusals v here who command) ≡ None)
 
 spared : (v : View) (command : Command) (d : MayBeDone v command) → AreClear (refusals v d.0 d.1 command)
 spared v command d = clear (refusals v d.0 d.1 command) d.2
@@ -87,8 +92,3 @@ named b who (Command.Begin job moment) body d e = is_body (HasNamed b) _ body e 
 named b who (Command.Finish job moment status) body d e = is_body (HasNamed b) _ body e (has_job b job (known_finish (reads b) job moment status d))
 named b who (Command.Reserve window) body d e = is_body (HasNamed b) _ body e tt
 named b who (Command.Cancel name) body d e = is_body (HasNamed b) _ body e (has_reservation b name (not-false _ (spared (reads b) (Command.Cancel name) d).1.0))
-
--- whether there is a value, where a test decides it
-pub some_if : (t : Bool) (a : Body) → t ≡ is_some (cond t (Some a) None)
-some_if true a = refl
-some_if false a = refl

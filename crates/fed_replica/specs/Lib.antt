@@ -7,3 +7,4 @@ pub mod Packet
 pub mod Replica
 pub mod Ranges
 pub mod Growth
+pub mod Step

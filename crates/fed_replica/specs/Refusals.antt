@@ -1,6 +1,6 @@
 -- Why a command is refused: the table of refusals. `ClockFull` for want of a counter stands in Answer, since it is
 -- looked for last and wherever an operation would be added.
-use Rattle.std.specs.Prelude.{◌≡◌, ℕ, Bool, false, not, ◌&&◌, ◌||◌, ◌==◌, nat_le, nat_lt, List, [], ◌∷◌, ◌++◌, Option, Some, None, is_some, is_none}
+use Rattle.std.specs.Prelude.{ℕ, Bool, false, not, ◌&&◌, ◌||◌, ◌==◌, nat_le, nat_lt, List, [], ◌∷◌, ◌++◌, Option, Some, None, is_some, is_none}
 use Rattle.fed_stamp.specs.declared.rosters.TheConstants.{MAX_NODES}
 use Rattle.fed_record.specs.declared.askers.Who.{Who}
 use Rattle.fed_record.specs.declared.commands.Command.{Command}
@@ -14,7 +14,7 @@ use Rattle.fed_record.specs.Letter.{is_granted, is_held, is_submitted}
 use Rattle.fed_record.specs.Reservation.{ReservationView}
 use Rattle.fed_board.specs.View.{View}
 use Rattle.fed_board.specs.declared.limits.TheConstants.{MAX_JOBS, MAX_RESERVATIONS}
-use Rattle.fed_desk.specs.Desk.{Case, first_of, grant_refusals}
+use Rattle.fed_desk.specs.Desk.{Case, grant_refusals}
 use Rattle.fed_record.specs.Letter.{is_gone, is_granted_to}
 use Rattle.fed_replica.specs.Origin.{jobs_of, reservations_of}
 use Rattle.fed_replica.specs.Permission.{is_operator, may_alter, may_hold_all}
@@ -88,7 +88,3 @@ refusals v here who (Command.Cancel name) =
     (not (is_operator who.role), Refusal.NotPermitted)
     ∷ (not (is_standing (v.reservation name)), Refusal.UnknownReservation)
     ∷ []
-
--- no refusal of the table applies to the command, where somebody asks some site
-abbrev pub MayBeDone : View → Command → Type 0
-MayBeDone v command = (here : ℕ) × (who : Who) × (first_of (refusals v here who command) ≡ None)

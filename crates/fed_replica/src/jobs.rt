@@ -1,10 +1,10 @@
 //! What is looked at of a job.
-ghost use Rattle.std.specs.Prelude.{◌≡◌, ◌&&◌, is_none};
+ghost use Rattle.std.specs.Prelude.{◌≡◌, ◌≤◌, ◌&&◌, is_none};
 ghost use Rattle.fed_record.specs.JobRecord.{reads};
 ghost use Rattle.fed_record.specs.Letter.{is_held};
 ghost use Rattle.fed_replica.specs.Answer.{term_in};
 
-use fed_record::JobRecord;
+use fed_record::{JobRecord, MAX_TERM};
 
 /// Whether a hold keeps the job from beginning.
 pub(crate) fn is_held_up(job: &JobRecord) -> bool
@@ -15,7 +15,8 @@ pub(crate) fn is_held_up(job: &JobRecord) -> bool
 
 /// The greatest term of the job's grants, or 0 where it has none.
 pub(crate) fn last_term(job: &JobRecord) -> u64
-    ensures { result ≡ term_in (reads job.now).grant }
+    ensures term { result ≡ term_in (reads job.now).grant }
+    ensures most { result ≤ MAX_TERM }
 {
     match job.grant() {
         Some(stage) => stage.term().get(),

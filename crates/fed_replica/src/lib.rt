@@ -1,10 +1,16 @@
 //! What a site answers to commands, and what it ships and takes.
 #![tactic(auto)]
 
+/// What a site does where a command comes.
+pub mod commands;
 /// That the counts which a board keeps are those that refusals look at.
 pub mod counts;
-/// What commands add.
+/// What operations take from the record of their job.
 pub mod effects;
+/// What is done where sites ask for something at a job.
+pub mod grant_steps;
+/// What is done where users ask for something at a job.
+pub mod job_steps;
 /// What is looked at of a job.
 pub mod jobs;
 /// Laws of what sites answer.
@@ -15,8 +21,10 @@ pub mod permissions;
 pub mod ranges;
 /// Replicas: the boards of sites, and what was heard from other sites.
 pub mod replicas;
-/// Why commands are refused.
-pub mod tables;
+/// What is done where a reservation is asked for.
+pub mod reservation_steps;
+/// What a site does next where it doesn't refuse a command.
+pub mod steps;
 /// Taken packets.
 pub mod taken;
 

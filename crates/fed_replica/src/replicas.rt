@@ -13,8 +13,8 @@ ghost use Rattle.fed_delta.specs.Cut.{cut};
 ghost use Rattle.fed_replica.specs.Answer.{answer_to};
 ghost use Rattle.fed_stamp.specs.Indexes.{put};
 
-use crate::effects::{adds, operation, reply_with, reply_without};
-use crate::tables::refusal;
+use crate::commands::next_step;
+use crate::steps::Step;
 use crate::taken::Taken;
 use fed_board::Board;
 use fed_delta::{Absorb, absorb, delta_since};
@@ -65,6 +65,25 @@ impl Replica {
         }
     }
 
+    /// An equal replica. The only error is `NoMemory`.
+    pub fn copy(&self) -> Result<Replica, NoMemory>
+        ensures { IfOk result (λ r. r ≡ self.now) }
+    {
+        Ok(Replica {
+            alloc: self.alloc,
+            site: self.site,
+            board: self.board.copy()?,
+            heard: self.heard,
+        })
+    }
+
+    /// The site.
+    pub fn site(&self) -> SiteId
+        ensures { result ≡ self.now.site }
+    {
+        self.site
+    }
+
     /// The board.
     pub fn board(&self) -> &Board
         ensures { result.now ≡ self.now.board }
@@ -89,16 +108,17 @@ impl Replica {
         ensures heard { self.new.heard ≡ self.old.heard }
         ensures unchanged { OnErr result (self.new ≡ self.old) }
     {
-        if let Some(refusal) = refusal(&self.board, self.site, who, command) {
-            return Err(refusal);
+        match next_step(self.alloc, &self.board, self.site, who, command)? {
+            Step::Adds {
+                at,
+                operation,
+                reply,
+            } => {
+                self.board.apply(at, &operation)?;
+                Ok(reply)
+            }
+            Step::Nothing(reply) => Ok(reply),
         }
-        if !adds(&self.board, command) {
-            return Ok(reply_without(command));
-        }
-        let at = self.board.version().next(self.site)?;
-        let operation = operation(self.alloc, &self.board, who, command)?;
-        self.board.apply(at, &operation)?;
-        Ok(reply_with(at, command))
     }
 
     /// The packet for the site: what the board tells that was not heard from there.

@@ -5,6 +5,9 @@
 /// The lines that answer a row.
 #[cfg(test)]
 mod answers;
+/// A copy of a replica.
+#[cfg(test)]
+mod copies;
 /// The library as docs/LIBRARY.md shows it.
 #[cfg(test)]
 mod library;

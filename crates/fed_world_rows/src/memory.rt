@@ -21,6 +21,13 @@ fn copied(rt: &impl Abort, board: &Board) -> Board {
     }
 }
 
+fn twin(rt: &impl Abort, replica: &Replica) -> Replica {
+    match replica.copy() {
+        Ok(copy) => copy,
+        Err(NoMemory) => replica.copy().expect(rt, "memory"),
+    }
+}
+
 fn moved(number: u8) -> Changes {
     Changes {
         name: None,
@@ -117,6 +124,8 @@ fn refused_growths_of_a_replica(rt: HostRuntime) {
     assert!(rt; !grown(&rt, &mut lemont, &packet));
     assert!(rt; *lemont.board() == *argonne.board());
     assert!(rt; lemont.heard(site(0)) == argonne.board().version());
+    let copy = twin(&rt, &lemont);
+    assert!(rt; *copy.board() == *argonne.board() && copy.heard(site(0)) == lemont.heard(site(0)));
 }
 
 fn new_world(alloc: Global, roster: &Roster) -> Result<World, NoMemory> {

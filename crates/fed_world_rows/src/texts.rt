@@ -7,7 +7,7 @@ use fed_world::World;
 use std::process::Abort;
 
 /// The text, in format 2, of a packet of site 0 that tells of one job, which nobody altered since ann submitted it there.
-const ONE_JOB: &str =
+pub(crate) const ONE_JOB: &str =
     "{\"format\":2,\"jobs\":[{\"account\":[\"\",[1,0]],\"deleted\":false,\"grant\":null,\"holds\":[],\"id\":[1,0],\
      \"limit\":[3600,[1,0]],\"name\":[\"STDIN\",[1,0]],\"nodes\":[1,[1,0]],\"owner\":[\"ann\",[1,0]],\
      \"priority\":[0,[1,0]],\"progress\":null,\"sites\":[[0,[1,0]],[1,[1,0]]],\

@@ -6,4 +6,4 @@ use Rattle.fed_replica.proofs.effects.replaced.Goals as goal
 
 pub returns-in-Some-clause-pairs : goal.returns-in-Some-clause-pairs
 returns-in-Some-clause-pairs c =
-    rw c.in-Some.is (IfOk-weaker c.site_pairs.result _ _ (λ v e. ap has_site_pair e ∙ sites_removed c.known.result.now.sites ∙ ap (λ j. j.sites) c.known.ensures.reads) c.site_pairs.ensures)
+    rw c.in-Some.is (IfOk-weaker c.site_pairs.result _ _ (λ v e. ap has_site_pair e ∙ sites_removed c.args.job.now.sites) c.site_pairs.ensures)

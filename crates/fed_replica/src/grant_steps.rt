@@ -1,0 +1,142 @@
+//! What is done where sites ask for something at a job: its grant, and what its holder does with it.
+ghost use Rattle.std.specs.Prelude.{◌≡◌, ℕ};
+ghost use Rattle.fed_record.specs.declared.askers.Who.{Who};
+ghost use Rattle.fed_record.specs.declared.commands.Command.{Command};
+ghost use Rattle.fed_board.specs.Board.{reads};
+ghost use Rattle.fed_replica.specs.Answer.{answer_to};
+ghost use Rattle.fed_replica.specs.Step.{answer_by};
+
+use crate::effects::{beginning, granted_term};
+use crate::jobs::{is_held_up, last_term};
+use crate::steps::{Step, next_stamp};
+use fed_board::Board;
+use fed_desk::{Decision, decide_on};
+use fed_record::{Ending, Moment, Operation, Refusal, Reply, Term};
+use fed_stamp::{JobId, SiteId};
+
+/// Grants the job to the site that asks, as the desk decides, unless the last term there is was handed back.
+#[tactic(auto, unfolding(crate::specs::Answer::answer_to))]
+pub(crate) fn grant(board: &Board, here: SiteId, job: JobId, asker: SiteId) -> Result<Step, Refusal>
+    ensures { (who : Who) → answer_by result ≡ answer_to (reads board.now) here who (Command.Grant job asker) }
+{
+    let Some(record) = board.job(job) else {
+        return Err(Refusal::UnknownJob);
+    };
+    match decide_on(record, here, job, asker) {
+        Decision::Refused(refusal) => return Err(refusal),
+        Decision::Yours => return Ok(Step::Nothing(Reply::Yours)),
+        Decision::Grant => {}
+    }
+    let Some(term) = Term::new(last_term(record) + 1) else {
+        return Err(Refusal::ClockFull);
+    };
+    let at = next_stamp(board, here)?;
+    Ok(Step::Adds {
+        at,
+        operation: Operation::Grant {
+            job,
+            site: asker,
+            term,
+        },
+        reply: Reply::Granted,
+    })
+}
+
+/// Hands the grant back.
+#[tactic(auto, unfolding(crate::specs::Answer::answer_to))]
+pub(crate) fn hand_back(board: &Board, here: SiteId, job: JobId) -> Result<Step, Refusal>
+    ensures { (who : Who) → answer_by result ≡ answer_to (reads board.now) here who (Command.HandBack job) }
+{
+    let Some(record) = board.job(job) else {
+        return Err(Refusal::UnknownJob);
+    };
+    if record.is_gone() {
+        return Err(Refusal::Gone);
+    }
+    if !record.is_granted_to(here) {
+        return Err(Refusal::NotGranted);
+    }
+    if record.progress().begun.is_some() {
+        return Err(Refusal::Begun);
+    }
+    let at = next_stamp(board, here)?;
+    Ok(Step::Adds {
+        at,
+        operation: Operation::HandBack {
+            job,
+            term: granted_term(record),
+        },
+        reply: Reply::Done,
+    })
+}
+
+/// Begins the job.
+#[tactic(auto, unfolding(crate::specs::Answer::answer_to))]
+pub(crate) fn begin(
+    board: &Board,
+    here: SiteId,
+    job: JobId,
+    moment: Moment,
+) -> Result<Step, Refusal>
+    ensures { (who : Who) → answer_by result ≡ answer_to (reads board.now) here who (Command.Begin job moment) }
+{
+    let Some(record) = board.job(job) else {
+        return Err(Refusal::UnknownJob);
+    };
+    if record.is_gone() {
+        return Err(Refusal::Gone);
+    }
+    if is_held_up(record) {
+        return Err(Refusal::Held);
+    }
+    if !record.is_granted_to(here) {
+        return Err(Refusal::NotGranted);
+    }
+    if record.progress().begun.is_some() {
+        return Err(Refusal::Begun);
+    }
+    let at = next_stamp(board, here)?;
+    Ok(Step::Adds {
+        at,
+        operation: Operation::Begin {
+            job,
+            beginning: beginning(record, moment),
+        },
+        reply: Reply::Done,
+    })
+}
+
+/// Finishes the job.
+#[tactic(auto, unfolding(crate::specs::Answer::answer_to))]
+pub(crate) fn finish(
+    board: &Board,
+    here: SiteId,
+    job: JobId,
+    moment: Moment,
+    status: u8,
+) -> Result<Step, Refusal>
+    ensures { (who : Who) →
+        answer_by result ≡ answer_to (reads board.now) here who (Command.Finish job moment status) }
+{
+    let Some(record) = board.job(job) else {
+        return Err(Refusal::UnknownJob);
+    };
+    if record.is_gone() {
+        return Err(Refusal::Gone);
+    }
+    if !record.is_granted_to(here) {
+        return Err(Refusal::NotGranted);
+    }
+    if record.progress().begun.is_none() {
+        return Err(Refusal::NotBegun);
+    }
+    let at = next_stamp(board, here)?;
+    Ok(Step::Adds {
+        at,
+        operation: Operation::Finish {
+            job,
+            ending: Ending { moment, status },
+        },
+        reply: Reply::Done,
+    })
+}
