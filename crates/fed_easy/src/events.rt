@@ -51,7 +51,7 @@ pub(crate) fn events_of(
     ensures events { IfOk result (λ events. AreEvents start bookings.now events.items) }
     ensures ascending { IfOk result (λ events. IsNonDecreasingBy (λ e. e.second) events.items) }
 {
-    let mut events = Vec::new(alloc);
+    let mut events = Vec::with_capacity(alloc, bookings.len())?;
     for booking in bookings {
         add_events(&mut events, start, *booking)?;
     }

@@ -34,13 +34,14 @@ pub(crate) fn profile_of(
     ensures tells { IfOk result (λ p. Tells p (use_at bookings.now)) }
 {
     let events = events_of(alloc, start, bookings)?;
-    let mut steps = Vec::new(alloc);
+    let count = events.len();
+    let mut steps = Vec::with_capacity(alloc, count)?;
     let mut nodes = 0;
     let mut first = 0;
     let mut closed = 0u128;
     let mut opened = 0u128;
-    for i in 0..events.len() {
-        let event = events[events.len() - 1 - i];
+    for i in 0..count {
+        let event = events[count - 1 - i];
         if event.second != first {
             steps.push(Step {
                 from: event.second,
