@@ -1,9 +1,14 @@
 -- Why a journal fails.
 use Rattle.std.specs.Prelude.{◌≡◌, ◌<◌, ℕ, List, ◌∷◌, Result, Ok, Err, ⊤}
+use Rattle.std.specs.IoError.{error_kind}
 use Rattle.std.specs.declared.io.Error.{Error}
+use Rattle.std.specs.declared.io.ErrorKind.{ErrorKind}
+use Rattle.std.specs.declared.io.ErrorKind.TheVariants.{OutOfMemory}
 use Rattle.fed_journal.specs.Lines.{recovered}
 use Rattle.fed_journal.specs.declared.faults.DeviceFault.{DeviceFault}
 use Rattle.fed_journal.specs.declared.faults.DeviceFault.TheVariants as device
+use Rattle.fed_journal.specs.declared.faults.OpenFault.{OpenFault}
+use Rattle.fed_journal.specs.declared.faults.OpenFault.TheVariants as opening
 use Rattle.fed_journal.specs.declared.journals.TheConstants.{MAX_BYTES}
 use Rattle.fed_journal.specs.declared.faults.JournalFault.{JournalFault}
 use Rattle.fed_journal.specs.declared.faults.JournalFault.TheVariants as journal
@@ -22,6 +27,14 @@ device_number_of (device.Failed error) = 2
 abbrev pub fault_of : DeviceFault → JournalFault
 fault_of device.NoMemory = journal.NoMemory
 fault_of (device.Failed error) = journal.Failed error
+
+-- why a file isn't opened where the system fails with this error: want of memory is told as such
+abbrev pub open_fault_by : ErrorKind → Error → OpenFault
+open_fault_by OutOfMemory error = opening.NoMemory
+open_fault_by _ error = opening.Failed error
+
+abbrev pub open_fault_of : Error → OpenFault
+open_fault_of error = open_fault_by (error_kind error) error
 
 -- what a device says where a call on its file is answered so
 abbrev pub told : {T : Type 0} → Result T Error → Result T DeviceFault

