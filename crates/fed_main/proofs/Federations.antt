@@ -6,7 +6,6 @@ use Rattle.fed_stamp.specs.Stamp.{StampValue}
 use Rattle.fed_board.specs.View.{View}
 use Rattle.fed_record.specs.declared.askers.Who.{Who}
 use Rattle.fed_record.specs.declared.commands.Command.{Command}
-use Rattle.fed_qstat.specs.Listing.{listing}
 use Rattle.fed_world.specs.declared.events.Event.{Event}
 use Rattle.fed_world.specs.declared.events.Event.TheVariants.{Do}
 use Rattle.fed_world.specs.declared.outcomes.Outcome.{Outcome}
@@ -14,14 +13,14 @@ use Rattle.fed_world.specs.Kept.{WorldValue}
 use Rattle.fed_world.specs.Run.{World, run, step}
 use Rattle.fed_world.proofs.Runs.{run-push}
 use Rattle.fed_main.specs.Federation.{reads}
-use Rattle.fed_main.specs.Outcome.{answer_line, outcome_text}
+use Rattle.fed_answers.specs.Listed.{listed}
+use Rattle.fed_answers.specs.Outcome.{answer_line, outcome_text}
 use Rattle.fed_script.specs.Line.{Line}
 use Rattle.fed_script.specs.LineSites.{HasSites}
-use Rattle.fed_main.specs.Script.{Answered, Script, State, after_commands, after_event, does, followed, later, lines_of, says}
+use Rattle.fed_main.specs.Script.{Answered, Script, State, after_commands, after_event, does, followed, later, says}
 
-pub listed : (text : List ℕ) (full want : Bool) (r s : List (List ℕ × ℕ)) (v w : View) (jobs : List StampValue) → text ≡ listing (lines_of want r) v jobs → full ≡ want → r ≡ s → v ≡ w → text ≡ listing (lines_of full s) w jobs
-listed text full want r s v w jobs e f g h =
-    e ∙ ap (λ l. listing (lines_of want l) v jobs) g ∙ ap (λ u. listing (lines_of want s) u jobs) h ∙ ap (λ b. listing (lines_of b s) w jobs) (sym f)
+pub listed_at : (text : List ℕ) (full : Bool) (r s : List (List ℕ × ℕ)) (v w : View) (jobs : List StampValue) → text ≡ listed full r v jobs → r ≡ s → v ≡ w → text ≡ listed full s w jobs
+listed_at text full r s v w jobs e f g = e ∙ ap (λ l. listed full l v jobs) f ∙ ap (λ u. listed full s u jobs) g
 
 -- the script with other events
 abbrev script : List (List ℕ × ℕ) → List Event → Script

@@ -3,8 +3,6 @@ pub mod Ends
 pub mod Fault
 pub mod Federation
 pub mod Live
-pub mod Outcome
-pub mod Planned
 pub mod Reading
 pub mod Said
 pub mod Reports

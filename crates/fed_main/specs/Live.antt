@@ -3,7 +3,7 @@ use Rattle.std.specs.Prelude.{◌≡◌, ℕ, ◌+◌, Bool, true, false, List, 
 use Rattle.std.specs.Io.KnownBytes.{Keeps}
 use Rattle.std.specs.Option.{option_and_then, option_map_or}
 use Rattle.std.specs.Str.Lines.{lines}
-use Rattle.fed_script.specs.Line.{Line as Told, begins, takes, compares, first_line_in, later_line_in}
+use Rattle.fed_script.specs.Line.{Line as Told, skips, begins, takes, compares, first_line_in, later_line_in}
 use Rattle.fed_main.specs.declared.fault.RunFault.{RunFault}
 use Rattle.fed_main.specs.declared.fault.RunFault.TheVariants.{Line, Read, Write, NoMemory, Close, Behind}
 
@@ -26,10 +26,20 @@ abbrev pub named_by : Sites → Told → Sites
 named_by sites (begins roster) = Some roster
 named_by sites line = sites
 
+-- does a thread of a site run it? Sites are named and lines skipped before a thread is started
+abbrev pub is_run : Option Told → Bool
+is_run None = false
+is_run (Some skips) = false
+is_run (Some (begins roster)) = false
+is_run (Some line) = is_live line
+
+-- the sites behind what a line says, where it can be run live
+abbrev pub sites_told : Sites → Option Told → Option Sites
+sites_told sites = option_and_then (λ line. if is_live line then Some (named_by sites line) else None)
+
 -- the sites behind a line that can be read
 abbrev pub sites_after : Sites → List ℕ → Option Sites
-sites_after sites bytes = option_and_then
-    (λ line. if is_live line then Some (named_by sites line) else None) (line_in sites bytes)
+sites_after sites bytes = sites_told sites (line_in sites bytes)
 
 -- the first of the lines that can't be read, where the first of them has the number n
 abbrev pub unread_from : ℕ → Sites → List (List ℕ) → Option ℕ

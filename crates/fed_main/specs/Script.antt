@@ -1,23 +1,17 @@
 -- What a line of a script does, and the text that answers it.
 use Rattle.std.specs.Prelude.{◌≡◌, ℕ, Bool, ◌&&◌, List, [], ◌∷◌, ◌++◌, codes, length, Option, Some, None, option_map, if◌then◌else◌}
-use Rattle.std.specs.Fmt.{decimal}
 use Rattle.fed_stamp.specs.Roster.{IsRoster}
-use Rattle.fed_stamp.specs.Stamp.{StampValue}
 use Rattle.fed_stamp.specs.Version.{is_below}
 use Rattle.fed_record.specs.declared.askers.Who.{Who}
 use Rattle.fed_record.specs.declared.commands.Command.{Command}
-use Rattle.fed_record.specs.JobView.{JobView}
 use Rattle.fed_board.specs.View.{View, view}
 use Rattle.fed_world.specs.declared.events.Event.{Event}
 use Rattle.fed_world.specs.declared.events.Event.TheVariants.{Do, Ship, Take}
 use Rattle.fed_world.specs.Run.{World, run, start, step}
-use Rattle.fed_words.specs.Fault.{fault_number}
-use Rattle.fed_qstat.specs.Full.{full_lines}
-use Rattle.fed_qstat.specs.Listing.{listing}
-use Rattle.fed_qstat.specs.Short.{short_line}
 use Rattle.fed_script.specs.Line.{Line, skips, begins, acts, lists, misuses, ships, takes, plans, compares, first_line_in, later_line_in}
-use Rattle.fed_main.specs.Outcome.{answer_line, outcome_text}
-use Rattle.fed_main.specs.Planned.{planned}
+use Rattle.fed_answers.specs.Outcome.{answer_line, outcome_text, usage_line}
+use Rattle.fed_answers.specs.Listed.{listed}
+use Rattle.fed_answers.specs.Planned.{planned}
 
 -- the sites, and the world of the run so far
 pub record Script : Type 0 where
@@ -60,10 +54,6 @@ after_commands s site who [] = says s []
 after_commands s site who (command ∷ commands) =
     followed (λ next. after_commands next site who commands) (after_event s (Do site who command))
 
--- how a listing shows a job
-abbrev pub lines_of : Bool → List (List ℕ × ℕ) → StampValue → JobView → List ℕ
-lines_of full roster = if full then full_lines roster else short_line roster
-
 -- the versions have the same counters
 abbrev pub same_version : List ℕ → List ℕ → Bool
 same_version v w = is_below v w && is_below w v
@@ -78,8 +68,8 @@ abbrev pub later : Script → Line → Answered Script
 later s skips = says s []
 later s (begins roster) = says s []
 later s (acts site who commands) = after_commands s site who commands
-later s (lists site full jobs) = says s (listing (lines_of full s.roster) (view_at s site) jobs)
-later s (misuses site fault) = says s (answer_line (codes "usage " ++ decimal (fault_number fault)))
+later s (lists site full jobs) = says s (listed full s.roster (view_at s site) jobs)
+later s (misuses site fault) = says s (usage_line fault)
 later s (ships site to) = after_event s (Ship site to)
 later s (takes site packet) = after_event s (Take site packet)
 later s (plans site moment) = says s (planned s.roster (view_at s site) site moment)

@@ -1,6 +1,5 @@
 -- What a thread of a site answers to the lines that ask the site.
 use Rattle.std.specs.Prelude.{◌≡◌, ℕ, ◌==◌, Bool, false, List, [], ◌∷◌, ◌++◌, codes, string_bytes}
-use Rattle.std.specs.Fmt.{decimal}
 use Rattle.std.specs.List.{filter}
 use Rattle.fed_record.specs.declared.askers.Who.{Who}
 use Rattle.fed_record.specs.declared.commands.Command.{Command}
@@ -9,12 +8,10 @@ use Rattle.fed_world.specs.declared.outcomes.Outcome.{Outcome}
 use Rattle.fed_threads.specs.declared.journal.Asked.TheVariants.{Do, Ship}
 use Rattle.fed_threads.specs.Calls.{AddsClaim, Looks}
 use Rattle.fed_threads.specs.Seat.{Known, known_by}
-use Rattle.fed_words.specs.Fault.{fault_number}
-use Rattle.fed_qstat.specs.Listing.{listing}
 use Rattle.fed_script.specs.Line.{Line, skips, begins, acts, lists, misuses, ships, takes, plans, compares}
-use Rattle.fed_main.specs.Outcome.{answer_line, outcome_text}
-use Rattle.fed_main.specs.Planned.{planned}
-use Rattle.fed_main.specs.Script.{lines_of}
+use Rattle.fed_answers.specs.Outcome.{answer_line, outcome_text, usage_line}
+use Rattle.fed_answers.specs.Listed.{listed}
+use Rattle.fed_answers.specs.Planned.{plan_text}
 use Rattle.fed_main.specs.declared.live_sites.Log.{Log}
 
 -- what a thread's seat knows, and what was answered so far
@@ -73,11 +70,11 @@ abbrev pub LineSays : List (List ℕ × ℕ) → ℕ → Line → Known → Know
 LineSays roster here skips = Only []
 LineSays roster here (begins sites) = Only []
 LineSays roster here (acts site who commands) = Each (Does roster here who) commands
-LineSays roster here (lists site full jobs) = Looked here (λ board. listing (lines_of full roster) board jobs)
-LineSays roster here (misuses site fault) = Only (answer_line (codes "usage " ++ decimal (fault_number fault)))
+LineSays roster here (lists site full jobs) = Looked here (λ board. listed full roster board jobs)
+LineSays roster here (misuses site fault) = Only (usage_line fault)
 LineSays roster here (ships site to) = MakesPacket here to
 LineSays roster here (takes site packet) = Only []
-LineSays roster here (plans site moment) = Looked here (λ board. planned roster board here moment)
+LineSays roster here (plans site moment) = Looked here (λ board. plan_text roster board here moment)
 LineSays roster here (compares site other) = Only []
 
 -- does the line ask the site?

@@ -1,24 +1,21 @@
 //! The federation of a script.
 ghost use Rattle.std.specs.Prelude.{◌≡◌, ◌<◌, [], ◌++◌, codes, IfOk, IfSome, MatchResult, length, option_map, None, Some, string_bytes};
 ghost use Rattle.std.specs.Cow.{cow_str_bytes};
-ghost use Rattle.std.specs.Fmt.{decimal};
 ghost use Rattle.fed_stamp.specs.Roster.{IsRoster};
 ghost use Rattle.fed_board.specs.Board.{reads as reads_board};
-ghost use Rattle.fed_qstat.specs.Listing.{listing};
 ghost use Rattle.fed_wire.specs.Limits.{IsWithinLimits};
 ghost use Rattle.fed_world.specs.declared.events.Event.TheVariants.{Do};
 ghost use Rattle.fed_script.specs.LineSites.{HasSites};
 ghost use Rattle.fed_script.specs.LineView.{said_by};
 ghost use Rattle.fed_main.specs.Federation.{reads};
-ghost use Rattle.fed_main.specs.Outcome.{answer_line, outcome_text};
-ghost use Rattle.fed_main.specs.Planned.{planned};
-ghost use Rattle.fed_main.specs.Script.{after_commands, after_event, answered, compared, does, later, lines_of, says, view_at};
+ghost use Rattle.fed_answers.specs.Outcome.{answer_line, outcome_text};
+ghost use Rattle.fed_answers.specs.Listed.{listed};
+ghost use Rattle.fed_answers.specs.Planned.{planned};
+ghost use Rattle.fed_main.specs.Script.{after_commands, after_event, answered, compared, does, later, says, view_at};
 
-use crate::answers::{Answer, outcome_line, usage_line};
-use crate::plans::site_plan_text;
+use fed_answers::{Answer, listing_text, outcome_line, plan_line, usage_line};
 use fed_board::Board;
 use fed_lattice::NoMemory;
-use fed_qstat::{full as list_in_full, list};
 use fed_record::{Command, Moment, Who};
 use fed_script::laws::lines_name_sites_of_the_roster;
 use fed_script::{HeldRoster, Line, read_later_line};
@@ -160,22 +157,18 @@ impl Federation {
     ) -> Result<String, NoMemory>
         requires { site < length self.now.roster }
         ensures { IfOk result (λ text. string_bytes text ≡
-            listing (lines_of is_full self.now.roster) (view_at (reads self.now) site) jobs.now) }
+            listed is_full self.now.roster (view_at (reads self.now) site) jobs.now) }
     {
-        if is_full {
-            list_in_full(alloc, self.board(site), self.roster(), jobs)
-        } else {
-            list(alloc, self.board(site), self.roster(), jobs)
-        }
+        listing_text(alloc, self.roster(), self.board(site), is_full, jobs)
     }
 
     /// A site plans its machine.
-    fn plan(&self, alloc: Global, site: SiteId, moment: Moment) -> Result<String, NoMemory>
+    fn plan(&self, alloc: Global, site: SiteId, moment: Moment) -> Result<Answer, NoMemory>
         requires { site < length self.now.roster }
-        ensures { IfOk result (λ text. string_bytes text ≡
+        ensures { IfOk result (λ text. cow_str_bytes text ≡
             planned self.now.roster (view_at (reads self.now) site) site moment) }
     {
-        site_plan_text(alloc, self.roster(), self.board(site), site, moment)
+        plan_line(alloc, self.roster(), self.board(site), site, moment)
     }
 
     /// Whether the boards of two sites are equal, which their versions tell.
@@ -213,7 +206,7 @@ impl Federation {
             Line::Misuse { fault, .. } => Ok(CowStr::Owned(usage_line(alloc, fault)?)),
             Line::Ship { site, to } => self.happen(alloc, &Event::Ship { site, to }),
             Line::Take { site, packet } => self.happen(alloc, &Event::Take { site, packet }),
-            Line::Plan { site, moment } => Ok(CowStr::Owned(self.plan(alloc, site, moment)?)),
+            Line::Plan { site, moment } => self.plan(alloc, site, moment),
             Line::Compare { site, other } => Ok(CowStr::Borrowed(self.compare(site, other))),
         }
     }

@@ -1,8 +1,6 @@
 //! Running the scripts of a federation of batch queues, line by line or the sites at the same time.
 #![tactic(auto)]
 
-/// The texts that answer events.
-mod answers;
 /// Why a run ends early.
 mod fault;
 /// The federation of a script.
@@ -15,8 +13,6 @@ mod live_lines;
 mod live_runs;
 /// What the threads of a site do.
 mod live_sites;
-/// The text of a site's plan.
-mod plans;
 /// Replaying a script: its lines run in order, each answered before the next one runs.
 mod run;
 /// Reading a script to its end.

@@ -1,6 +1,7 @@
 //! Reading the lines of a script that runs live.
-ghost use Rattle.std.specs.Prelude.{◌≡◌, IfOk, IfErr, None, Some, option_map, if◌then◌else◌};
-ghost use Rattle.fed_main.specs.Live.{TellsUnread, sites_after, unread};
+ghost use Rattle.std.specs.Prelude.{◌≡◌, IfOk, IfErr, OnErr, IsTrue, None, Some, option_map, if◌then◌else◌};
+ghost use Rattle.fed_script.specs.LineView.{said_by};
+ghost use Rattle.fed_main.specs.Live.{TellsUnread, is_run, sites_after, sites_told, unread};
 
 use crate::fault::RunFault;
 use fed_lattice::NoMemory;
@@ -25,6 +26,22 @@ impl LiveScript {
         LiveScript { sites: None, lines }
     }
 
+    /// Keeps what a line says. Whether a live run can do it: it can't do `take`, `equal`, and what can't be read.
+    fn keep(&mut self, line: Option<Line>) -> Result<bool, NoMemory>
+        ensures kept { IfOk result (λ is_read.
+            sites_told self.old.sites (option_map said_by line) ≡ (if is_read then Some self.new.sites else None)) }
+        // memory is wanted for a line alone that a thread runs
+        ensures err { OnErr result (IsTrue (is_run (option_map said_by line))) }
+    {
+        match line {
+            None | Some(Line::Take { .. } | Line::Compare { .. }) => return Ok(false),
+            Some(Line::Skip) => {}
+            Some(Line::Begin { roster }) => self.sites = Some(roster),
+            Some(line) => self.lines.push(line)?,
+        }
+        Ok(true)
+    }
+
     /// Reads a line. Whether it can be read: `take` and `equal` can't.
     fn read_line(&mut self, alloc: Global, bytes: &[u8]) -> Result<bool, NoMemory>
         ensures { IfOk result (λ is_read.
@@ -34,13 +51,7 @@ impl LiveScript {
             Some(roster) => read_later_line(alloc, roster.get(), 0, bytes)?,
             None => read_first_line(alloc, bytes)?,
         };
-        match line {
-            None | Some(Line::Take { .. } | Line::Compare { .. }) => return Ok(false),
-            Some(Line::Skip) => {}
-            Some(Line::Begin { roster }) => self.sites = Some(roster),
-            Some(line) => self.lines.push(line)?,
-        }
-        Ok(true)
+        self.keep(line)
     }
 }
 

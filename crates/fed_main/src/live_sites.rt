@@ -1,25 +1,18 @@
 //! What the threads of a site do.
 ghost use Rattle.std.specs.Prelude.{◌≡◌, ◌<◌, ◌≤◌, ◌++◌, [], IfOk, IfSome, IsNone, OnOk, None, codes, length, map, string_bytes};
-ghost use Rattle.std.specs.Fmt.{decimal};
 ghost use Rattle.std.specs.Result.{result_err};
 ghost use Rattle.fed_board.specs.Board.{reads as reads_board};
-ghost use Rattle.fed_qstat.specs.Listing.{listing};
 ghost use Rattle.fed_script.specs.LineView.{said_by};
 ghost use Rattle.fed_threads.specs.Calls.{Looks};
-ghost use Rattle.fed_threads.specs.Replay.{outcome_of as outcome_of_said};
 ghost use Rattle.fed_threads.specs.Seat.{known_by, starts};
-ghost use Rattle.fed_words.specs.Fault.{fault_number};
-ghost use Rattle.fed_main.specs.Outcome.{answer_line};
-ghost use Rattle.fed_main.specs.Script.{lines_of};
+ghost use Rattle.fed_answers.specs.Listed.{listed};
+ghost use Rattle.fed_answers.specs.Outcome.{usage_line as line_of_usage};
 ghost use Rattle.fed_main.specs.Thread.{asks as asks_site, reads, Answers, Does, Each, LineSays, Looked, MakesPacket, Only, ThreadSays};
-ghost use Rattle.fed_main.specs.Planned.{planned};
+ghost use Rattle.fed_answers.specs.Planned.{plan_text};
 
-use crate::answers::{outcome_line, usage_line};
-use crate::plans::copy_plan_text;
+use fed_answers::{listing_text, outcome_line, plan_line, usage_line};
 use fed_board::Board;
-use fed_lattice::NoMemory;
-use fed_qstat::{full as list_in_full, list};
-use fed_record::{Command, Moment, Refusal, Reply, Who};
+use fed_record::{Command, Moment, Who};
 use fed_script::Line;
 use fed_stamp::{JobId, Roster, SiteId};
 use fed_threads::{CallFault, Federation, Gate, Next, Seat};
@@ -76,34 +69,6 @@ fn asks(here: SiteId, line: &Line) -> bool
         | Line::Ship { site, .. }
         | Line::Plan { site, .. } => site.get() == here.get(),
         Line::Skip | Line::Begin { .. } | Line::Take { .. } | Line::Compare { .. } => false,
-    }
-}
-
-/// What came of a command.
-fn outcome_of(said: Result<Reply, Refusal>) -> Outcome
-    ensures { result ≡ outcome_of_said said }
-{
-    match said {
-        Ok(reply) => Outcome::Replied(reply),
-        Err(refusal) => Outcome::Refused(refusal),
-    }
-}
-
-/// The listing of a site's board.
-fn listing_text(
-    alloc: Global,
-    roster: &Roster,
-    board: &Board,
-    is_full: bool,
-    jobs: &[JobId],
-) -> Result<String, NoMemory>
-    ensures { IfOk result (λ text. string_bytes text ≡
-        listing (lines_of is_full roster.now) (reads_board board.now) jobs.now) }
-{
-    if is_full {
-        list_in_full(alloc, board, roster, jobs)
-    } else {
-        list(alloc, board, roster, jobs)
     }
 }
 
@@ -176,7 +141,7 @@ impl<'a, R: Wait, G: Gate> Place<'a, R, G> {
             .sites
             .federation
             .call(self.rt, self.here, who, command, &mut log.seat)?;
-        let answer = outcome_line(self.sites.alloc, self.sites.roster, outcome_of(said))?;
+        let answer = outcome_line(self.sites.alloc, self.sites.roster, Outcome::from(said))?;
         log.add(answer.as_str())?;
         Ok(())
     }
@@ -195,7 +160,7 @@ impl<'a, R: Wait, G: Gate> Place<'a, R, G> {
     /// The site lists jobs.
     fn list(&self, is_full: bool, jobs: &[JobId], log: &mut Log) -> Result<(), CallFault>
         ensures { OnOk result (Answers
-            (Looked self.now.here (λ board. listing (lines_of is_full self.now.sites.now.roster.now) board jobs.now))
+            (Looked self.now.here (λ board. listed is_full self.now.sites.now.roster.now board jobs.now))
             (reads log.old) (reads log.new)) }
     {
         let board = self.board(log)?;
@@ -208,11 +173,11 @@ impl<'a, R: Wait, G: Gate> Place<'a, R, G> {
     fn plan(&self, moment: Moment, log: &mut Log) -> Result<(), CallFault>
         requires { self.now.here < length self.now.sites.now.roster.now }
         ensures { OnOk result (Answers
-            (Looked self.now.here (λ board. planned self.now.sites.now.roster.now board self.now.here moment))
+            (Looked self.now.here (λ board. plan_text self.now.sites.now.roster.now board self.now.here moment))
             (reads log.old) (reads log.new)) }
     {
         let board = self.board(log)?;
-        let text = copy_plan_text(
+        let text = plan_line(
             self.sites.alloc,
             self.sites.roster,
             &board,
@@ -236,8 +201,7 @@ impl<'a, R: Wait, G: Gate> Place<'a, R, G> {
 
     /// Words of a utility ask nothing.
     fn misuse(&self, fault: UsageFault, log: &mut Log) -> Result<(), CallFault>
-        ensures { OnOk result (Answers (Only (answer_line (codes "usage " ++ decimal (fault_number fault))))
-            (reads log.old) (reads log.new)) }
+        ensures { OnOk result (Answers (Only (line_of_usage fault)) (reads log.old) (reads log.new)) }
     {
         let answer = usage_line(self.sites.alloc, fault)?;
         log.add(answer.as_str())?;

@@ -1,11 +1,13 @@
 //! What the lines of a script do, one after another.
-ghost use Rattle.std.specs.Prelude.{◌≡◌, IfOk, None, option_map};
+ghost use Rattle.std.specs.Prelude.{◌≡◌, IfOk, IsSome, OnErr, None, option_map};
 ghost use Rattle.std.specs.Cow.{cow_str_bytes};
+ghost use Rattle.std.specs.Option.{option_and_then};
 ghost use Rattle.fed_main.specs.Federation.{state_of};
-ghost use Rattle.fed_main.specs.Script.{answered, says};
+ghost use Rattle.fed_script.specs.LineView.{said_by};
+ghost use Rattle.fed_main.specs.Script.{answered, begun_by, does, says};
 
-use crate::answers::Answer;
 use crate::federation::Federation;
+use fed_answers::Answer;
 use fed_lattice::NoMemory;
 use fed_script::{Line, read_first_line};
 use std::alloc::Global;
@@ -26,13 +28,16 @@ impl Session {
         Session { federation: None }
     }
 
-    /// Runs a line where no line has named the sites yet.
-    fn run_first(&mut self, alloc: Global, bytes: &[u8]) -> Result<Option<Answer>, NoMemory>
+    /// Does what a line says that was read where no line has named the sites yet, and gives the text that answers it, or
+    /// `None` where the line can't be read.
+    fn begin(&mut self, alloc: Global, read: Option<Line>) -> Result<Option<Answer>, NoMemory>
         requires { self.old.federation ≡ None }
-        ensures { IfOk result (λ text. option_map (λ t. says (state_of self.new.federation) (cow_str_bytes t)) text ≡
-            answered None bytes.now) }
+        ensures ok { IfOk result (λ text. option_map (λ t. says (state_of self.new.federation) (cow_str_bytes t)) text ≡
+            option_map (does None) (option_map said_by read)) }
+        // memory is wanted where the sites are named, and nowhere else
+        ensures err { OnErr result (IsSome (option_and_then begun_by (option_map said_by read))) }
     {
-        match read_first_line(alloc, bytes)? {
+        match read {
             Some(Line::Begin { roster }) => {
                 self.federation = Some(Federation::new(alloc, roster)?);
                 Ok(Some(CowStr::Borrowed("")))
@@ -40,6 +45,16 @@ impl Session {
             Some(_) => Ok(Some(CowStr::Borrowed(""))),
             None => Ok(None),
         }
+    }
+
+    /// Runs a line where no line has named the sites yet.
+    fn run_first(&mut self, alloc: Global, bytes: &[u8]) -> Result<Option<Answer>, NoMemory>
+        requires { self.old.federation ≡ None }
+        ensures { IfOk result (λ text. option_map (λ t. says (state_of self.new.federation) (cow_str_bytes t)) text ≡
+            answered None bytes.now) }
+    {
+        let read = read_first_line(alloc, bytes)?;
+        self.begin(alloc, read)
     }
 
     /// Runs a line, and gives the text that answers it, or `None` where the line can't be read.

@@ -5,6 +5,7 @@ pub mod Refusals
 pub mod Answer
 pub mod Packet
 pub mod Replica
+pub mod State
 pub mod Ranges
 pub mod Growth
 pub mod Step

@@ -1,6 +1,9 @@
 //! Examples of scripts, over public calls alone. The crate has tests and nothing else.
 #![tactic(auto)]
 
+/// Worked scripts whose sites stand by themselves.
+#[cfg(test)]
+mod alone;
 /// Scripts in all forms that can be read: white space, comments, numbers at the ends of their ranges, values and
 /// reservations.
 #[cfg(test)]

@@ -1,4 +1,5 @@
 //! Worked scripts with plans, each as a whole.
+use crate::alone::is_said;
 use crate::memory::is_answered;
 
 // EASY backfill beside a head that waits for a running job.
@@ -128,24 +129,29 @@ head 2.argonne 1000010000000
 #[test]
 fn a_job_is_backfilled_beside_the_head(rt: HostRuntime) {
     assert!(rt; is_answered(rt.alloc(), BACKFILL, BACKFILLED));
+    assert!(rt; is_said(rt.alloc(), BACKFILL, BACKFILLED));
 }
 
 #[test]
 fn a_reservation_keeps_nodes_free(rt: HostRuntime) {
     assert!(rt; is_answered(rt.alloc(), RESERVATION, RESERVED));
+    assert!(rt; is_said(rt.alloc(), RESERVATION, RESERVED));
 }
 
 #[test]
 fn reservations_made_apart_both_stand(rt: HostRuntime) {
     assert!(rt; is_answered(rt.alloc(), TWO_RESERVATIONS, BOTH_RESERVED));
+    assert!(rt; is_said(rt.alloc(), TWO_RESERVATIONS, BOTH_RESERVED));
 }
 
 #[test]
 fn a_job_runs_on_in_the_extra_nodes(rt: HostRuntime) {
     assert!(rt; is_answered(rt.alloc(), EXTRA, EXTRA_ANSWERS));
+    assert!(rt; is_said(rt.alloc(), EXTRA, EXTRA_ANSWERS));
 }
 
 #[test]
 fn the_greatest_numbers_are_planned(rt: HostRuntime) {
     assert!(rt; is_answered(rt.alloc(), GREATEST, GREATEST_ANSWERS));
+    assert!(rt; is_said(rt.alloc(), GREATEST, GREATEST_ANSWERS));
 }

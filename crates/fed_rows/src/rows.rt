@@ -1,4 +1,5 @@
 //! Worked scripts with their answers, each as a whole.
+use crate::alone::is_said;
 use crate::memory::is_answered;
 
 // Two sites submit a job each at one counter, and exchange.
@@ -440,59 +441,71 @@ Job Id: 2.argonne
 #[test]
 fn jobs_of_one_counter(rt: HostRuntime) {
     assert!(rt; is_answered(rt.alloc(), EXCHANGE, EXCHANGED));
+    assert!(rt; is_said(rt.alloc(), EXCHANGE, EXCHANGED));
 }
 
 #[test]
 fn a_listing_of_no_job(rt: HostRuntime) {
     assert!(rt; is_answered(rt.alloc(), EMPTY, ""));
+    assert!(rt; is_said(rt.alloc(), EMPTY, ""));
 }
 
 #[test]
 fn the_site_breaks_a_tie(rt: HostRuntime) {
     assert!(rt; is_answered(rt.alloc(), ALTERATIONS, ALTERED));
+    assert!(rt; is_said(rt.alloc(), ALTERATIONS, ALTERED));
 }
 
 #[test]
 fn a_hold_that_a_release_has_not_seen(rt: HostRuntime) {
     assert!(rt; is_answered(rt.alloc(), HOLDS, HELD));
+    assert!(rt; is_said(rt.alloc(), HOLDS, HELD));
 }
 
 #[test]
 fn packets_that_repeat(rt: HostRuntime) {
     assert!(rt; is_answered(rt.alloc(), REPEATS, REPEATED));
+    assert!(rt; is_said(rt.alloc(), REPEATS, REPEATED));
 }
 
 #[test]
 fn a_late_packet_with_a_hold(rt: HostRuntime) {
     assert!(rt; is_answered(rt.alloc(), LATE, LATE_ANSWERS));
+    assert!(rt; is_said(rt.alloc(), LATE, LATE_ANSWERS));
 }
 
 #[test]
 fn a_packet_made_for_another_site(rt: HostRuntime) {
     assert!(rt; is_answered(rt.alloc(), ANOTHER, ANOTHER_ANSWERS));
+    assert!(rt; is_said(rt.alloc(), ANOTHER, ANOTHER_ANSWERS));
 }
 
 #[test]
 fn a_job_begins_where_it_is_granted(rt: HostRuntime) {
     assert!(rt; is_answered(rt.alloc(), GRANTS, GRANTED));
+    assert!(rt; is_said(rt.alloc(), GRANTS, GRANTED));
 }
 
 #[test]
 fn a_job_deleted_and_begun_at_once(rt: HostRuntime) {
     assert!(rt; is_answered(rt.alloc(), DELETION, DELETED));
+    assert!(rt; is_said(rt.alloc(), DELETION, DELETED));
 }
 
 #[test]
 fn roles_and_kinds_of_holds(rt: HostRuntime) {
     assert!(rt; is_answered(rt.alloc(), ROLES, ROLE_ANSWERS));
+    assert!(rt; is_said(rt.alloc(), ROLES, ROLE_ANSWERS));
 }
 
 #[test]
 fn a_grant_handed_back(rt: HostRuntime) {
     assert!(rt; is_answered(rt.alloc(), RETURN, RETURNED));
+    assert!(rt; is_said(rt.alloc(), RETURN, RETURNED));
 }
 
 #[test]
 fn accounts_in_full(rt: HostRuntime) {
     assert!(rt; is_answered(rt.alloc(), ACCOUNTS, ACCOUNT_ANSWERS));
+    assert!(rt; is_said(rt.alloc(), ACCOUNTS, ACCOUNT_ANSWERS));
 }

@@ -92,6 +92,11 @@ later_line roster made (first ∷ words) = if bytes_eq first (codes "equal")
     then two (site roster) (site roster) compares words
     else site roster first >>= λ here. site_line roster here made words
 
+-- what the words of a line say at a site by itself: they stand behind its name, and no packet has a number
+abbrev pub own_line : List (List ℕ × ℕ) → ℕ → Form Line
+own_line roster here [] = Some skips
+own_line roster here (word ∷ words) = site_line roster here 0 (word ∷ words)
+
 -- what they say where nothing stands before: the sites
 abbrev pub first_line : Form Line
 first_line [] = Some skips
@@ -117,3 +122,7 @@ first_line_in line = words_in line >>= first_line
 -- what they say behind it, once so many packets were made
 abbrev pub later_line_in : List (List ℕ × ℕ) → ℕ → List ℕ → Option Line
 later_line_in roster made line = words_in line >>= later_line roster made
+
+-- what they say at a site by itself
+abbrev pub own_line_in : List (List ℕ × ℕ) → ℕ → List ℕ → Option Line
+own_line_in roster here line = words_in line >>= own_line roster here

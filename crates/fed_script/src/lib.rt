@@ -22,4 +22,4 @@ mod verbs;
 
 pub use lines::split_line;
 pub use rosters::HeldRoster;
-pub use script_lines::{Line, read_first_line, read_later_line};
+pub use script_lines::{Line, read_first_line, read_later_line, read_own_line};

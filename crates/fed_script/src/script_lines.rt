@@ -3,7 +3,7 @@ ghost use Rattle.std.specs.Prelude.{◌≡◌, IfOk, IsErr, OnErr, option_map};
 ghost use Rattle.fed_words.specs.Fault.{answer_map};
 ghost use Rattle.fed_words.specs.Item.{words_of as texts_of};
 ghost use Rattle.fed_script.specs.Forms.{one, two};
-ghost use Rattle.fed_script.specs.Line.{act as act_of, asked_at, compares, first_line, first_line_in, is_comment as are_of_comment, later_line, later_line_in, plans, ships, site_line, takes, user_line, verb_line, words_in};
+ghost use Rattle.fed_script.specs.Line.{act as act_of, asked_at, compares, first_line, first_line_in, is_comment as are_of_comment, later_line, later_line_in, own_line, own_line_in, plans, ships, site_line, takes, user_line, verb_line, words_in};
 ghost use Rattle.fed_script.specs.LineView.{said_by};
 ghost use Rattle.fed_script.specs.Values.{moment as moment_of, packet as packet_of, site as site_of_roster};
 ghost use Rattle.fed_words.specs.Request.{request_in};
@@ -247,6 +247,21 @@ fn read_later_words(
     }
 }
 
+/// What the words of a line say at a site by itself.
+fn read_own_words(
+    alloc: Global,
+    roster: &Roster,
+    here: SiteId,
+    words: &[&str],
+) -> Result<Option<Line>, NoMemory>
+    ensures { IfOk result (λ line. option_map said_by line ≡ own_line roster.now here (texts_of words.now)) }
+{
+    if words.is_empty() {
+        return Ok(Some(Line::Skip));
+    }
+    read_site_line(alloc, roster, 0, here, words)
+}
+
 /// What the words of a line say where no line of a roster stands before.
 fn read_first_words(alloc: Global, words: &[&str]) -> Result<Option<Line>, NoMemory>
     ensures { IfOk result (λ line. option_map said_by line ≡ first_line (texts_of words.now)) }
@@ -310,6 +325,22 @@ pub fn read_later_line(
 {
     match told_words(alloc, line)? {
         Some(words) => read_later_words(alloc, roster, made, words.as_slice()),
+        None => Ok(None),
+    }
+}
+
+/// What a line says at a site by itself: what a script's line says that has the site's name in front, where no packet has
+/// a number. `None` where it can't be read.
+pub fn read_own_line(
+    alloc: Global,
+    roster: &Roster,
+    here: SiteId,
+    line: &[u8],
+) -> Result<Option<Line>, NoMemory>
+    ensures { IfOk result (λ said. option_map said_by said ≡ own_line_in roster.now here line.now) }
+{
+    match told_words(alloc, line)? {
+        Some(words) => read_own_words(alloc, roster, here, words.as_slice()),
         None => Ok(None),
     }
 }

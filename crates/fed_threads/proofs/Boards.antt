@@ -37,7 +37,8 @@ use Rattle.fed_threads.specs.declared.journal.Asked.TheVariants.{Do, Ship, Take}
 use Rattle.fed_threads.specs.declared.journal.Claim.{Claim}
 use Rattle.fed_threads.specs.declared.journal.Entry.{Entry}
 use Rattle.fed_threads.specs.Placing.{entry_at, with_next, placed_after}
-use Rattle.fed_threads.specs.Replay.{State, empty_at, after_answer, after_packet_unless, lacking, after_event, replay_from}
+use Rattle.fed_replica.specs.State.{State, empty_at, after_answer, after_packet_unless, lacking}
+use Rattle.fed_threads.specs.Replay.{after_event, replay_from}
 use Rattle.fed_threads.specs.Settle.{IsSettled, AreReplays}
 use Rattle.fed_threads.specs.Settled.{Point, starts, event_of, site_of, number_of, IsSentIf, HoldsPacket, Agrees, AgreesIf, AllAgree, with_entry, with_entry_if, after_next, point_after}
 use Rattle.fed_threads.proofs.Filling.{zeros_low}

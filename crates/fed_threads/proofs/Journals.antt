@@ -12,7 +12,8 @@ use Rattle.fed_world.specs.declared.outcomes.Outcome.{Outcome}
 use Rattle.fed_threads.specs.declared.journal.Asked.{Asked}
 use Rattle.fed_threads.specs.declared.journal.Asked.TheVariants.{Do, Ship, Take}
 use Rattle.fed_threads.specs.declared.journal.Entry.{Entry}
-use Rattle.fed_threads.specs.Replay.{State, IsState, empty_at, after_answer, after_packet_unless, lacking, after_event, outcome_at, replay_from, OutcomesHold, IsReplayed, Appends}
+use Rattle.fed_replica.specs.State.{State, IsState, empty_at, after_answer, after_packet_unless, lacking}
+use Rattle.fed_threads.specs.Replay.{after_event, outcome_at, replay_from, OutcomesHold, IsReplayed, Appends}
 
 answer_grows : (s : State) (a : Answer) → is_below s.view.version (after_answer s a).view.version ≡ true
 unfolding add_to_view

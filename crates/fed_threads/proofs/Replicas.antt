@@ -21,7 +21,9 @@ use Rattle.fed_world.proofs.Posts.{none_missing}
 use Rattle.fed_world.proofs.SentLaws.{first_missing}
 use Rattle.fed_threads.specs.declared.journal.Asked.TheVariants.{Do, Ship, Take}
 use Rattle.fed_threads.specs.declared.site.Receipt.{Receipt}
-use Rattle.fed_threads.specs.Replay.{State, IsState, IsReceiptOf, outcome_of_receipt, after_answer, outcome_of_answer, outcome_of, lacking, after_packet_unless, outcome_of_packet_unless}
+use Rattle.fed_replica.specs.State.{State, IsState, after_answer, lacking, after_packet_unless}
+use Rattle.fed_world.specs.Outcome.{outcome_of_answer, outcome_of, outcome_of_packet_unless}
+use Rattle.fed_threads.specs.Replay.{IsReceiptOf, outcome_of_receipt}
 use Rattle.fed_threads.proofs.Journals.{Does}
 
 -- ---- a command

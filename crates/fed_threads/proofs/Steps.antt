@@ -20,7 +20,9 @@ use Rattle.fed_threads.specs.declared.journal.Asked.{Asked}
 use Rattle.fed_threads.specs.declared.journal.Asked.TheVariants.{Do, Ship, Take}
 use Rattle.fed_threads.specs.declared.site.Receipt.{Receipt}
 use Rattle.fed_threads.specs.Calls.{Steps}
-use Rattle.fed_threads.specs.Replay.{State, after_answer, outcome_of_answer, outcome_of_receipt, lacking, after_packet_unless, outcome_of_packet_unless, after_event, outcome_at, Kept, replay, Appends}
+use Rattle.fed_replica.specs.State.{State, after_answer, lacking, after_packet_unless}
+use Rattle.fed_world.specs.Outcome.{outcome_of_answer, outcome_of_packet_unless}
+use Rattle.fed_threads.specs.Replay.{outcome_of_receipt, after_event, outcome_at, Kept, replay, Appends}
 use Rattle.fed_threads.specs.Seat.{Known, claimed, version_of, IsUpToDate, Covers, NamesSite}
 use Rattle.fed_threads.proofs.Journals.{event_grows}
 

@@ -1,69 +1,18 @@
 -- A site's journal, run again from the site's empty replica.
-use Rattle.std.specs.Prelude.{◌≡◌, ℕ, ◌+◌, ◌<◌, not, replicate, List, [], ◌∷◌, ◌++◌, length, Option, Some, None, Result, Ok, Err}
+use Rattle.std.specs.Prelude.{◌≡◌, ℕ, ◌+◌, ◌<◌, List, [], ◌∷◌, ◌++◌, length, Option, Some, None, Result, Ok, Err}
 use Rattle.fed_stamp.specs.declared.sites.TheConstants.{SITES}
-use Rattle.fed_stamp.specs.Indexes.{put}
-use Rattle.fed_stamp.specs.Version.{is_below, joined, met}
-use Rattle.fed_record.specs.declared.refusals.Refusal.{Refusal}
-use Rattle.fed_record.specs.declared.replies.Reply.{Reply}
-use Rattle.fed_board.specs.Board.{reads}
-use Rattle.fed_board.specs.View.{View, view}
-use Rattle.fed_board.specs.ViewSteps.{add_to_view, join_records}
 use Rattle.fed_delta.specs.declared.faults.Absorb.{Absorb}
-use Rattle.fed_delta.specs.Cut.{cut}
 use Rattle.fed_wire.specs.Packet.{PacketValue}
 use Rattle.fed_replica.specs.declared.taken.Taken.{Taken}
-use Rattle.fed_replica.specs.Answer.{Answer, Answer.Refuses, Answer.Replies, answer_to}
-use Rattle.fed_replica.specs.Packet.{missing}
-use Rattle.fed_replica.specs.Replica.{ReplicaValue, heard_from}
+use Rattle.fed_replica.specs.Answer.{answer_to}
+use Rattle.fed_replica.specs.Replica.{ReplicaValue}
+use Rattle.fed_replica.specs.State.{State, IsState, empty_at, after_answer, lacking, after_packet_unless}
 use Rattle.fed_world.specs.declared.outcomes.Outcome.{Outcome}
+use Rattle.fed_world.specs.Outcome.{outcome_of_answer, outcome_of_packet_unless}
 use Rattle.fed_threads.specs.declared.journal.Asked.{Asked}
 use Rattle.fed_threads.specs.declared.journal.Asked.TheVariants.{Do, Ship, Take}
 use Rattle.fed_threads.specs.declared.journal.Entry.{Entry}
 use Rattle.fed_threads.specs.declared.site.Receipt.{Receipt}
-
--- what is read of a replica: its site, its board, and of each site the version that was heard from it
-pub record State : Type 0 where
-  pub site : ℕ
-  pub view : View
-  pub heard : ℕ → List ℕ
-
--- a replica reads as the state
-pub record IsState (r : ReplicaValue) (s : State) : Type 0 where
-  pub site : r.site ≡ s.site
-  pub board : reads r.board ≡ s.view
-  pub heard : (from : ℕ) → from < SITES → heard_from r from ≡ s.heard from
-
--- a site's empty replica
-abbrev pub empty_at : ℕ → State
-empty_at site = record { site = site; view = view []; heard = λ from. replicate SITES 0 }
-
--- what an answer to a command leaves
-abbrev pub after_answer : State → Answer → State
-after_answer s (Refuses refusal) = s
-after_answer s (Replies reply None) = s
-after_answer s (Replies reply (Some new)) = record { site = s.site; view = add_to_view s.view new; heard = s.heard }
-
-abbrev pub outcome_of_answer : Answer → Outcome
-outcome_of_answer (Refuses refusal) = Outcome.Refused refusal
-outcome_of_answer (Replies reply new) = Outcome.Replied reply
-
--- what a packet leaves, where the replica lacks something or nothing of what the packet needs
-abbrev pub after_packet_unless : Option ℕ → State → PacketValue → State
-after_packet_unless (Some lacks) s p = s
-after_packet_unless None s p = record {
-  site = s.site;
-  view = join_records s.view (reads p.delta.changes);
-  heard = put s.heard p.sender (joined (s.heard p.sender) p.delta.changes.version);
-}
-
-abbrev pub outcome_of_packet_unless : Option ℕ → State → PacketValue → Outcome
-outcome_of_packet_unless (Some lacks) s p = Outcome.Gap lacks
-outcome_of_packet_unless None s p =
-    Outcome.Taken (record { grew = not (is_below p.delta.changes.version s.view.version) })
-
--- the least site of which the packet needs more than the replica has
-abbrev pub lacking : State → PacketValue → Option ℕ
-lacking s p = missing p.delta.need s.view.version
 
 -- what an entry leaves of a replica; a take is of the packet that the entry holds
 abbrev pub after_event : State → Asked → Option PacketValue → State
@@ -110,11 +59,6 @@ pub record Appends (old new : Kept) (asked : Asked) (packet : Option PacketValue
   pub answer : outcome ≡ outcome_at (replay old) (length old.entries) asked packet
   pub state : replay new ≡ after_event (replay old) asked packet
 
--- what `act` says, as an outcome
-abbrev pub outcome_of : Result Reply Refusal → Outcome
-outcome_of (Ok reply) = Outcome.Replied reply
-outcome_of (Err refusal) = Outcome.Refused refusal
-
 abbrev pub outcome_of_receipt : Receipt → Outcome
 outcome_of_receipt (Receipt.Taken taken) = Outcome.Taken taken
 outcome_of_receipt (Receipt.Gap lacks) = Outcome.Gap lacks
@@ -124,10 +68,3 @@ abbrev pub IsReceiptOf : Result Taken Absorb → Receipt → Type 0
 IsReceiptOf (Ok taken) receipt = receipt ≡ Receipt.Taken taken
 IsReceiptOf (Err (Absorb.Gap lacks)) receipt = (receipt ≡ Receipt.Gap lacks) × (lacks < SITES)
 IsReceiptOf (Err Absorb.NoMemory) receipt = ⊥
-
--- the packet is what the replica tells of what it hasn't heard from a site
-pub record IsMadeFor (s : State) (to : ℕ) (p : PacketValue) : Type 0 where
-  pub sender : p.sender ≡ s.site
-  pub need : p.delta.need ≡ met (s.heard to) s.view.version
-  pub reached : p.delta.changes.version ≡ s.view.version
-  pub cut_is : reads p.delta.changes ≡ cut s.view p.delta.need

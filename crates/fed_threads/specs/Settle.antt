@@ -14,7 +14,8 @@ use Rattle.fed_threads.specs.declared.journal.Entry.{Entry}
 use Rattle.fed_threads.specs.declared.seat.Seat.{Seat}
 use Rattle.fed_threads.specs.Claims.{HasOutcome, HoldsIfAny, HoldsThere, OnceAtMost, OnceAtLeast, FailsFirst}
 use Rattle.fed_threads.specs.Placing.{entry_at, is_ready, none_placed, placed_after, with_next, IsPlacing}
-use Rattle.fed_threads.specs.Replay.{empty_at, replay_from}
+use Rattle.fed_replica.specs.State.{empty_at}
+use Rattle.fed_threads.specs.Replay.{replay_from}
 use Rattle.fed_threads.specs.Settled.{starts, shown, AllAgree, NextAgrees, point_after}
 
 -- no entry is left out

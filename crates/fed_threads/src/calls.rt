@@ -3,7 +3,9 @@ ghost use Rattle.std.specs.Prelude.{◌≡◌, ◌≢◌, Ok, Err, IfOk, OnErr, 
 ghost use Rattle.fed_board.specs.Board.{reads};
 ghost use Rattle.fed_record.specs.declared.refusals.Refusal.{Refusal};
 ghost use Rattle.fed_threads.specs.Calls.{IsFaultOf, Steps, LooksAt};
-ghost use Rattle.fed_threads.specs.Replay.{replay, outcome_of, outcome_of_receipt, IsMadeFor};
+ghost use Rattle.fed_replica.specs.State.{IsMadeFor};
+ghost use Rattle.fed_world.specs.Outcome.{outcome_of};
+ghost use Rattle.fed_threads.specs.Replay.{replay, outcome_of_receipt};
 ghost use Rattle.fed_threads.specs.Seat.{known_by};
 ghost use Rattle.fed_threads.specs.declared.journal.Asked.TheVariants.{Do, Ship, Take};
 ghost use Rattle.fed_world.specs.declared.outcomes.Outcome.TheVariants as Outcome;

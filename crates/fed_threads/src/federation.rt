@@ -4,7 +4,7 @@ ghost use Rattle.fed_stamp.specs.declared.sites.TheConstants.{SITES};
 ghost use Rattle.fed_board.specs.Board.{reads};
 ghost use Rattle.fed_record.specs.declared.refusals.Refusal.{Refusal};
 ghost use Rattle.fed_threads.specs.Calls.{AddsClaim, OnlyBehind, Looks, MeetsNext};
-ghost use Rattle.fed_threads.specs.Replay.{outcome_of};
+ghost use Rattle.fed_world.specs.Outcome.{outcome_of};
 ghost use Rattle.fed_threads.specs.Seat.{known_by, starts};
 ghost use Rattle.fed_threads.specs.declared.fault.CallFault.TheVariants as CallFault;
 ghost use Rattle.fed_threads.specs.declared.journal.Asked.TheVariants.{Do, Ship, Take};

@@ -4,3 +4,4 @@ pub mod Kept
 pub mod Grants
 pub mod Exchange
 pub mod Ranges
+pub mod Outcome

@@ -1,5 +1,5 @@
 use Rattle.std.specs.Prelude.{None}
-use Rattle.fed_threads.specs.Replay.{outcome_of}
+use Rattle.fed_world.specs.Outcome.{outcome_of}
 use Rattle.fed_threads.specs.declared.journal.Asked.TheVariants.{Do}
 use Rattle.fed_threads.specs.Seat.{known_by}
 use Rattle.fed_threads.proofs.Steps.{steps}

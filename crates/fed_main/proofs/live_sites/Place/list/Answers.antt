@@ -1,13 +1,12 @@
 use Rattle.std.proofs.Common.{◌∙◌}
 use Rattle.fed_board.specs.Board.{reads as reads_board}
-use Rattle.fed_qstat.specs.Listing.{listing}
-use Rattle.fed_main.specs.Script.{lines_of}
+use Rattle.fed_answers.specs.Listed.{listed}
 use Rattle.fed_main.specs.Thread.{Looked}
 use Rattle.fed_main.proofs.Threads.{Answers-one}
 use Rattle.fed_main.proofs.live_sites.Place.list.Goals as goal
 
 pub returns : goal.returns
 returns g c =
-    Answers-one (Looked c.args.self.now.here (λ board. listing (lines_of c.args.is_full c.args.self.now.sites.now.roster.now) board c.args.jobs.now)) _ _ _ _ _ _
+    Answers-one (Looked c.args.self.now.here (λ board. listed c.args.is_full c.args.self.now.sites.now.roster.now board c.args.jobs.now)) _ _ _ _ _ _
     (record { board = reads_board c.in_ok-board.board; looks = c.in_ok-board.ensures.looks; told = c.as_str.ensures.value ∙ c.in_ok-text.ensures })
     c.board.ensures.text c.in_ok-add.ensures

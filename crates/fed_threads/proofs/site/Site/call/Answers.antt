@@ -2,7 +2,7 @@ use Rattle.std.specs.Prelude.{None}
 use Rattle.std.proofs.Common.{List, ◌++◌, ◌∷◌, [], length, ap, sym, subst, ◌∙◌}
 use Rattle.fed_threads.specs.declared.journal.Asked.TheVariants.{Do}
 use Rattle.fed_threads.specs.declared.journal.Entry.{Entry}
-use Rattle.fed_threads.specs.Replay.{outcome_of}
+use Rattle.fed_world.specs.Outcome.{outcome_of}
 use Rattle.fed_threads.proofs.Journals.{Does, replayed_more, appends}
 use Rattle.fed_threads.proofs.Replicas.{does_command}
 use Rattle.fed_threads.proofs.site.Site.call.Goals as goal

@@ -1,10 +1,8 @@
-//! The texts that answer events.
-ghost use Rattle.std.specs.Prelude.{◌≡◌, ◌++◌, codes, IfOk, string_bytes};
+//! The texts that answer events and misused words.
+ghost use Rattle.std.specs.Prelude.{◌≡◌, IfOk, string_bytes};
 ghost use Rattle.std.specs.Cow.{cow_str_bytes};
-ghost use Rattle.std.specs.Fmt.{decimal};
-ghost use Rattle.fed_words.specs.Fault.{fault_number};
 ghost use Rattle.fed_world.specs.declared.outcomes.Outcome.TheVariants.{Gap};
-ghost use Rattle.fed_main.specs.Outcome.{answer_line, outcome_text as text_of_outcome, reply_text as text_of_reply};
+ghost use Rattle.fed_answers.specs.Outcome.{answer_line, outcome_text as text_of_outcome, reply_text as text_of_reply, usage_line as line_of_usage};
 
 use fed_qstat::{identifier_text, site_text};
 use fed_record::Reply;
@@ -14,8 +12,8 @@ use fed_world::Outcome;
 use std::alloc::{AllocError, Global};
 use std::borrow::CowStr;
 
-/// The text that answers a line of a script.
-pub(crate) type Answer = CowStr<'static>;
+/// The text that answers a line.
+pub type Answer = CowStr<'static>;
 
 /// A text, and the end of the line behind it.
 fn ended(text: String) -> Result<Answer, AllocError>
@@ -48,11 +46,7 @@ fn gap_line(alloc: Global, roster: &Roster, site: SiteId) -> Result<Answer, Allo
 }
 
 /// The line that answers an event. One that is the same for all events of its kind takes no memory.
-pub(crate) fn outcome_line(
-    alloc: Global,
-    roster: &Roster,
-    outcome: Outcome,
-) -> Result<Answer, AllocError>
+pub fn outcome_line(alloc: Global, roster: &Roster, outcome: Outcome) -> Result<Answer, AllocError>
     ensures { IfOk result (λ line. cow_str_bytes line ≡ answer_line (text_of_outcome roster.now outcome)) }
 {
     match outcome {
@@ -73,9 +67,8 @@ pub(crate) fn outcome_line(
 }
 
 /// The line that answers words of a utility that ask nothing.
-pub(crate) fn usage_line(alloc: Global, fault: UsageFault) -> Result<String, AllocError>
-    ensures { IfOk result (λ text. string_bytes text ≡
-        answer_line (codes "usage " ++ decimal (fault_number fault))) }
+pub fn usage_line(alloc: Global, fault: UsageFault) -> Result<String, AllocError>
+    ensures { IfOk result (λ text. string_bytes text ≡ line_of_usage fault) }
 {
     let number = fault.number();
     format!(in alloc; "usage {number}\n")

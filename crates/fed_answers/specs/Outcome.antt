@@ -1,10 +1,12 @@
--- The texts that answer events.
+-- The texts that answer events and misused words.
 use Rattle.std.specs.Prelude.{ℕ, List, [], ◌∷◌, ◌++◌, codes, if◌then◌else◌}
 use Rattle.std.specs.Fmt.{decimal}
 use Rattle.fed_record.specs.declared.replies.Reply.{Reply}
 use Rattle.fed_record.specs.declared.replies.Reply.TheVariants.{Submitted, Done, Granted, Yours, Reserved}
 use Rattle.fed_record.specs.Refusal.{number_of}
 use Rattle.fed_world.specs.declared.outcomes.Outcome.{Outcome}
+use Rattle.fed_words.specs.declared.faults.UsageFault.{UsageFault}
+use Rattle.fed_words.specs.Fault.{fault_number}
 use Rattle.fed_qstat.specs.Identifier.{identifier_text, site_text}
 
 -- a text and a line feed
@@ -27,3 +29,7 @@ outcome_text roster (Outcome.Taken taken) = if taken.grew then codes "taken" els
 outcome_text roster (Outcome.Gap site) = codes "gap " ++ site_text roster site
 outcome_text roster Outcome.NoPacket = codes "no packet"
 outcome_text roster Outcome.NoSite = codes "no site"
+
+-- the line that answers words of a utility that ask nothing
+abbrev pub usage_line : UsageFault → List ℕ
+usage_line fault = answer_line (codes "usage " ++ decimal (fault_number fault))

@@ -1,10 +1,11 @@
 -- What is said to a line that asks a site for its plan.
-use Rattle.std.specs.Prelude.{ℕ, List}
+use Rattle.std.specs.Prelude.{ℕ, List, codes, is_none, if◌then◌else◌}
 use Rattle.fed_stamp.specs.Roster.{nodes_at}
 use Rattle.fed_board.specs.View.{View}
-use Rattle.fed_easy.specs.Machine.{MachineValue, running_in}
+use Rattle.fed_easy.specs.Machine.{MachineValue, first_fault, running_in}
 use Rattle.fed_easy.specs.SitePlan.{site_plan}
 use Rattle.fed_qstat.specs.PlanText.{plan_lines}
+use Rattle.fed_answers.specs.Outcome.{answer_line}
 
 -- the machine of a site: the roster's nodes, and what is read to run there
 abbrev pub machine_in : List (List ℕ × ℕ) → View → ℕ → MachineValue
@@ -13,3 +14,8 @@ machine_in roster v site = record { nodes = nodes_at roster site; running = runn
 -- the plan of a site at a moment
 abbrev pub planned : List (List ℕ × ℕ) → View → ℕ → ℕ → List ℕ
 planned roster v site moment = plan_lines roster (site_plan v site moment (machine_in roster v site))
+
+-- what is said: in a run no machine of a site has a fault
+abbrev pub plan_text : List (List ℕ × ℕ) → View → ℕ → ℕ → List ℕ
+plan_text roster v site moment = if is_none (first_fault (nodes_at roster site) (running_in site v))
+    then planned roster v site moment else answer_line (codes "no plan")

@@ -1,0 +1,4 @@
+-- What the contracts of this crate cite.
+pub mod Outcome
+pub mod Planned
+pub mod Listed

@@ -1,0 +1,16 @@
+-- What is said to a line that asks a site for a listing.
+use Rattle.std.specs.Prelude.{ℕ, Bool, List, if◌then◌else◌}
+use Rattle.fed_stamp.specs.Stamp.{StampValue}
+use Rattle.fed_record.specs.JobView.{JobView}
+use Rattle.fed_board.specs.View.{View}
+use Rattle.fed_qstat.specs.Full.{full_lines}
+use Rattle.fed_qstat.specs.Listing.{listing}
+use Rattle.fed_qstat.specs.Short.{short_line}
+
+-- how a listing shows a job
+abbrev pub lines_of : Bool → List (List ℕ × ℕ) → StampValue → JobView → List ℕ
+lines_of full roster = if full then full_lines roster else short_line roster
+
+-- the listing of these jobs, or of all where none is named
+abbrev pub listed : Bool → List (List ℕ × ℕ) → View → List StampValue → List ℕ
+listed full roster v jobs = listing (lines_of full roster) v jobs

@@ -1,0 +1,13 @@
+//! The texts that answer the lines of a site: the same in a replay, live, and at a site by itself.
+#![tactic(auto)]
+
+/// The texts of listings.
+mod listings;
+/// The texts that answer events and misused words.
+mod outcomes;
+/// The texts of plans.
+mod plans;
+
+pub use listings::listing_text;
+pub use outcomes::{Answer, outcome_line, usage_line};
+pub use plans::plan_line;
