@@ -1,0 +1,5 @@
+pub mod Commands
+pub mod Taking
+pub mod Replays
+pub mod Openings
+pub mod Lines

@@ -1,0 +1,107 @@
+-- What isn't kept changes nothing.
+use Rattle.std.specs.Prelude.{Some, None, Option, Result, Ok, Err, is_none, if◌then◌else◌, ◌||◌, codes}
+use Rattle.std.proofs.Common.{◌≡◌, ℕ, Bool, true, false, List, [], ◌∷◌, ◌++◌, refl, sym, ap, ◌∙◌}
+use Rattle.fed_record.specs.declared.askers.Who.{Who}
+use Rattle.fed_record.specs.declared.commands.Command.{Command}
+use Rattle.fed_wire.specs.declared.faults.WireFault.{WireFault}
+use Rattle.fed_wire.specs.Packet.{PacketValue}
+use Rattle.fed_wire.specs.Reading.{packet_in}
+use Rattle.fed_replica.specs.Answer.{Answer, Answer.Refuses, Answer.Replies, answer_to}
+use Rattle.fed_replica.specs.State.{State, after_answer, after_packet_unless, lacking}
+use Rattle.fed_script.specs.Line.{Line, skips, begins, acts, lists, misuses, ships, takes, plans, compares, own_line_in}
+use Rattle.fed_answers.specs.Outcome.{answer_line}
+use Rattle.fed_site.specs.Journal.{after_lines, kept_line, kept_lines}
+use Rattle.fed_site.specs.Line.{packet_text}
+use Rattle.fed_site.specs.Packets.{is_foreign, is_forgotten}
+use Rattle.fed_site.specs.Says.{adds, after_command, after_commands, after_reading, after_receipt, after_text, after_told, only, site_says}
+
+-- ---- commands
+answer_unkept : (s : State) (a : Answer) → adds a ≡ false → after_answer s a ≡ s
+answer_unkept s (Refuses r) e = refl
+answer_unkept s (Replies r None) e = refl
+answer_unkept s (Replies r (Some new)) e = cc
+
+neither : (a b : Bool) → (a || b) ≡ false → (a ≡ false) × (b ≡ false)
+neither true b e = cc
+neither false b e = (refl, e)
+
+module _ (roster : List (List ℕ × ℕ)) where
+  commands_unkept : (s : State) (who : Who) (commands : List Command) → (after_commands roster s who commands).kept ≡ false → (after_commands roster s who commands).after ≡ s
+  commands_unkept s who [] e = refl
+  commands_unkept s who (command ∷ commands) e =
+      let first = after_command roster s who command in
+      let both = neither first.kept (after_commands roster first.after who commands).kept e in
+      commands_unkept first.after who commands both.1 ∙ answer_unkept s (answer_to s.view s.site who command) both.0
+
+  -- ---- packets
+  receipt_unkept : (s : State) (p : PacketValue) (lacks : Option ℕ) → is_none lacks ≡ false → after_packet_unless lacks s p ≡ s
+  receipt_unkept s p (Some site) e = refl
+  receipt_unkept s p None e = cc
+
+  packet_unkept : (s : State) (p : PacketValue) (foreign forgotten : Bool)
+      → (if foreign then only s (answer_line (codes "foreign")) else (if forgotten then only s (answer_line (codes "forgotten")) else after_receipt roster s p)).kept ≡ false
+      → (if foreign then only s (answer_line (codes "foreign")) else (if forgotten then only s (answer_line (codes "forgotten")) else after_receipt roster s p)).after ≡ s
+  packet_unkept s p true forgotten e = refl
+  packet_unkept s p false true e = refl
+  packet_unkept s p false false e = receipt_unkept s p (lacking s p) e
+
+  reading_unkept : (s : State) (r : Result PacketValue WireFault) → (after_reading roster s r).kept ≡ false → (after_reading roster s r).after ≡ s
+  reading_unkept s (Ok p) e = packet_unkept s p (is_foreign roster p) (is_forgotten s p) e
+  reading_unkept s (Err fault) e = refl
+
+  -- ---- lines
+  told_unkept : (s : State) (line : Option Line) → (after_told roster s line).kept ≡ false → (after_told roster s line).after ≡ s
+  told_unkept s None e = refl
+  told_unkept s (Some skips) e = refl
+  told_unkept s (Some (begins sites)) e = refl
+  told_unkept s (Some (acts site who commands)) e = commands_unkept s who commands e
+  told_unkept s (Some (lists site full jobs)) e = refl
+  told_unkept s (Some (misuses site fault)) e = refl
+  told_unkept s (Some (ships site to)) e = refl
+  told_unkept s (Some (takes site packet)) e = refl
+  told_unkept s (Some (plans site moment)) e = refl
+  told_unkept s (Some (compares site other)) e = refl
+
+  text_unkept : (s : State) (line : List ℕ) (text : Option (List ℕ)) → (after_text roster s line text).kept ≡ false → (after_text roster s line text).after ≡ s
+  text_unkept s line None e = told_unkept s (own_line_in roster s.site line) e
+  text_unkept s line (Some text) e = reading_unkept s (packet_in text) e
+
+  pub unkept : (s : State) (line : List ℕ) → (site_says roster s line).kept ≡ false → (site_says roster s line).after ≡ s
+  unkept s line e = text_unkept s line (packet_text line) e
+
+  -- ---- the replay of the kept lines
+  pub replayed : (s : State) (lines : List (List ℕ)) → after_lines roster s (kept_lines roster s lines) ≡ after_lines roster s lines
+  replayed s [] = refl
+  replayed s (line ∷ lines) = go (site_says roster s line).kept refl (replayed (site_says roster s line).after lines)
+    where
+      go : (b : Bool) → (site_says roster s line).kept ≡ b → after_lines roster (site_says roster s line).after (kept_lines roster (site_says roster s line).after lines) ≡ after_lines roster (site_says roster s line).after lines
+          → after_lines roster s (kept_lines roster s (line ∷ lines)) ≡ after_lines roster s (line ∷ lines)
+      go true e ih =
+          let after = (site_says roster s line).after in
+          ap (λ b. after_lines roster s (kept_line roster b line ++ kept_lines roster after lines)) e ∙ ih
+      go false e ih =
+          let after = (site_says roster s line).after in
+          ap (λ b. after_lines roster s (kept_line roster b line ++ kept_lines roster after lines)) e
+          ∙ ap (λ t. after_lines roster t (kept_lines roster after lines)) (sym (unkept s line e))
+          ∙ ih
+
+  pub kept_again : (s : State) (lines : List (List ℕ)) → kept_lines roster s (kept_lines roster s lines) ≡ kept_lines roster s lines
+  kept_again s [] = refl
+  kept_again s (line ∷ lines) = go (site_says roster s line).kept refl (kept_again (site_says roster s line).after lines)
+    where
+      go : (b : Bool) → (site_says roster s line).kept ≡ b → kept_lines roster (site_says roster s line).after (kept_lines roster (site_says roster s line).after lines) ≡ kept_lines roster (site_says roster s line).after lines
+          → kept_lines roster s (kept_lines roster s (line ∷ lines)) ≡ kept_lines roster s (line ∷ lines)
+      go true e ih =
+          let after = (site_says roster s line).after in
+          let rest = kept_lines roster after lines in
+          ap (λ b. kept_lines roster s (kept_line roster b line ++ rest)) e
+          ∙ ap (λ b. kept_line roster b line ++ kept_lines roster after rest) e
+          ∙ ap (λ ls. line ∷ ls) ih
+          ∙ sym (ap (λ b. kept_line roster b line ++ rest) e)
+      go false e ih =
+          let after = (site_says roster s line).after in
+          let rest = kept_lines roster after lines in
+          ap (λ b. kept_lines roster s (kept_line roster b line ++ rest)) e
+          ∙ ap (λ t. kept_lines roster t rest) (sym (unkept s line e))
+          ∙ ih
+          ∙ sym (ap (λ b. kept_line roster b line ++ rest) e)

@@ -1,0 +1,13 @@
+use Rattle.std.specs.Prelude.{map}
+use Rattle.std.specs.Borrow.{Bor}
+use Rattle.std.proofs.Common.{◌≡◌, ℕ, List, drop}
+use Rattle.fed_replica.specs.State.{empty_at}
+use Rattle.fed_site.specs.Journal.{after_lines}
+use Rattle.fed_replica.specs.State.{state_of}
+use Rattle.fed_site.proofs.site.Site.open.Given as goal
+
+abbrev pub invariant-loop-line : goal.invariant-loop-line
+invariant-loop-line l = record {
+  roster : l.site.roster ≡ l.fn.roster;
+  rest : after_lines l.fn.roster (state_of l.site.replica) (map (λ (line : Bor (List ℕ)). line.now) (drop l.line-index l.lines)) ≡ after_lines l.fn.roster (empty_at l.fn.here) (map (λ (line : Bor (List ℕ)). line.now) l.fn.lines);
+}

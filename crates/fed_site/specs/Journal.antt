@@ -1,0 +1,29 @@
+-- The lines that a site keeps, and their replay.
+use Rattle.std.specs.Prelude.{◌≡◌, ℕ, Bool, List, [], ◌∷◌, ◌++◌, if◌then◌else◌}
+use Rattle.fed_replica.specs.State.{State}
+use Rattle.fed_replica.specs.State.{state_of}
+use Rattle.fed_site.specs.Site.{SiteValue}
+use Rattle.fed_site.specs.Says.{Said, site_says, IsReply}
+
+-- this was said, in these bytes, and the site is what is left
+pub record SaidAs (old new : SiteValue) (bytes : List ℕ) (kept : Bool) (said : Said) : Type 0 where
+  pub roster : new.roster ≡ old.roster
+  pub after : state_of new.replica ≡ said.after
+  pub reply : IsReply (state_of old.replica) said.reply bytes
+  pub keeps : kept ≡ said.kept
+
+module _ (roster : List (List ℕ × ℕ)) where
+  -- the state after lines
+  abbrev pub after_lines : State → List (List ℕ) → State
+  after_lines s [] = s
+  after_lines s (line ∷ lines) = after_lines (site_says roster s line).after lines
+
+  -- the line, if it is to be kept
+  abbrev pub kept_line : Bool → List ℕ → List (List ℕ)
+  kept_line kept line = if kept then line ∷ [] else []
+
+  -- the lines that are kept
+  abbrev pub kept_lines : State → List (List ℕ) → List (List ℕ)
+  kept_lines s [] = []
+  kept_lines s (line ∷ lines) =
+      kept_line (site_says roster s line).kept line ++ kept_lines (site_says roster s line).after lines

@@ -1,0 +1,8 @@
+-- What the contracts of this crate cite.
+pub mod Site
+pub mod Line
+pub mod Packets
+pub mod Says
+pub mod Acts
+pub mod Answered
+pub mod Journal

@@ -1,0 +1,117 @@
+-- What a site says to a line, what it holds then, and whether the line is to be kept.
+use Rattle.std.specs.Prelude.{◌≡◌, ℕ, Bool, true, false, ◌||◌, List, [], ◌∷◌, ◌++◌, codes, Option, Some, None, is_none, Result, Ok, Err, if◌then◌else◌}
+use Rattle.fed_record.specs.declared.askers.Who.{Who}
+use Rattle.fed_record.specs.declared.commands.Command.{Command}
+use Rattle.fed_wire.specs.declared.faults.WireFault.{WireFault}
+use Rattle.fed_wire.specs.Packet.{PacketValue}
+use Rattle.fed_wire.specs.Reading.{packet_in}
+use Rattle.fed_replica.specs.Answer.{Answer, Answer.Refuses, Answer.Replies, answer_to}
+use Rattle.fed_replica.specs.State.{State, after_answer, after_packet_unless, lacking}
+use Rattle.fed_world.specs.Outcome.{outcome_of_answer, outcome_of_packet_unless}
+use Rattle.fed_script.specs.Line.{Line, skips, acts, lists, misuses, ships, plans, own_line_in}
+use Rattle.fed_answers.specs.Outcome.{answer_line, outcome_text, usage_line}
+use Rattle.fed_answers.specs.Planned.{plan_text}
+use Rattle.fed_answers.specs.Listed.{listed}
+use Rattle.fed_site.specs.Line.{packet_text}
+use Rattle.fed_site.specs.Packets.{is_foreign, is_forgotten, unread_text, IsPacketText}
+
+-- a text, or that of the packet for a site
+pub data Reply : Type 0 where
+  Text : (text : List ℕ) → Reply
+  PacketFor : (to : ℕ) → Reply
+
+-- the bytes are what is replied; one site has one packet for another
+abbrev pub IsReply : State → Reply → List ℕ → Type 0
+IsReply s (Text text) bytes = bytes ≡ text
+IsReply s (PacketFor to) bytes = (packet : List ℕ) × IsPacketText s to packet × (bytes ≡ answer_line packet)
+
+-- what is left, what is replied, and whether the line changed what the site holds, so that it is to be kept
+pub record Said : Type 0 where
+  pub after : State
+  pub reply : Reply
+  pub kept : Bool
+
+-- what was done, and the text that says so
+pub record Done : Type 0 where
+  pub after : State
+  pub text : List ℕ
+  pub kept : Bool
+
+abbrev pub said_of : Done → Said
+said_of d = record { after = d.after; reply = Text d.text; kept = d.kept }
+
+-- nothing changes
+abbrev pub only : State → List ℕ → Done
+only s text = record { after = s; text = text; kept = false }
+
+-- ---- commands
+abbrev pub adds : Answer → Bool
+adds (Refuses refusal) = false
+adds (Replies reply None) = false
+adds (Replies reply (Some new)) = true
+
+-- what is done next stands behind what was done first
+abbrev pub followed : (State → Done) → Done → Done
+followed next first = record {
+  after = (next first.after).after;
+  text = first.text ++ (next first.after).text;
+  kept = first.kept || (next first.after).kept;
+}
+
+module _ (roster : List (List ℕ × ℕ)) where
+  abbrev pub does : State → Answer → Done
+  does s answer = record {
+    after = after_answer s answer;
+    text = answer_line (outcome_text roster (outcome_of_answer answer));
+    kept = adds answer;
+  }
+
+  abbrev pub after_command : State → Who → Command → Done
+  after_command s who command = does s (answer_to s.view s.site who command)
+
+  abbrev pub after_commands : State → Who → List Command → Done
+  after_commands s who [] = only s []
+  after_commands s who (command ∷ commands) =
+      followed (λ next. after_commands next who commands) (after_command s who command)
+
+  -- ---- packets
+  abbrev pub after_receipt : State → PacketValue → Done
+  after_receipt s p = record {
+    after = after_packet_unless (lacking s p) s p;
+    text = answer_line (outcome_text roster (outcome_of_packet_unless (lacking s p) s p));
+    kept = is_none (lacking s p);
+  }
+
+  abbrev pub after_packet : State → PacketValue → Done
+  after_packet s p = if is_foreign roster p then only s (answer_line (codes "foreign"))
+      else (if is_forgotten s p then only s (answer_line (codes "forgotten")) else after_receipt s p)
+
+  abbrev pub after_reading : State → Result PacketValue WireFault → Done
+  after_reading s (Ok p) = after_packet s p
+  after_reading s (Err fault) = only s (answer_line (unread_text fault))
+
+  -- ---- lines
+  abbrev pub unreadable : State → Said
+  unreadable s = said_of (only s (answer_line (codes "cannot be read")))
+
+  -- what a line does: an empty one and a comment are answered by nothing, and one of another kind is none of a site
+  abbrev pub after_line : State → Line → Said
+  after_line s skips = said_of (only s [])
+  after_line s (acts site who commands) = said_of (after_commands s who commands)
+  after_line s (lists site full jobs) = said_of (only s (listed full roster s.view jobs))
+  after_line s (misuses site fault) = said_of (only s (usage_line fault))
+  after_line s (ships site to) = record { after = s; reply = PacketFor to; kept = false }
+  after_line s (plans site moment) = said_of (only s (plan_text roster s.view s.site moment))
+  after_line s line = unreadable s
+
+  abbrev pub after_told : State → Option Line → Said
+  after_told s None = unreadable s
+  after_told s (Some line) = after_line s line
+
+  abbrev pub after_text : State → List ℕ → Option (List ℕ) → Said
+  after_text s line None = after_told s (own_line_in roster s.site line)
+  after_text s line (Some text) = said_of (after_reading s (packet_in text))
+
+  -- what a site says to a line
+  abbrev pub site_says : State → List ℕ → Said
+  site_says s line = after_text s line (packet_text line)

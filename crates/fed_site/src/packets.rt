@@ -1,0 +1,215 @@
+//! What a site does to the texts of packets, and the text of its own.
+ghost use Rattle.std.specs.Prelude.{◌≡◌, ◌<◌, ◌≤◌, ◌++◌, nat_lt, drop, ℕ, List, IfOk, OnErr, codes, if◌then◌else◌};
+ghost use Rattle.std.specs.Cow.{cow_str_bytes};
+ghost use Rattle.std.specs.Fmt.{decimal};
+ghost use Rattle.std.specs.List.{list_any};
+ghost use Rattle.fed_stamp.specs.declared.sites.TheConstants.{SITES};
+ghost use Rattle.fed_answers.specs.Outcome.{answer_line};
+ghost use Rattle.fed_site.specs.Acts.{DoneAs};
+ghost use Rattle.fed_replica.specs.State.{state_of};
+ghost use Rattle.fed_site.specs.Packets.{is_foreign as tells_of_others, is_forgotten as has_seen_more, part_text as text_of_part, place_text as text_of_place, unread_text, IsPacketText};
+ghost use Rattle.fed_site.specs.Says.{after_packet, after_reading, after_receipt};
+ghost use Rattle.fed_wire.specs.Reading.{packet_in};
+
+use crate::acts::{Done, unchanged};
+use fed_answers::{Answer, outcome_line};
+use fed_delta::Absorb;
+use fed_lattice::NoMemory;
+use fed_replica::{Replica, Taken};
+use fed_stamp::{Roster, SiteId, Version};
+use fed_wire::{Packet, Part, Place, WireFault, read, told_packets_are_within_limits, write};
+use fed_world::Outcome;
+use std::alloc::{AllocError, Global};
+use std::borrow::CowStr;
+
+/// A part of a packet, in small letters.
+fn part_text(part: Part) -> &'static str
+    ensures { result.now ≡ text_of_part part }
+{
+    match part {
+        Part::Whole => "whole",
+        Part::Sender => "sender",
+        Part::Need => "need",
+        Part::Reached => "reached",
+        Part::Jobs => "jobs",
+        Part::Reservations => "reservations",
+    }
+}
+
+/// The line that tells a fault and its place.
+fn place_line(alloc: Global, number: u8, place: Place) -> Result<Answer, AllocError>
+    ensures { IfOk result (λ line. cow_str_bytes line ≡
+        answer_line (codes "unread " ++ decimal number ++ codes " " ++ text_of_place place)) }
+{
+    let part = part_text(place.part);
+    let index = place.index;
+    Ok(CowStr::Owned(format!(in alloc; "unread {number} {part} {index}\n")?))
+}
+
+/// The line that tells why a text is read as no packet.
+fn unread_line(alloc: Global, fault: WireFault) -> Result<Answer, AllocError>
+    ensures { IfOk result (λ line. cow_str_bytes line ≡ answer_line (unread_text fault)) }
+{
+    match fault {
+        WireFault::NotJson => Ok(CowStr::Borrowed("unread 1\n")),
+        WireFault::Version(version) => Ok(CowStr::Owned(format!(in alloc;
+            "unread 2 {version}\n"
+        )?)),
+        WireFault::Shape { place } => place_line(alloc, 3, place),
+        WireFault::Range { place } => place_line(alloc, 4, place),
+        WireFault::NoMemory => Ok(CowStr::Borrowed("unread 5\n")),
+    }
+}
+
+/// Whether something is told of a site, where the greatest counter told of it is this.
+fn is_told(counter: u32) -> bool
+    ensures { result ≡ nat_lt 0 counter }
+{
+    counter > 0
+}
+
+fn is_any_told(counters: &[u32]) -> bool
+    ensures { result ≡ list_any (λ counter. nat_lt 0 counter) counters.now }
+{
+    counters.iter().any(|counter| is_told(*counter))
+}
+
+/// Whether anything is told of a site behind so many.
+fn tells_of_more(sites: usize, reached: &Version) -> bool
+    requires { sites ≤ SITES }
+    ensures { result ≡ list_any (λ counter. nat_lt 0 counter) (drop sites reached.now) }
+{
+    let counters = reached.counters();
+    is_any_told(&counters[sites..])
+}
+
+/// Whether the sender, or a site of which something is told, is none of the roster's.
+fn is_foreign(roster: &Roster, packet: &Packet) -> bool
+    ensures { result ≡ tells_of_others roster.now packet.now }
+{
+    let sites = roster.len();
+    if packet.sender().get() as usize >= sites {
+        return true;
+    }
+    tells_of_more(sites, &packet.delta().reached())
+}
+
+/// Whether the packet has seen more of the site's own operations than the site has made.
+fn is_forgotten(here: SiteId, replica: &Replica, packet: &Packet) -> bool
+    requires { replica.now.site ≡ here }
+    ensures { result ≡ has_seen_more (state_of replica.now) packet.now }
+{
+    packet.delta().reached().get(here) > replica.board().version().get(here)
+}
+
+/// The sender of a packet is one of the 16 sites, as its type keeps it.
+fn senders_are_sites(packet: &Packet)
+    ensures { packet.now.sender < SITES }
+{
+    let _number = packet.sender().get();
+}
+
+/// The line that tells that a packet was taken.
+fn taken_line(taken: Taken) -> Answer
+    ensures { cow_str_bytes result ≡ answer_line (if taken.grew then codes "taken" else codes "known") }
+{
+    if taken.grew {
+        CowStr::Borrowed("taken\n")
+    } else {
+        CowStr::Borrowed("known\n")
+    }
+}
+
+/// Takes a packet of this federation. Where memory is refused, nothing changes.
+fn take_known(
+    alloc: Global,
+    roster: &Roster,
+    replica: &mut Replica,
+    packet: &Packet,
+) -> Result<Done, NoMemory>
+    ensures done { IfOk result (λ d. DoneAs replica.new (cow_str_bytes d.text) d.kept
+        (after_receipt roster.now (state_of replica.old) packet.now)) }
+    ensures site { replica.new.site ≡ replica.old.site }
+    ensures unchanged { OnErr result (replica.new ≡ replica.old) }
+{
+    senders_are_sites(packet);
+    match replica.take(packet) {
+        Ok(taken) => Ok(Done {
+            text: taken_line(taken),
+            kept: true,
+        }),
+        Err(fault) => match fault {
+            Absorb::Gap { missing } => {
+                sites_are_few(missing);
+                Ok(unchanged(outcome_line(alloc, roster, Outcome::Gap(missing))?))
+            }
+            Absorb::NoMemory => Err(NoMemory),
+        },
+    }
+}
+
+/// Takes a packet. Where memory is refused, nothing changes.
+fn take_packet(
+    alloc: Global,
+    roster: &Roster,
+    here: SiteId,
+    replica: &mut Replica,
+    packet: &Packet,
+) -> Result<Done, NoMemory>
+    requires { replica.old.site ≡ here }
+    ensures done { IfOk result (λ d. DoneAs replica.new (cow_str_bytes d.text) d.kept
+        (after_packet roster.now (state_of replica.old) packet.now)) }
+    ensures site { replica.new.site ≡ here }
+    ensures unchanged { OnErr result (replica.new ≡ replica.old) }
+{
+    if is_foreign(roster, packet) {
+        return Ok(unchanged(CowStr::Borrowed("foreign\n")));
+    }
+    if is_forgotten(here, replica, packet) {
+        return Ok(unchanged(CowStr::Borrowed("forgotten\n")));
+    }
+    take_known(alloc, roster, replica, packet)
+}
+
+/// Takes the packet that a text is of. Where memory is refused, nothing changes.
+pub(crate) fn take(
+    alloc: Global,
+    roster: &Roster,
+    here: SiteId,
+    replica: &mut Replica,
+    text: &[u8],
+) -> Result<Done, NoMemory>
+    requires { replica.old.site ≡ here }
+    ensures done { IfOk result (λ d. DoneAs replica.new (cow_str_bytes d.text) d.kept
+        (after_reading roster.now (state_of replica.old) (packet_in text.now))) }
+    ensures site { replica.new.site ≡ here }
+    ensures unchanged { OnErr result (replica.new ≡ replica.old) }
+{
+    match read(alloc, text) {
+        Ok(packet) => take_packet(alloc, roster, here, replica, &packet),
+        Err(fault) => match fault {
+            WireFault::NoMemory => Err(NoMemory),
+            _ => Ok(unchanged(unread_line(alloc, fault)?)),
+        },
+    }
+}
+
+/// A site is one of the 16, as its type keeps it.
+fn sites_are_few(site: SiteId)
+    ensures { site < SITES }
+{
+    let _number = site.get();
+}
+
+/// The text of the packet for a site, and the end of the line.
+pub(crate) fn ship(alloc: Global, replica: &Replica, to: SiteId) -> Result<Vec<u8>, NoMemory>
+    ensures { IfOk result (λ bytes. (text : List ℕ) × IsPacketText (state_of replica.now) to text ×
+        (bytes.items ≡ answer_line text)) }
+{
+    sites_are_few(to);
+    let packet = replica.ship(to)?;
+    told_packets_are_within_limits(&packet);
+    let mut text = write(alloc, &packet)?;
+    text.push(b'\n')?;
+    Ok(text)
+}

@@ -1,0 +1,212 @@
+//! Sites.
+ghost use Rattle.std.specs.Prelude.{◌≡◌, ◌<◌, false, IfOk, OnErr, length, map, nat_eq, option_map};
+ghost use Rattle.std.specs.List.{list_any};
+ghost use Rattle.std.specs.Cow.{cow_str_bytes};
+ghost use Rattle.fed_script.specs.LineView.{said_by};
+ghost use Rattle.fed_replica.specs.State.{empty_at, state_of};
+ghost use Rattle.fed_site.specs.Answered.{bytes_of, kept_of};
+ghost use Rattle.fed_site.specs.Journal.{SaidAs, after_lines};
+ghost use Rattle.fed_site.specs.Line.{packet_text as packet_text_in};
+ghost use Rattle.fed_site.specs.Says.{after_line, after_told, site_says};
+
+use crate::acts::{Done, act};
+use crate::packets::{ship, take};
+use fed_answers::{Answer, listing_text, plan_line, usage_line};
+use fed_lattice::NoMemory;
+use fed_replica::Replica;
+use fed_script::{HeldRoster, Line, read_own_line};
+use fed_stamp::{Roster, SiteId, Version};
+use std::alloc::Global;
+use std::borrow::CowStr;
+use std::marker::Model;
+
+/// What a site answers to a line.
+#[derive(Drop)]
+pub enum Answered {
+    /// A text, and whether the line changed what the site holds, so that it is to be kept.
+    Text { text: Answer, kept: bool },
+    /// The line of a packet.
+    Packet { text: Vec<u8> },
+}
+
+impl Answered {
+    /// The bytes to write.
+    pub fn bytes(&self) -> &[u8]
+        ensures { result.now ≡ bytes_of self.now }
+    {
+        match self {
+            Answered::Text { text, .. } => text.as_str().as_bytes(),
+            Answered::Packet { text } => text,
+        }
+    }
+
+    /// Whether the line changed what the site holds, so that it is to be kept.
+    pub fn is_kept(&self) -> bool
+        ensures { result ≡ kept_of self.now }
+    {
+        match self {
+            Answered::Text { kept, .. } => *kept,
+            Answered::Packet { .. } => false,
+        }
+    }
+}
+
+/// One site of a roster. What it holds is its replica.
+#[derive(Drop)]
+pub struct Site {
+    roster: HeldRoster,
+    here: SiteId,
+    replica: Replica,
+}
+
+impl Model for Site {
+    ghost use Rattle.std.specs.Prelude.{◌≡◌, ◌<◌, length};
+    ghost use Rattle.fed_site.specs.Site.{SiteValue};
+
+    ghost Value = { SiteValue };
+
+    ghost view = { λ s. record { roster = s.roster; replica = s.replica } };
+
+    ghost invariant = { λ s. (s.replica.site ≡ s.here) × (s.here < length s.roster) };
+}
+
+fn done_answer(done: Done) -> Answered
+    ensures bytes { bytes_of result ≡ cow_str_bytes done.text }
+    ensures kept { kept_of result ≡ done.kept }
+{
+    let Done { text, kept } = done;
+    Answered::Text { text, kept }
+}
+
+/// The answer of a text that tells of no change.
+fn told(text: Answer) -> Answered
+    ensures bytes { bytes_of result ≡ cow_str_bytes text.entry }
+    ensures kept { kept_of result ≡ false }
+{
+    Answered::Text { text, kept: false }
+}
+
+/// Whether the line has a line feed.
+fn has_line_feed(line: &[u8]) -> bool
+    ensures { result ≡ list_any (nat_eq 10) line.now }
+{
+    line.contains(&b'\n')
+}
+
+/// `take TEXT`: the text, which has no line feed.
+fn packet_text(line: &[u8]) -> Option<&[u8]>
+    ensures { option_map (λ text. text.now) result ≡ packet_text_in line.now }
+{
+    if line.starts_with(b"take ") && !has_line_feed(line) {
+        Some(&line[5..])
+    } else {
+        None
+    }
+}
+
+impl Site {
+    /// A site that holds nothing.
+    pub fn new(alloc: Global, roster: HeldRoster, here: SiteId) -> Site
+        requires { here < length roster }
+        ensures roster { result.roster ≡ roster }
+        ensures state { state_of result.replica ≡ empty_at here }
+    {
+        Site {
+            roster,
+            here,
+            replica: Replica::new(alloc, here),
+        }
+    }
+
+    /// The roster.
+    pub fn roster(&self) -> &Roster
+        ensures { result.now ≡ self.now.roster }
+    {
+        self.roster.get()
+    }
+
+    /// For each site the greatest counter that was seen of it.
+    pub fn version(&self) -> Version
+        ensures { result ≡ (state_of self.now.replica).view.version }
+    {
+        self.replica.board().version()
+    }
+
+    /// Does what a line says.
+    fn do_line(&mut self, alloc: Global, line: Line) -> Result<Answered, NoMemory>
+        ensures said { IfOk result (λ a. SaidAs self.old self.new (bytes_of a) (kept_of a)
+            (after_line self.old.roster (state_of self.old.replica) (said_by line))) }
+        ensures unchanged { OnErr result (self.new ≡ self.old) }
+    {
+        let roster = self.roster.get();
+        let here = self.here;
+        match line {
+            Line::Act { who, commands, .. } => {
+                let done = act(alloc, roster, here, &mut self.replica, &who, &commands)?;
+                Ok(done_answer(done))
+            }
+            Line::Skip => Ok(told(CowStr::Borrowed(""))),
+            Line::List { full, jobs, .. } => {
+                let text = listing_text(alloc, roster, self.replica.board(), full, &jobs)?;
+                Ok(told(CowStr::Owned(text)))
+            }
+            Line::Misuse { fault, .. } => Ok(told(CowStr::Owned(usage_line(alloc, fault)?))),
+            Line::Ship { to, .. } => Ok(Answered::Packet {
+                text: ship(alloc, &self.replica, to)?,
+            }),
+            Line::Plan { moment, .. } => {
+                Ok(told(plan_line(alloc, roster, self.replica.board(), here, moment)?))
+            }
+            _ => Ok(told(CowStr::Borrowed("cannot be read\n"))),
+        }
+    }
+
+    /// Does what a line says, if it can be read.
+    fn do_told(&mut self, alloc: Global, line: Option<Line>) -> Result<Answered, NoMemory>
+        ensures said { IfOk result (λ a. SaidAs self.old self.new (bytes_of a) (kept_of a)
+            (after_told self.old.roster (state_of self.old.replica) (option_map said_by line))) }
+        ensures unchanged { OnErr result (self.new ≡ self.old) }
+    {
+        match line {
+            Some(line) => self.do_line(alloc, line),
+            None => Ok(told(CowStr::Borrowed("cannot be read\n"))),
+        }
+    }
+
+    /// Answers a line. Where memory is refused, the site holds what it held.
+    pub fn answer(&mut self, alloc: Global, line: &[u8]) -> Result<Answered, NoMemory>
+        ensures said { IfOk result (λ a. SaidAs self.old self.new (bytes_of a) (kept_of a)
+            (site_says self.old.roster (state_of self.old.replica) line.now)) }
+        ensures unchanged { OnErr result (self.new ≡ self.old) }
+    {
+        match packet_text(line) {
+            Some(text) => {
+                let done = take(alloc, self.roster.get(), self.here, &mut self.replica, text)?;
+                Ok(done_answer(done))
+            }
+            None => {
+                let told = read_own_line(alloc, self.roster.get(), self.here, line)?;
+                self.do_told(alloc, told)
+            }
+        }
+    }
+
+    /// The site that has answered these lines, one after another.
+    pub fn open(
+        alloc: Global,
+        roster: HeldRoster,
+        here: SiteId,
+        lines: &[&[u8]],
+    ) -> Result<Site, NoMemory>
+        requires { here < length roster }
+        ensures roster { IfOk result (λ site. site.roster ≡ roster) }
+        ensures replay { IfOk result (λ site. state_of site.replica ≡
+            after_lines roster (empty_at here) (map (λ line. line.now) lines.now)) }
+    {
+        let mut site = Site::new(alloc, roster, here);
+        for line in lines {
+            site.answer(alloc, line)?;
+        }
+        Ok(site)
+    }
+}
