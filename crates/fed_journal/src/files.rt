@@ -4,7 +4,7 @@
 //! what a journal promises holds of a real disk under these suppositions, which no proof shows:
 //!
 //! - Each method below makes just the call that it notes, and notes its answer. A body that notes a sync and makes none
-//!   would be proved as well, so this file has to be read.
+//!   would be proved as well, so this file has to be read. A write that the system does in parts is noted as one.
 //! - After a crash the file is one of those that the noted calls allow: outside of a write's range nothing changes, a write
 //!   of one byte is done or it isn't, and what was there when a sync returned stays.
 //! - What `open` reads is what the disk has. The file and its directory are synced first, and the system is told to drop
@@ -73,7 +73,8 @@ impl FileDevice {
     ghost use Rattle.fed_journal.specs.Device.{LeavesJust};
     ghost use Rattle.fed_journal.specs.Files.{file_may_leave, file_seen};
 
-    /// Opens the file of this name in a directory, which has to be there.
+    /// Opens the file of this name in a directory. Where the file or the directory is missing, `Failed` has an error of
+    /// kind `NotFound`; `InUse` comes while another open of the file lasts.
     pub fn open<R: Files<File = File> + AllocGlobal>(
         rt: &R,
         directory: &str,
@@ -84,7 +85,8 @@ impl FileDevice {
         FileDevice::open_as(rt, directory, name, false)
     }
 
-    /// Opens the file of this name in a directory, and makes it where it is missing, for its owner alone.
+    /// Opens the file of this name in a directory, and makes it where it is missing, empty and for its owner alone. The
+    /// errors are those of `open`, but that the file may be missing.
     pub fn make<R: Files<File = File> + AllocGlobal>(
         rt: &R,
         directory: &str,
