@@ -7,8 +7,8 @@
 //!   would be proved as well, so this file has to be read. A write that the system does in parts is noted as one.
 //! - After a crash the file is one of those that the noted calls allow: outside of a write's range nothing changes, a write
 //!   of one byte is done or it isn't, and what was there when a sync returned stays.
-//! - What `open` reads is what the disk has. The file and its directory are synced first, and the system is told to drop
-//!   its copies, which a sync that failed in an earlier process may have left other than the disk has them.
+//! - What `open` reads is what the disk has. The file and its directory are synced first. A system that forgot, after a
+//!   sync that failed in an earlier process, that its copy is not the disk's may still show that copy.
 //! - Nobody else changes the file. The lock keeps out other processes that take it, and no others.
 ghost use Rattle.std.specs.Prelude.{◌≡◌, ℕ, [], ◌∷◌, ◌++◌, length, reverse, Vec, Some, IfOk};
 ghost use Rattle.std.specs.declared.alloc.Global.{Global};
@@ -60,10 +60,6 @@ fn lock(file: &File) -> Result<(), OpenFault> {
 fn read_settled(alloc: Global, file: &mut File, directory: &File) -> io::Result<Vec<u8>> {
     file.sync_all()?;
     directory.sync_all()?;
-    let advised = libc::posix_fadvise(file.as_raw_fd(), 0, 0, libc::POSIX_FADV_DONTNEED);
-    if advised != 0 {
-        return Err(io::Error::from_raw_os_error(advised));
-    }
     let mut bytes = Vec::new(alloc);
     file.read_to_end(&mut bytes)?;
     Ok(bytes)
