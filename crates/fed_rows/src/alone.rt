@@ -42,7 +42,7 @@ fn opened(
     let Some(here) = SiteId::new(number) else {
         return Ok(None);
     };
-    if usize::from(number) >= roster.get().len() {
+    if usize::from(here.get()) >= roster.get().len() {
         return Ok(None);
     }
     let mut lines: Vec<&[u8]> = Vec::new(alloc);

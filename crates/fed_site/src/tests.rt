@@ -1,4 +1,6 @@
 //! Lines with their answers.
+ghost use Rattle.std.specs.Prelude.{◌≡◌};
+
 use crate::site::Site;
 use fed_script::HeldRoster;
 use fed_stamp::{Roster, SiteId};
@@ -20,18 +22,27 @@ const LINES: [(&[u8], &[u8]); 7] = [
     (b"take {}", b"unread 3 whole 0\n"),
 ];
 
-fn roster(rt: &(impl Abort + AllocGlobal), sites: &[(&str, u64)]) -> HeldRoster {
-    let roster = Roster::new(sites).expect(rt, "a roster");
-    HeldRoster::new(rt.alloc(), roster).expect(rt, "memory")
+/// The roster, in a box for which one request for memory may be refused.
+fn held(rt: &(impl Abort + AllocGlobal), roster: Roster) -> HeldRoster
+    ensures { result ≡ roster }
+{
+    match HeldRoster::new(rt.alloc(), roster) {
+        Ok(held) => held,
+        Err(_) => HeldRoster::new(rt.alloc(), roster).expect(rt, "memory"),
+    }
 }
 
+/// The site with this number among these.
+fn site_among(rt: &(impl Abort + AllocGlobal), sites: &[(&str, u64)], number: u8) -> Site {
+    let roster = Roster::new(sites).expect(rt, "a roster");
+    let here = SiteId::new(number).expect(rt, "a site");
+    assert!(rt; usize::from(here.get()) < roster.len());
+    Site::new(rt.alloc(), held(rt, roster), here)
+}
+
+/// The site with this number of two.
 fn site_of(rt: &(impl Abort + AllocGlobal), number: u8) -> Site {
-    let sites = [("argonne", 8), ("lemont", 4)];
-    Site::new(
-        rt.alloc(),
-        roster(rt, &sites),
-        SiteId::new(number).expect(rt, "a site"),
-    )
+    site_among(rt, &[("argonne", 8), ("lemont", 4)], number)
 }
 
 fn bytes(rt: &(impl Abort + AllocGlobal), text: &[u8]) -> Vec<u8> {
@@ -60,7 +71,7 @@ fn says(
 fn taking(rt: &(impl Abort + AllocGlobal), sender: &mut Site, ship: &[u8]) -> Vec<u8> {
     let packet = said(rt, sender, ship);
     let mut line = bytes(rt, b"take ");
-    line.extend_from_slice(&packet[..packet.len() - 1])
+    line.extend_from_slice(packet.strip_suffix(b"\n").unwrap_or(&packet))
         .expect(rt, "memory");
     line
 }
@@ -146,12 +157,7 @@ fn packets_are_answered(rt: HostRuntime) {
         )
     );
     assert!(rt; says(&rt, &mut again, OUT_OF_RANGE, b"unread 4 sender 0\n", false));
-    let alone = [("argonne", 8)];
-    let mut other = Site::new(
-        rt.alloc(),
-        roster(&rt, &alone),
-        SiteId::new(0).expect(&rt, "a site"),
-    );
+    let mut other = site_among(&rt, &[("argonne", 8)], 0);
     assert!(rt; says(&rt, &mut other, &back, b"foreign\n", false));
 }
 
@@ -174,13 +180,10 @@ fn kept_lines_are_replayed(rt: HostRuntime) {
     }
     assert!(rt; kept.len() == 3);
     let sites = [("argonne", 8), ("lemont", 4)];
-    let mut opened = Site::open(
-        rt.alloc(),
-        roster(&rt, &sites),
-        SiteId::new(0).expect(&rt, "a site"),
-        &kept,
-    )
-    .expect(&rt, "memory");
+    let roster = Roster::new(&sites).expect(&rt, "a roster");
+    let here = SiteId::new(0).expect(&rt, "a site");
+    assert!(rt; usize::from(here.get()) < roster.len());
+    let mut opened = Site::open(rt.alloc(), held(&rt, roster), here, &kept).expect(&rt, "memory");
     assert!(rt;
         said(&rt, &mut opened, b"ann qstat -f") == said(&rt, &mut argonne, b"ann qstat -f")
     );
@@ -190,21 +193,9 @@ fn kept_lines_are_replayed(rt: HostRuntime) {
 #[test]
 fn a_packet_for_another_site_is_a_gap(rt: HostRuntime) {
     let sites = [("argonne", 8), ("lemont", 4), ("sparks", 2)];
-    let mut argonne = Site::new(
-        rt.alloc(),
-        roster(&rt, &sites),
-        SiteId::new(0).expect(&rt, "a site"),
-    );
-    let mut lemont = Site::new(
-        rt.alloc(),
-        roster(&rt, &sites),
-        SiteId::new(1).expect(&rt, "a site"),
-    );
-    let mut sparks = Site::new(
-        rt.alloc(),
-        roster(&rt, &sites),
-        SiteId::new(2).expect(&rt, "a site"),
-    );
+    let mut argonne = site_among(&rt, &sites, 0);
+    let mut lemont = site_among(&rt, &sites, 1);
+    let mut sparks = site_among(&rt, &sites, 2);
     assert!(rt; says(&rt, &mut argonne, b"ann qsub", b"1.argonne\n", true));
     let first = taking(&rt, &mut argonne, b"ship lemont");
     assert!(rt; says(&rt, &mut lemont, &first, b"taken\n", true));
@@ -224,20 +215,9 @@ fn lines_with_a_line_feed_are_not_read(rt: HostRuntime) {
     assert!(rt; says(&rt, &mut argonne, b"ann qsub\n", b"cannot be read\n", false));
 }
 
-/// A site that is made where one growth may be refused.
-fn made(rt: &(impl Abort + AllocGlobal)) -> Site {
-    let sites = [("argonne", 8), ("lemont", 4)];
-    let roster = Roster::new(&sites).expect(rt, "a roster");
-    let held = match HeldRoster::new(rt.alloc(), roster) {
-        Ok(held) => held,
-        Err(_) => HeldRoster::new(rt.alloc(), roster).expect(rt, "memory"),
-    };
-    Site::new(rt.alloc(), held, SiteId::new(0).expect(rt, "a site"))
-}
-
 #[test]
 fn refused_growths_of_a_site(rt: HostRuntime) {
-    let mut site = made(&rt);
+    let mut site = site_of(&rt, 0);
     for (line, answer) in LINES {
         if let Ok(answered) = site.answer(rt.alloc(), line) {
             assert!(rt; answered.bytes() == answer);
