@@ -175,7 +175,11 @@ fn said(alloc: Global, script: &[u8], is_anew: bool) -> Result<Vec<u8>, NoMemory
     };
     let mut sites = begun(alloc, first)?;
     let mut rest = lines;
-    while let Some((line, after)) = split_line(rest) {
+    // a script has no more lines than bytes
+    for _ in 0..script.len() {
+        let Some((line, after)) = split_line(rest) else {
+            break;
+        };
         if is_anew {
             sites.open_all(alloc, first)?;
         }
