@@ -1,5 +1,5 @@
 -- What is said to a line that asks a site for its plan.
-use Rattle.std.specs.Prelude.{ℕ, List, codes, is_none, if◌then◌else◌}
+use Rattle.std.specs.Prelude.{ℕ, List, codes, Option, Some, None, is_none, if◌then◌else◌}
 use Rattle.fed_stamp.specs.Roster.{nodes_at}
 use Rattle.fed_board.specs.View.{View}
 use Rattle.fed_easy.specs.Machine.{MachineValue, first_fault, running_in}
@@ -15,7 +15,15 @@ machine_in roster v site = record { nodes = nodes_at roster site; running = runn
 abbrev pub planned : List (List ℕ × ℕ) → View → ℕ → ℕ → List ℕ
 planned roster v site moment = plan_lines roster (site_plan v site moment (machine_in roster v site))
 
--- what is said: in a run no machine of a site has a fault
+-- its plan, where the board leaves it a machine, as that of each run does
+abbrev pub plan_if_any : List (List ℕ × ℕ) → View → ℕ → ℕ → Option (List ℕ)
+plan_if_any roster v site moment = if is_none (first_fault (nodes_at roster site) (running_in site v))
+    then Some (planned roster v site moment) else None
+
+abbrev pub plan_or_none : Option (List ℕ) → List ℕ
+plan_or_none (Some text) = text
+plan_or_none None = answer_line (codes "no plan")
+
+-- what is said
 abbrev pub plan_text : List (List ℕ × ℕ) → View → ℕ → ℕ → List ℕ
-plan_text roster v site moment = if is_none (first_fault (nodes_at roster site) (running_in site v))
-    then planned roster v site moment else answer_line (codes "no plan")
+plan_text roster v site moment = plan_or_none (plan_if_any roster v site moment)

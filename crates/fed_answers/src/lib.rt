@@ -10,4 +10,4 @@ mod plans;
 
 pub use listings::listing_text;
 pub use outcomes::{Answer, outcome_line, usage_line};
-pub use plans::plan_line;
+pub use plans::{plan_line, plan_lines};

@@ -1,11 +1,12 @@
 //! The texts of plans.
-ghost use Rattle.std.specs.Prelude.{◌≡◌, ◌<◌, IfOk, length};
+ghost use Rattle.std.specs.Prelude.{◌≡◌, ◌≢◌, ◌<◌, IfOk, OnErr, None, length, option_map};
 ghost use Rattle.std.specs.Cow.{cow_str_bytes};
 ghost use Rattle.fed_stamp.specs.Roster.{nodes_at};
 ghost use Rattle.fed_board.specs.Board.{reads};
+ghost use Rattle.fed_easy.specs.declared.machines.MachineFault.TheVariants.{NoMemory as OutOfMemory};
 ghost use Rattle.fed_easy.specs.SitePlan.{site_plan};
-ghost use Rattle.fed_qstat.specs.PlanText.{plan_lines};
-ghost use Rattle.fed_answers.specs.Planned.{plan_text as text_of_plan};
+ghost use Rattle.fed_qstat.specs.PlanText.{plan_lines as lines_of_plan};
+ghost use Rattle.fed_answers.specs.Planned.{plan_if_any, plan_text as text_of_plan};
 
 use crate::outcomes::Answer;
 use fed_board::Board;
@@ -27,7 +28,7 @@ fn machine_plan(
     machine: &Machine,
 ) -> Result<Answer, NoMemory>
     ensures { IfOk result (λ text. cow_str_bytes text ≡
-        plan_lines roster.now (site_plan (reads board.now) site moment machine.now)) }
+        lines_of_plan roster.now (site_plan (reads board.now) site moment machine.now)) }
 {
     match plan(alloc, board, site, moment.get(), machine) {
         Ok(plan) => Ok(CowStr::Owned(plan_text(alloc, &plan, roster)?)),
@@ -47,8 +48,36 @@ fn nodes_of(roster: &Roster, site: SiteId) -> u64
     roster.nodes(site).unwrap()
 }
 
-/// The plan of a site at a moment, with the roster's nodes and what the board says runs there; `no plan` where no machine
-/// may be so, which no board of a run says. The only error is `NoMemory`.
+/// There is no plan, but where memory was refused.
+fn unplanned(fault: MachineFault) -> Result<Option<Answer>, NoMemory>
+    ensures none { IfOk result (λ plan. (plan ≡ None) × (fault ≢ OutOfMemory)) }
+    ensures memory { OnErr result (fault ≡ OutOfMemory) }
+{
+    match fault {
+        MachineFault::NoMemory => Err(NoMemory),
+        _ => Ok(None),
+    }
+}
+
+/// The plan of a site at a moment, with the roster's nodes and what the board says runs there; `None` where no machine may
+/// be so, which no board of a run says. The only error is `NoMemory`.
+pub fn plan_lines(
+    alloc: Global,
+    roster: &Roster,
+    board: &Board,
+    site: SiteId,
+    moment: Moment,
+) -> Result<Option<Answer>, NoMemory>
+    requires { site < length roster.now }
+    ensures { IfOk result (λ plan. option_map cow_str_bytes plan ≡ plan_if_any roster.now (reads board.now) site moment) }
+{
+    match machine_of(alloc, board, site, nodes_of(roster, site)) {
+        Ok(machine) => Ok(Some(machine_plan(alloc, roster, board, site, moment, &machine)?)),
+        Err(fault) => unplanned(fault),
+    }
+}
+
+/// What is said of the plan of a site at a moment: its lines, or `no plan`. The only error is `NoMemory`.
 pub fn plan_line(
     alloc: Global,
     roster: &Roster,
@@ -59,11 +88,8 @@ pub fn plan_line(
     requires { site < length roster.now }
     ensures { IfOk result (λ text. cow_str_bytes text ≡ text_of_plan roster.now (reads board.now) site moment) }
 {
-    match machine_of(alloc, board, site, nodes_of(roster, site)) {
-        Ok(machine) => machine_plan(alloc, roster, board, site, moment, &machine),
-        Err(fault) => match fault {
-            MachineFault::NoMemory => Err(NoMemory),
-            _ => Ok(CowStr::Borrowed("no plan\n")),
-        },
+    match plan_lines(alloc, roster, board, site, moment)? {
+        Some(text) => Ok(text),
+        None => Ok(CowStr::Borrowed("no plan\n")),
     }
 }

@@ -1,6 +1,6 @@
 //! The disk as a journal sees it: a file that it reads and writes, and what a crash may leave of it. A write or a cut of a
 //! file that the disk has may be left torn until the next sync. Of a second one before that sync nothing is said.
-ghost use Rattle.std.specs.Prelude.{◌≡◌, ◌≤◌, List, ℕ, length, take, IfOk, OnOk};
+ghost use Rattle.std.specs.Prelude.{◌≡◌, ◌≤◌, List, [], ℕ, length, take, IfOk, OnOk};
 ghost use Rattle.fed_journal.specs.Device.{Holds, Leaves, LeavesJust, Passes, Shortened, Torn};
 ghost use Rattle.fed_journal.specs.Fault.{Tells};
 ghost use Rattle.std.specs.declared.io.Error.{Error};
@@ -8,7 +8,8 @@ ghost use Rattle.std.specs.declared.io.Error.{Error};
 use crate::faults::DeviceFault;
 use std::alloc::Global;
 
-/// A file on a disk. After a call that failed, nothing is known of it but what a crash may leave.
+/// A file on a disk. After a call that failed, nothing is known of it but what a crash may leave, and each call behind it is
+/// refused.
 pub trait Device {
     /// The bytes that a read gives.
     ghost seen: { Self → List ℕ };
@@ -31,7 +32,8 @@ pub trait Device {
         ensures same { seen self.new ≡ seen self.old }
         ensures crash { (c : List ℕ) → may_leave self.new c → may_leave self.old c }
         ensures time { Passes (moment self.old) (moment self.new) (left_since self.old) (left_since self.new) (may_leave self.new) }
-        ensures cause { Tells (errors self.old) (errors self.new) result };
+        ensures cause { Tells (errors self.old) (errors self.new) result }
+        ensures refuses { OnOk result (errors self.old ≡ []) };
 
     /// Writes over what stands at an offset, and past the end.
     fn write_at(&mut self, at: usize, bytes: &[u8]) -> Result<(), DeviceFault>
@@ -39,7 +41,8 @@ pub trait Device {
         ensures written { OnOk result (Holds at bytes.now (seen self.old) (seen self.new)) }
         ensures crash { LeavesJust (seen self.old) (may_leave self.old) → Leaves (Torn at bytes.now (seen self.old)) (may_leave self.new) }
         ensures time { Passes (moment self.old) (moment self.new) (left_since self.old) (left_since self.new) (may_leave self.new) }
-        ensures cause { Tells (errors self.old) (errors self.new) result };
+        ensures cause { Tells (errors self.old) (errors self.new) result }
+        ensures refuses { OnOk result (errors self.old ≡ []) };
 
     /// Cuts the file to a length.
     fn cut(&mut self, len: usize) -> Result<(), DeviceFault>
@@ -47,7 +50,8 @@ pub trait Device {
         ensures cut { OnOk result (seen self.new ≡ take len (seen self.old)) }
         ensures crash { LeavesJust (seen self.old) (may_leave self.old) → Leaves (Shortened len (seen self.old)) (may_leave self.new) }
         ensures time { Passes (moment self.old) (moment self.new) (left_since self.old) (left_since self.new) (may_leave self.new) }
-        ensures cause { Tells (errors self.old) (errors self.new) result };
+        ensures cause { Tells (errors self.old) (errors self.new) result }
+        ensures refuses { OnOk result (errors self.old ≡ []) };
 
     /// Waits until the disk has what a read gives. From then on a crash leaves that.
     fn sync(&mut self) -> Result<(), DeviceFault>
@@ -55,7 +59,8 @@ pub trait Device {
         ensures same { seen self.new ≡ seen self.old }
         ensures crash { (c : List ℕ) → may_leave self.new c → may_leave self.old c }
         ensures time { Passes (moment self.old) (moment self.new) (left_since self.old) (left_since self.new) (may_leave self.new) }
-        ensures cause { Tells (errors self.old) (errors self.new) result };
+        ensures cause { Tells (errors self.old) (errors self.new) result }
+        ensures refuses { OnOk result (errors self.old ≡ []) };
 
     /// This moment is one of those since an earlier one,
     ghost counts_now: { (file : Self) (t : ℕ) (c : List ℕ) → t ≤ moment file → may_leave file c → left_since file t c };

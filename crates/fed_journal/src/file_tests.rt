@@ -153,12 +153,15 @@ fn a_file_is_read_once(rt: HostRuntime) -> Result<(), Fail> {
     let mut device = FileDevice::open(&rt, directory, NAME)?;
     let bytes = device.read(rt.alloc())?;
     assert_eq!(rt; bytes.as_slice(), b"one".as_slice());
-    assert!(rt; device.read(rt.alloc()).is_err());
     device.write_at(0, b"second")?;
     device.cut(3)?;
     device.sync()?;
     let written = fs::read(&rt, "journal_once/journal")?;
     assert_eq!(rt; written.as_slice(), b"sec".as_slice());
+    // a second read fails, and so does each call behind it
+    assert!(rt; device.read(rt.alloc()).is_err());
+    assert!(rt; device.write_at(0, b"third").is_err());
+    assert!(rt; device.sync().is_err());
     fs::remove_dir_all(&rt, directory)?;
     Ok(())
 }

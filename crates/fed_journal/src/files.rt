@@ -10,7 +10,7 @@
 //! - What `open` reads is what the disk has. The file and its directory are synced first. A system that forgot, after a
 //!   sync that failed in an earlier process, that its copy is not the disk's may still show that copy.
 //! - Nobody else changes the file. The lock keeps out other processes that take it, and no others.
-ghost use Rattle.std.specs.Prelude.{◌≡◌, ℕ, [], ◌∷◌, ◌++◌, length, reverse, Vec, Some, IfOk};
+ghost use Rattle.std.specs.Prelude.{◌≡◌, ℕ, true, [], ◌∷◌, ◌++◌, length, reverse, Vec, Some, None, is_some, IfOk};
 ghost use Rattle.std.specs.declared.alloc.Global.{Global};
 ghost use Rattle.fed_journal.specs.Calls.{counts_now, errors_by, left_by, left_since, only_now, seen_by};
 ghost use Rattle.fed_journal.specs.Fault.{told};
@@ -36,10 +36,12 @@ pub struct FileDevice {
     file: File,
     // what was found there, until it is read or the file is changed
     found: Option<Vec<u8>>,
-    // why an earlier call failed
+    // why the last call that failed did
     failed: Option<io::Error>,
     calls: Calls,
     ghost same: { (bytes : Vec ℕ Global) → found ≡ Some bytes → bytes.items ≡ seen_by (reverse calls.items) },
+    ghost unread: { is_some found ≡ true → failed ≡ None },
+    ghost whole: { failed ≡ None → errors_by (reverse calls.items) ≡ [] },
 }
 
 /// Why a file isn't read again.
@@ -131,7 +133,7 @@ impl FileDevice {
     {
         self.found = None;
         self.calls = self.calls.and(&call, &answer);
-        self.failed = answer.err();
+        self.failed = answer.err().or(self.failed);
         answer.map_err(DeviceFault::Failed)
     }
 }
@@ -151,13 +153,15 @@ impl Device for FileDevice {
 
     ghost only_now = { λ d c left. only_now (reverse d.calls.items) c left };
 
-    /// Gives what was found when the file was opened, once, and before the file is changed or synced.
+    /// Gives what was found when the file was opened, once, and before the file is changed or synced. Any other read is a
+    /// call that failed.
     fn read(&mut self, _alloc: Global) -> Result<Vec<u8>, DeviceFault> {
         match self.found.take() {
             Some(bytes) => Ok(bytes),
             None => {
                 let error = self.failed.unwrap_or(already_read());
                 self.calls = self.calls.and(&Call::Refused, &Err(error));
+                self.failed = Some(error);
                 Err(DeviceFault::Failed(error))
             }
         }

@@ -35,6 +35,7 @@ pub struct Memory {
     left: usize,
     tear: Tear,
     ghost same: { is_up ≡ true → bytes.items ≡ seen_by (reverse calls.items) },
+    ghost whole: { is_up ≡ true → errors_by (reverse calls.items) ≡ [] },
 }
 
 /// A file with other bytes at an offset.

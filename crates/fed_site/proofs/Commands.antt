@@ -2,7 +2,8 @@
 use Rattle.std.specs.Prelude.{not, Option, Some, None, Result, Ok, Err, ◌||◌}
 use Rattle.std.proofs.Common.{◌≡◌, ℕ, ◌+◌, ◌<◌, Bool, true, false, List, [], ◌∷◌, ◌++◌, length, get_or, take, replicate, nat_lt, if◌then◌else◌, nat_le, refl, sym, ap, ap₂, subst, ◌∙◌, append_assoc, append-nil, arith}
 use Rattle.std.proofs.lemmas.Bool.{leb-false}
-use Rattle.std.proofs.lemmas.List.{get_or-set_same, take_more}
+use Rattle.std.specs.Option.{option_or}
+use Rattle.std.proofs.lemmas.List.{get_or-set_same, length-take-le, take_more}
 use Rattle.fed_stamp.specs.declared.versions.ClockFull.{ClockFull}
 use Rattle.fed_stamp.specs.Stamp.{StampValue}
 use Rattle.fed_stamp.specs.Version.{IsVersion, counter_of, is_below, next_stamp, raised}
@@ -25,6 +26,7 @@ use Rattle.fed_replica.specs.State.{State}
 use Rattle.fed_answers.specs.Outcome.{answer_line, outcome_text, reply_text}
 use Rattle.fed_site.specs.Acts.{DoneAs, line_for, next_line, stamp_line}
 use Rattle.fed_replica.specs.State.{state_of}
+use Rattle.fed_site.specs.declared.complaints.Complaint.{Complaint}
 use Rattle.fed_site.specs.Says.{Done, after_command, after_commands, does, followed}
 
 -- ---- an answer refuses, adds nothing, or adds an operation with the next stamp
@@ -90,7 +92,7 @@ grown v here t lawful small e =
     let more : counter_of v t.site < counter_of (raised v t) t.site = omega arith in
     sym (not_below_from_place (raised v t) v t.site more)
 
-module _ (roster : List (List ℕ × ℕ)) (old new : ReplicaValue) (who : Who) (command : Command) (site : new.site ≡ old.site) (heard : new.heard ≡ old.heard) where
+module _ (roster : List (List ℕ × ℕ)) (old new : ReplicaValue) (who : Who) (index : ℕ) (command : Command) (site : new.site ≡ old.site) (heard : new.heard ≡ old.heard) where
   abbrev v : View
   v = reads old.board
 
@@ -104,7 +106,7 @@ module _ (roster : List (List ℕ × ℕ)) (old new : ReplicaValue) (who : Who) 
 
     abbrev Acted : Answer → Type 0
     Acted a = IsDone a v (Ok reply) (reads new.board)
-        → DoneAs new (line_for (next_line roster v.version old.site command) reply) (not (is_below (reads new.board).version v.version)) (does roster (state_of old) a)
+        → DoneAs new (line_for (next_line roster v.version old.site command) reply) (not (is_below (reads new.board).version v.version)) None (does roster (state_of old) index a)
 
     acted_refused : (r : Refusal) → Acted (Refuses r)
     acted_refused r d = let h : did reply ≡ Err r = d.0 in cc
@@ -116,6 +118,7 @@ module _ (roster : List (List ℕ × ℕ)) (old new : ReplicaValue) (who : Who) 
           after = reads_as v d.1;
           said = ap (line_for (next_line roster v.version old.site command)) same ∙ plain_reply roster (next_line roster v.version old.site command) command;
           keeps = ap (λ (w : View). not (is_below w.version v.version)) d.1 ∙ ap not (below_itself v.version);
+          complains = refl;
         }
 
     acted_added : (t : StampValue) (body : Body) → next_stamp v.version old.site ≡ Ok t → Acted (Replies (reply_with t command) (Some (t, body)))
@@ -124,10 +127,11 @@ module _ (roster : List (List ℕ × ℕ)) (old new : ReplicaValue) (who : Who) 
       after = reads_as (add_to_view v (t, body)) d.1;
       said = ap (line_for (next_line roster v.version old.site command)) d.0 ∙ stamped_reply roster v.version old.site t command e;
       keeps = ap (λ (w : View). not (is_below w.version v.version)) d.1 ∙ ap not (grown v.version old.site t lawful small e);
+      complains = refl;
     }
 
     pub acted : IsDone (answer_to v old.site who command) v (Ok reply) (reads new.board)
-        → DoneAs new (line_for (next_line roster v.version old.site command) reply) (not (is_below (reads new.board).version v.version)) (after_command roster (state_of old) who command)
+        → DoneAs new (line_for (next_line roster v.version old.site command) reply) (not (is_below (reads new.board).version v.version)) None (after_command roster (state_of old) who index command)
     acted d = answer_cases v old.site who command Acted acted_refused acted_nothing acted_added d
 
   -- ---- a refusal
@@ -136,17 +140,17 @@ module _ (roster : List (List ℕ × ℕ)) (old new : ReplicaValue) (who : Who) 
     denied r = Err r
 
     abbrev Refused : Answer → Type 0
-    Refused a = IsDone a v (Err refusal) (reads new.board) → DoneAs new (answer_line (outcome_text roster (Outcome.Refused refusal))) false (does roster (state_of old) a)
+    Refused a = IsDone a v (Err refusal) (reads new.board) → DoneAs new (answer_line (outcome_text roster (Outcome.Refused refusal))) false (Some (Complaint.Refused index refusal)) (does roster (state_of old) index a)
 
     was_refused : (a : Answer) → Refused a
     was_refused (Refuses r) d =
         let same : refusal ≡ r = let h : denied refusal ≡ denied r = d.0 in cc in
-        record { after = reads_as v d.1; said = ap (λ (x : Refusal). answer_line (outcome_text roster (Outcome.Refused x))) same; keeps = refl }
+        record { after = reads_as v d.1; said = ap (λ (x : Refusal). answer_line (outcome_text roster (Outcome.Refused x))) same; keeps = refl; complains = ap (λ (x : Refusal). Some (Complaint.Refused index x)) same }
     was_refused (Replies r None) d = let h : denied refusal ≡ Ok r = d.0 in cc
     was_refused (Replies r (Some new)) d = absurd (other d.0)
 
     pub refused : IsDone (answer_to v old.site who command) v (Err refusal) (reads new.board)
-        → DoneAs new (answer_line (outcome_text roster (Outcome.Refused refusal))) false (after_command roster (state_of old) who command)
+        → DoneAs new (answer_line (outcome_text roster (Outcome.Refused refusal))) false (Some (Complaint.Refused index refusal)) (after_command roster (state_of old) who index command)
     refused d = was_refused (answer_to v old.site who command) d
 
 -- ---- one command alone
@@ -154,12 +158,17 @@ or_none : (a : Bool) → (a || false) ≡ a
 or_none true = refl
 or_none false = refl
 
-pub one_alone : (roster : List (List ℕ × ℕ)) (s : State) (who : Who) (command : Command) (all : List Command) (new : ReplicaValue) (text : List ℕ) (kept : Bool) → all ≡ command ∷ []
-    → DoneAs new text kept (after_command roster s who command) → DoneAs new text kept (after_commands roster s who all)
-one_alone roster s who command all new text kept alone d = subst (λ (cs : List Command). DoneAs new text kept (after_commands roster s who cs)) (sym alone) (record {
+alone_complains : (o : Option Complaint) → option_or o None ≡ o
+alone_complains None = refl
+alone_complains (Some complaint) = refl
+
+pub one_alone : (roster : List (List ℕ × ℕ)) (s : State) (who : Who) (command : Command) (all : List Command) (new : ReplicaValue) (text : List ℕ) (kept : Bool) (complaint : Option Complaint) → all ≡ command ∷ []
+    → DoneAs new text kept complaint (after_command roster s who 0 command) → DoneAs new text kept complaint (after_commands roster s who 0 all)
+one_alone roster s who command all new text kept complaint alone d = subst (λ (cs : List Command). DoneAs new text kept complaint (after_commands roster s who 0 cs)) (sym alone) (record {
   after = d.after;
-  said = d.said ∙ sym (append-nil (after_command roster s who command).text);
-  keeps = d.keeps ∙ sym (or_none (after_command roster s who command).kept);
+  said = d.said ∙ sym (append-nil (after_command roster s who 0 command).text);
+  keeps = d.keeps ∙ sym (or_none (after_command roster s who 0 command).kept);
+  complains = d.complains ∙ sym (alone_complains (after_command roster s who 0 command).complaint);
 })
 
 -- ---- commands, one after another
@@ -168,34 +177,38 @@ module _ (roster : List (List ℕ × ℕ)) (who : Who) where
   or_assoc true b c = refl
   or_assoc false b c = refl
 
-  or_false : (a : Bool) → (a || false) ≡ a
-  or_false true = refl
-  or_false false = refl
+  complaint_assoc : (a b c : Option Complaint) → option_or a (option_or b c) ≡ option_or (option_or a b) c
+  complaint_assoc None b c = refl
+  complaint_assoc (Some complaint) b c = refl
 
-  commands-push : (s : State) (commands : List Command) (command : Command)
-      → after_commands roster s who (commands ++ command ∷ []) ≡ followed (λ next. after_command roster next who command) (after_commands roster s who commands)
-  commands-push s [] command =
-      let d = after_command roster s who command in
-      λ i. record { after = d.after; text = append-nil d.text i; kept = or_false d.kept i }
-  commands-push s (first ∷ commands) command =
-      let here = after_command roster s who first in
-      let rest = after_commands roster here.after who commands in
-      let last = after_command roster rest.after who command in
-      ap (λ (d : Done). followed (λ next. d) here) (commands-push here.after commands command)
-      ∙ (λ i. record { after = last.after; text = sym (append_assoc here.text rest.text last.text) i; kept = or_assoc here.kept rest.kept last.kept i })
+  commands-push : (s : State) (i k : ℕ) (commands : List Command) (command : Command) → k ≡ i + length commands
+      → after_commands roster s who i (commands ++ command ∷ []) ≡ followed (λ next. after_command roster next who k command) (after_commands roster s who i commands)
+  commands-push s i k [] command e =
+      let same : i ≡ k = omega arith in
+      let d = after_command roster s who i command in
+      let alone : after_commands roster s who i (command ∷ []) ≡ d = λ j. record { after = d.after; text = append-nil d.text j; kept = or_none d.kept j; complaint = alone_complains d.complaint j } in
+      alone ∙ ap (λ n. after_command roster s who n command) same
+  commands-push s i k (first ∷ commands) command e =
+      let here = after_command roster s who i first in
+      let rest = after_commands roster here.after who (i + 1) commands in
+      let last = after_command roster rest.after who k command in
+      ap (λ (d : Done). followed (λ next. d) here) (commands-push here.after (i + 1) k commands command (omega arith))
+      ∙ (λ j. record { after = last.after; text = sym (append_assoc here.text rest.text last.text) j; kept = or_assoc here.kept rest.kept last.kept j; complaint = complaint_assoc here.complaint rest.complaint last.complaint j })
 
   module _ (s : State) (all : List Command) where
-    pub one_more : (i : ℕ) (command : Command) (mid new : ReplicaValue) (text answer : List ℕ) (kept more : Bool) → i < length all → command ≡ get_or all i command
-        → DoneAs mid text kept (after_commands roster s who (take i all)) → DoneAs new answer more (after_command roster (state_of mid) who command)
-        → DoneAs new (text ++ answer) (kept || more) (after_commands roster s who (take (i + 1) all))
-    one_more i command mid new text answer kept more within at before here =
+    pub one_more : (i : ℕ) (command : Command) (mid new : ReplicaValue) (text answer : List ℕ) (kept more : Bool) (complaint other : Option Complaint) → i < length all → command ≡ get_or all i command
+        → DoneAs mid text kept complaint (after_commands roster s who 0 (take i all)) → DoneAs new answer more other (after_command roster (state_of mid) who i command)
+        → DoneAs new (text ++ answer) (kept || more) (option_or complaint other) (after_commands roster s who 0 (take (i + 1) all))
+    one_more i command mid new text answer kept more complaint other within at before here =
         let first_ones : take (i + 1) all ≡ take i all ++ command ∷ [] = take_more all i command within ∙ ap (λ c. take i all ++ c ∷ []) (sym at) in
-        let d = after_commands roster s who (take i all) in
-        let whole : after_commands roster s who (take (i + 1) all) ≡ followed (λ next. after_command roster next who command) d
-        = ap (after_commands roster s who) first_ones ∙ commands-push s (take i all) command in
-        let next : after_command roster (state_of mid) who command ≡ after_command roster d.after who command = ap (λ t. after_command roster t who command) before.after in
-        subst (DoneAs new (text ++ answer) (kept || more)) (sym whole) (record {
+        let d = after_commands roster s who 0 (take i all) in
+        let place : i ≡ 0 + length (take i all) = omega (arith, length-take-le i all (omega arith)) in
+        let whole : after_commands roster s who 0 (take (i + 1) all) ≡ followed (λ next. after_command roster next who i command) d
+        = ap (after_commands roster s who 0) first_ones ∙ commands-push s 0 i (take i all) command place in
+        let next : after_command roster (state_of mid) who i command ≡ after_command roster d.after who i command = ap (λ t. after_command roster t who i command) before.after in
+        subst (DoneAs new (text ++ answer) (kept || more) (option_or complaint other)) (sym whole) (record {
           after = here.after ∙ ap (λ (x : Done). x.after) next;
           said = ap₂ (λ (a b : List ℕ). a ++ b) before.said (here.said ∙ ap (λ (x : Done). x.text) next);
           keeps = ap₂ (λ (a b : Bool). a || b) before.keeps (here.keeps ∙ ap (λ (x : Done). x.kept) next);
+          complains = ap₂ (λ (a b : Option Complaint). option_or a b) before.complains (here.complains ∙ ap (λ (x : Done). x.complaint) next);
         })

@@ -1,6 +1,6 @@
 -- What isn't kept changes nothing.
 use Rattle.std.specs.Prelude.{Some, None, Option, Result, Ok, Err, is_none, if◌then◌else◌, ◌||◌, codes}
-use Rattle.std.proofs.Common.{◌≡◌, ℕ, Bool, true, false, List, [], ◌∷◌, ◌++◌, refl, sym, ap, ◌∙◌}
+use Rattle.std.proofs.Common.{◌≡◌, ℕ, ◌+◌, Bool, true, false, List, [], ◌∷◌, ◌++◌, refl, sym, ap, ◌∙◌}
 use Rattle.fed_record.specs.declared.askers.Who.{Who}
 use Rattle.fed_record.specs.declared.commands.Command.{Command}
 use Rattle.fed_wire.specs.declared.faults.WireFault.{WireFault}
@@ -10,10 +10,12 @@ use Rattle.fed_replica.specs.Answer.{Answer, Answer.Refuses, Answer.Replies, ans
 use Rattle.fed_replica.specs.State.{State, after_answer, after_packet_unless, lacking}
 use Rattle.fed_script.specs.Line.{Line, skips, begins, acts, lists, misuses, ships, takes, plans, compares, own_line_in}
 use Rattle.fed_answers.specs.Outcome.{answer_line}
+use Rattle.fed_answers.specs.Planned.{plan_if_any}
+use Rattle.fed_site.specs.declared.complaints.Complaint.{Complaint}
 use Rattle.fed_site.specs.Journal.{after_lines, kept_line, kept_lines}
 use Rattle.fed_site.specs.Line.{packet_text}
 use Rattle.fed_site.specs.Packets.{is_foreign, is_forgotten}
-use Rattle.fed_site.specs.Says.{adds, after_command, after_commands, after_reading, after_receipt, after_text, after_told, only, site_says}
+use Rattle.fed_site.specs.Says.{adds, after_command, after_commands, after_plan, after_reading, after_receipt, after_text, after_told, site_says, undone}
 
 -- ---- commands
 answer_unkept : (s : State) (a : Answer) → adds a ≡ false → after_answer s a ≡ s
@@ -25,13 +27,17 @@ neither : (a b : Bool) → (a || b) ≡ false → (a ≡ false) × (b ≡ false)
 neither true b e = cc
 neither false b e = (refl, e)
 
+plan_unkept : (s : State) (plan : Option (List ℕ)) → (after_plan s plan).after ≡ s
+plan_unkept s (Some text) = refl
+plan_unkept s None = refl
+
 module _ (roster : List (List ℕ × ℕ)) where
-  commands_unkept : (s : State) (who : Who) (commands : List Command) → (after_commands roster s who commands).kept ≡ false → (after_commands roster s who commands).after ≡ s
-  commands_unkept s who [] e = refl
-  commands_unkept s who (command ∷ commands) e =
-      let first = after_command roster s who command in
-      let both = neither first.kept (after_commands roster first.after who commands).kept e in
-      commands_unkept first.after who commands both.1 ∙ answer_unkept s (answer_to s.view s.site who command) both.0
+  commands_unkept : (s : State) (who : Who) (index : ℕ) (commands : List Command) → (after_commands roster s who index commands).kept ≡ false → (after_commands roster s who index commands).after ≡ s
+  commands_unkept s who index [] e = refl
+  commands_unkept s who index (command ∷ commands) e =
+      let first = after_command roster s who index command in
+      let both = neither first.kept (after_commands roster first.after who (index + 1) commands).kept e in
+      commands_unkept first.after who (index + 1) commands both.1 ∙ answer_unkept s (answer_to s.view s.site who command) both.0
 
   -- ---- packets
   receipt_unkept : (s : State) (p : PacketValue) (lacks : Option ℕ) → is_none lacks ≡ false → after_packet_unless lacks s p ≡ s
@@ -39,8 +45,8 @@ module _ (roster : List (List ℕ × ℕ)) where
   receipt_unkept s p None e = cc
 
   packet_unkept : (s : State) (p : PacketValue) (foreign forgotten : Bool)
-      → (if foreign then only s (answer_line (codes "foreign")) else (if forgotten then only s (answer_line (codes "forgotten")) else after_receipt roster s p)).kept ≡ false
-      → (if foreign then only s (answer_line (codes "foreign")) else (if forgotten then only s (answer_line (codes "forgotten")) else after_receipt roster s p)).after ≡ s
+      → (if foreign then undone s (answer_line (codes "foreign")) Complaint.Foreign else (if forgotten then undone s (answer_line (codes "forgotten")) Complaint.Forgotten else after_receipt roster s p)).kept ≡ false
+      → (if foreign then undone s (answer_line (codes "foreign")) Complaint.Foreign else (if forgotten then undone s (answer_line (codes "forgotten")) Complaint.Forgotten else after_receipt roster s p)).after ≡ s
   packet_unkept s p true forgotten e = refl
   packet_unkept s p false true e = refl
   packet_unkept s p false false e = receipt_unkept s p (lacking s p) e
@@ -54,12 +60,12 @@ module _ (roster : List (List ℕ × ℕ)) where
   told_unkept s None e = refl
   told_unkept s (Some skips) e = refl
   told_unkept s (Some (begins sites)) e = refl
-  told_unkept s (Some (acts site who commands)) e = commands_unkept s who commands e
+  told_unkept s (Some (acts site who commands)) e = commands_unkept s who 0 commands e
   told_unkept s (Some (lists site full jobs)) e = refl
   told_unkept s (Some (misuses site fault)) e = refl
   told_unkept s (Some (ships site to)) e = refl
   told_unkept s (Some (takes site packet)) e = refl
-  told_unkept s (Some (plans site moment)) e = refl
+  told_unkept s (Some (plans site moment)) e = plan_unkept s (plan_if_any roster s.view s.site moment)
   told_unkept s (Some (compares site other)) e = refl
 
   text_unkept : (s : State) (line : List ℕ) (text : Option (List ℕ)) → (after_text roster s line text).kept ≡ false → (after_text roster s line text).after ≡ s

@@ -1,5 +1,5 @@
 -- What a replica does to a packet is what a site does.
-use Rattle.std.specs.Prelude.{not, Some, None, is_none, if◌then◌else◌, nat_lt}
+use Rattle.std.specs.Prelude.{not, Some, None, is_none, option_map, if◌then◌else◌, nat_lt}
 use Rattle.std.proofs.Common.{◌≡◌, ℕ, ◌<◌, ◌==◌, Bool, true, false, List, replicate, refl, sym, ap, ◌∙◌, codes, arith}
 use Rattle.std.proofs.lemmas.Bool.{eqb-true, ltb-false, ltb-true, lt-ltb}
 use Rattle.fed_stamp.specs.Indexes.{put}
@@ -17,6 +17,7 @@ use Rattle.fed_world.specs.Outcome.{outcome_of_packet_unless}
 use Rattle.fed_answers.specs.Outcome.{answer_line, outcome_text}
 use Rattle.fed_site.specs.Acts.{DoneAs}
 use Rattle.fed_replica.specs.State.{state_of}
+use Rattle.fed_site.specs.declared.complaints.Complaint.{Complaint}
 use Rattle.fed_site.specs.Says.{after_receipt}
 
 module _ (roster : List (List ℕ × ℕ)) (old new : ReplicaValue) (p : PacketValue) where
@@ -25,13 +26,14 @@ module _ (roster : List (List ℕ × ℕ)) (old new : ReplicaValue) (p : PacketV
 
   -- ---- something is lacked
   pub gap : (lacks : ℕ) → lacks < 16 → IsFirstAbove p.delta.need old.board.version lacks → new ≡ old → (text : List ℕ) → text ≡ answer_line (outcome_text roster (Outcome.Gap lacks))
-      → DoneAs new text false (after_receipt roster s p)
+      → DoneAs new text false (Some (Complaint.Gap lacks)) (after_receipt roster s p)
   gap lacks small first same text told =
       let e : lacking s p ≡ Some lacks = first_missing p.delta.need old.board.version lacks small first in
       record {
         after = ap state_of same ∙ sym (ap (λ o. after_packet_unless o s p) e);
         said = told ∙ sym (ap (λ o. answer_line (outcome_text roster (outcome_of_packet_unless o s p))) e);
         keeps = sym (ap is_none e);
+        complains = sym (ap (option_map Complaint.Gap) e);
       }
 
   -- ---- it is taken
@@ -60,9 +62,10 @@ module _ (roster : List (List ℕ × ℕ)) (old new : ReplicaValue) (p : PacketV
     after : state_of new ≡ after_packet_unless None s p
     after = λ i. record { site = site i; view = board i; heard = λ from. heard_at from (nat_lt from 16) refl i }
 
-    pub taken : (text : List ℕ) → text ≡ answer_line (if told.grew then codes "taken" else codes "known") → DoneAs new text true (after_receipt roster s p)
+    pub taken : (text : List ℕ) → text ≡ answer_line (if told.grew then codes "taken" else codes "known") → DoneAs new text true None (after_receipt roster s p)
     taken text said = record {
       after = after ∙ sym (ap (λ o. after_packet_unless o s p) enough);
       said = said ∙ ap (λ b. answer_line (if b then codes "taken" else codes "known")) grew ∙ sym (ap (λ o. answer_line (outcome_text roster (outcome_of_packet_unless o s p))) enough);
       keeps = sym (ap is_none enough);
+      complains = sym (ap (option_map Complaint.Gap) enough);
     }

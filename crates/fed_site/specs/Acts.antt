@@ -1,5 +1,5 @@
 -- How the code does commands.
-use Rattle.std.specs.Prelude.{◌≡◌, ℕ, Bool, List, [], codes, Result, Ok, Err}
+use Rattle.std.specs.Prelude.{◌≡◌, ℕ, Bool, List, [], codes, Option, Result, Ok, Err}
 use Rattle.fed_stamp.specs.declared.versions.ClockFull.{ClockFull}
 use Rattle.fed_stamp.specs.Stamp.{StampValue}
 use Rattle.fed_stamp.specs.Version.{next_stamp}
@@ -10,13 +10,15 @@ use Rattle.fed_replica.specs.Replica.{ReplicaValue}
 use Rattle.fed_qstat.specs.Identifier.{identifier_text}
 use Rattle.fed_answers.specs.Outcome.{answer_line}
 use Rattle.fed_replica.specs.State.{state_of}
+use Rattle.fed_site.specs.declared.complaints.Complaint.{Complaint}
 use Rattle.fed_site.specs.Says.{Done}
 
--- it was done: the replica is what is left, and the text and whether the line is kept are these
-pub record DoneAs (new : ReplicaValue) (text : List ℕ) (kept : Bool) (d : Done) : Type 0 where
+-- it was done: the replica is what is left, and the text, whether the line is kept and the complaint are these
+pub record DoneAs (new : ReplicaValue) (text : List ℕ) (kept : Bool) (complaint : Option Complaint) (d : Done) : Type 0 where
   pub after : state_of new ≡ d.after
   pub said : text ≡ d.text
   pub keeps : kept ≡ d.kept
+  pub complains : complaint ≡ d.complaint
 
 abbrev pub stamp_line : List (List ℕ × ℕ) → Result StampValue ClockFull → List ℕ
 stamp_line roster (Ok stamp) = answer_line (identifier_text roster stamp)

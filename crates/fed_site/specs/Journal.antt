@@ -2,15 +2,18 @@
 use Rattle.std.specs.Prelude.{◌≡◌, ℕ, Bool, List, [], ◌∷◌, ◌++◌, if◌then◌else◌}
 use Rattle.fed_replica.specs.State.{State}
 use Rattle.fed_replica.specs.State.{state_of}
+use Rattle.fed_site.specs.declared.site.Answered.{Answered}
+use Rattle.fed_site.specs.Answered.{bytes_of, kept_of, complaint_of}
 use Rattle.fed_site.specs.Site.{SiteValue}
 use Rattle.fed_site.specs.Says.{Said, site_says, IsReply}
 
--- this was said, in these bytes, and the site is what is left
-pub record SaidAs (old new : SiteValue) (bytes : List ℕ) (kept : Bool) (said : Said) : Type 0 where
+-- this was answered, and the site is what is left
+pub record SaidAs (old new : SiteValue) (answer : Answered) (said : Said) : Type 0 where
   pub roster : new.roster ≡ old.roster
   pub after : state_of new.replica ≡ said.after
-  pub reply : IsReply (state_of old.replica) said.reply bytes
-  pub keeps : kept ≡ said.kept
+  pub reply : IsReply (state_of old.replica) said.reply (bytes_of answer)
+  pub keeps : kept_of answer ≡ said.kept
+  pub complains : complaint_of answer ≡ said.complaint
 
 module _ (roster : List (List ℕ × ℕ)) where
   -- the state after lines

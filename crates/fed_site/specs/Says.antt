@@ -1,5 +1,6 @@
--- What a site says to a line, what it holds then, and whether the line is to be kept.
-use Rattle.std.specs.Prelude.{◌≡◌, ℕ, Bool, true, false, ◌||◌, List, [], ◌∷◌, ◌++◌, codes, Option, Some, None, is_none, Result, Ok, Err, if◌then◌else◌}
+-- What a site says to a line, what it holds then, whether the line is to be kept, and why it isn't done as it asks.
+use Rattle.std.specs.Prelude.{◌≡◌, ℕ, ◌+◌, Bool, true, false, ◌||◌, List, [], ◌∷◌, ◌++◌, codes, Option, Some, None, is_none, Result, Ok, Err, if◌then◌else◌}
+use Rattle.std.specs.Option.{option_map, option_or}
 use Rattle.fed_record.specs.declared.askers.Who.{Who}
 use Rattle.fed_record.specs.declared.commands.Command.{Command}
 use Rattle.fed_wire.specs.declared.faults.WireFault.{WireFault}
@@ -10,8 +11,9 @@ use Rattle.fed_replica.specs.State.{State, after_answer, after_packet_unless, la
 use Rattle.fed_world.specs.Outcome.{outcome_of_answer, outcome_of_packet_unless}
 use Rattle.fed_script.specs.Line.{Line, skips, acts, lists, misuses, ships, plans, own_line_in}
 use Rattle.fed_answers.specs.Outcome.{answer_line, outcome_text, usage_line}
-use Rattle.fed_answers.specs.Planned.{plan_text}
+use Rattle.fed_answers.specs.Planned.{plan_if_any, plan_or_none}
 use Rattle.fed_answers.specs.Listed.{listed}
+use Rattle.fed_site.specs.declared.complaints.Complaint.{Complaint}
 use Rattle.fed_site.specs.Line.{packet_text}
 use Rattle.fed_site.specs.Packets.{is_foreign, is_forgotten, unread_text, IsPacketText}
 
@@ -25,24 +27,31 @@ abbrev pub IsReply : State → Reply → List ℕ → Type 0
 IsReply s (Text text) bytes = bytes ≡ text
 IsReply s (PacketFor to) bytes = (packet : List ℕ) × IsPacketText s to packet × (bytes ≡ answer_line packet)
 
--- what is left, what is replied, and whether the line changed what the site holds, so that it is to be kept
+-- what is left, what is replied, whether the line changed what the site holds, so that it is to be kept, and why it isn't
+-- done as it asks, if so
 pub record Said : Type 0 where
   pub after : State
   pub reply : Reply
   pub kept : Bool
+  pub complaint : Option Complaint
 
 -- what was done, and the text that says so
 pub record Done : Type 0 where
   pub after : State
   pub text : List ℕ
   pub kept : Bool
+  pub complaint : Option Complaint
 
 abbrev pub said_of : Done → Said
-said_of d = record { after = d.after; reply = Text d.text; kept = d.kept }
+said_of d = record { after = d.after; reply = Text d.text; kept = d.kept; complaint = d.complaint }
 
 -- nothing changes
 abbrev pub only : State → List ℕ → Done
-only s text = record { after = s; text = text; kept = false }
+only s text = record { after = s; text = text; kept = false; complaint = None }
+
+-- nor is it done as asked
+abbrev pub undone : State → List ℕ → Complaint → Done
+undone s text complaint = record { after = s; text = text; kept = false; complaint = Some complaint }
 
 -- ---- commands
 abbrev pub adds : Answer → Bool
@@ -50,29 +59,43 @@ adds (Refuses refusal) = false
 adds (Replies reply None) = false
 adds (Replies reply (Some new)) = true
 
+-- why the command at a place of the line is not done
+abbrev pub refused_at : ℕ → Answer → Option Complaint
+refused_at index (Refuses refusal) = Some (Complaint.Refused index refusal)
+refused_at index (Replies reply new) = None
+
 -- what is done next stands behind what was done first
 abbrev pub followed : (State → Done) → Done → Done
 followed next first = record {
   after = (next first.after).after;
   text = first.text ++ (next first.after).text;
   kept = first.kept || (next first.after).kept;
+  complaint = option_or first.complaint (next first.after).complaint;
 }
 
+-- ---- plans
+abbrev pub after_plan : State → Option (List ℕ) → Done
+after_plan s (Some text) = only s text
+after_plan s None = undone s (plan_or_none None) Complaint.NoPlan
+
 module _ (roster : List (List ℕ × ℕ)) where
-  abbrev pub does : State → Answer → Done
-  does s answer = record {
+  abbrev pub does : State → ℕ → Answer → Done
+  does s index answer = record {
     after = after_answer s answer;
     text = answer_line (outcome_text roster (outcome_of_answer answer));
     kept = adds answer;
+    complaint = refused_at index answer;
   }
 
-  abbrev pub after_command : State → Who → Command → Done
-  after_command s who command = does s (answer_to s.view s.site who command)
+  -- the command at a place of the line
+  abbrev pub after_command : State → Who → ℕ → Command → Done
+  after_command s who index command = does s index (answer_to s.view s.site who command)
 
-  abbrev pub after_commands : State → Who → List Command → Done
-  after_commands s who [] = only s []
-  after_commands s who (command ∷ commands) =
-      followed (λ next. after_commands next who commands) (after_command s who command)
+  -- the commands from a place of the line on
+  abbrev pub after_commands : State → Who → ℕ → List Command → Done
+  after_commands s who index [] = only s []
+  after_commands s who index (command ∷ commands) =
+      followed (λ next. after_commands next who (index + 1) commands) (after_command s who index command)
 
   -- ---- packets
   abbrev pub after_receipt : State → PacketValue → Done
@@ -80,28 +103,30 @@ module _ (roster : List (List ℕ × ℕ)) where
     after = after_packet_unless (lacking s p) s p;
     text = answer_line (outcome_text roster (outcome_of_packet_unless (lacking s p) s p));
     kept = is_none (lacking s p);
+    complaint = option_map Complaint.Gap (lacking s p);
   }
 
   abbrev pub after_packet : State → PacketValue → Done
-  after_packet s p = if is_foreign roster p then only s (answer_line (codes "foreign"))
-      else (if is_forgotten s p then only s (answer_line (codes "forgotten")) else after_receipt s p)
+  after_packet s p = if is_foreign roster p then undone s (answer_line (codes "foreign")) Complaint.Foreign
+      else (if is_forgotten s p then undone s (answer_line (codes "forgotten")) Complaint.Forgotten
+      else after_receipt s p)
 
   abbrev pub after_reading : State → Result PacketValue WireFault → Done
   after_reading s (Ok p) = after_packet s p
-  after_reading s (Err fault) = only s (answer_line (unread_text fault))
+  after_reading s (Err fault) = undone s (answer_line (unread_text fault)) (Complaint.Unread fault)
 
   -- ---- lines
   abbrev pub unreadable : State → Said
-  unreadable s = said_of (only s (answer_line (codes "cannot be read")))
+  unreadable s = said_of (undone s (answer_line (codes "cannot be read")) Complaint.Unreadable)
 
   -- what a line does: an empty one and a comment are answered by nothing, and one of another kind is none of a site
   abbrev pub after_line : State → Line → Said
   after_line s skips = said_of (only s [])
-  after_line s (acts site who commands) = said_of (after_commands s who commands)
+  after_line s (acts site who commands) = said_of (after_commands s who 0 commands)
   after_line s (lists site full jobs) = said_of (only s (listed full roster s.view jobs))
-  after_line s (misuses site fault) = said_of (only s (usage_line fault))
-  after_line s (ships site to) = record { after = s; reply = PacketFor to; kept = false }
-  after_line s (plans site moment) = said_of (only s (plan_text roster s.view s.site moment))
+  after_line s (misuses site fault) = said_of (undone s (usage_line fault) (Complaint.Misused fault))
+  after_line s (ships site to) = record { after = s; reply = PacketFor to; kept = false; complaint = None }
+  after_line s (plans site moment) = said_of (after_plan s (plan_if_any roster s.view s.site moment))
   after_line s line = unreadable s
 
   abbrev pub after_told : State → Option Line → Said

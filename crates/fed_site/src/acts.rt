@@ -1,11 +1,16 @@
 //! What a site does to commands.
-ghost use Rattle.std.specs.Prelude.{◌≡◌, ◌||◌, false, IfOk, OnErr};
+ghost use Rattle.std.specs.Prelude.{◌≡◌, ◌≢◌, ◌||◌, false, Some, None, Err, IfOk, OnErr};
 ghost use Rattle.std.specs.Cow.{cow_str_bytes};
 ghost use Rattle.fed_board.specs.Board.{reads};
+ghost use Rattle.fed_record.specs.declared.refusals.Refusal.{Refusal};
+ghost use Rattle.fed_world.specs.declared.outcomes.Outcome.{Outcome};
+ghost use Rattle.fed_answers.specs.Outcome.{answer_line, outcome_text};
+ghost use Rattle.fed_site.specs.declared.complaints.Complaint.{Complaint};
 ghost use Rattle.fed_site.specs.Acts.{DoneAs, line_for, next_line};
 ghost use Rattle.fed_replica.specs.State.{state_of};
 ghost use Rattle.fed_site.specs.Says.{after_command, after_commands};
 
+use crate::complaints::Complaint;
 use fed_answers::{Answer, outcome_line};
 use fed_board::Board;
 use fed_lattice::NoMemory;
@@ -13,22 +18,28 @@ use fed_record::{Command, Refusal, Reply, Who};
 use fed_replica::Replica;
 use fed_stamp::{Roster, SiteId};
 use fed_world::Outcome;
-use std::alloc::Global;
+use std::alloc::{AllocError, Global};
 use std::borrow::CowStr;
 
-/// What was done: the text that says so, and whether it changed what the site holds.
+/// What was done: the text that says so, whether it changed what the site holds, and why it isn't done as asked, if so.
 #[derive(Drop)]
 pub(crate) struct Done {
     pub(crate) text: Answer,
     pub(crate) kept: bool,
+    pub(crate) complaint: Option<Complaint>,
 }
 
-/// What a text says that tells of no change.
-pub(crate) fn unchanged(text: Answer) -> Done
+/// A text that says why nothing is done.
+pub(crate) fn undone(text: Answer, complaint: Complaint) -> Done
     ensures text { cow_str_bytes result.text ≡ cow_str_bytes text.entry }
     ensures kept { result.kept ≡ false }
+    ensures complaint { result.complaint ≡ Some complaint }
 {
-    Done { text, kept: false }
+    Done {
+        text,
+        kept: false,
+        complaint: Some(complaint),
+    }
 }
 
 /// The line of the identifier that the command would make, if it makes one. It is made before the command is done, so
@@ -56,41 +67,64 @@ fn ready_line(
     }
 }
 
-/// What was done, with the line of a reply: the one at hand where it has an identifier.
-fn replied(ready: Done, reply: Reply) -> Done
-    ensures text { cow_str_bytes result.text ≡ line_for (cow_str_bytes ready.text) reply }
-    ensures kept { result.kept ≡ ready.kept }
+/// The line of a reply: the one at hand where it has an identifier.
+fn reply_line(ready: Answer, reply: Reply) -> Answer
+    ensures { cow_str_bytes result ≡ line_for (cow_str_bytes ready.entry) reply }
 {
-    let Done { text, kept } = ready;
     match reply {
-        Reply::Submitted(_) | Reply::Reserved(_) => Done { text, kept },
-        Reply::Done => Done {
-            text: CowStr::Borrowed("done\n"),
-            kept,
-        },
-        Reply::Granted => Done {
-            text: CowStr::Borrowed("granted\n"),
-            kept,
-        },
-        Reply::Yours => Done {
-            text: CowStr::Borrowed("yours\n"),
-            kept,
+        Reply::Submitted(_) | Reply::Reserved(_) => ready,
+        Reply::Done => CowStr::Borrowed("done\n"),
+        Reply::Granted => CowStr::Borrowed("granted\n"),
+        Reply::Yours => CowStr::Borrowed("yours\n"),
+    }
+}
+
+/// What a replica says to a command, but for want of memory.
+fn told(said: Result<Reply, Refusal>) -> Result<Result<Reply, Refusal>, NoMemory>
+    ensures told { IfOk result (λ told. (told ≡ said) × (said ≢ Err Refusal.NoMemory)) }
+    ensures memory { OnErr result (said ≡ Err Refusal.NoMemory) }
+{
+    match said {
+        Ok(reply) => Ok(Ok(reply)),
+        Err(refusal) => match refusal {
+            Refusal::NoMemory => Err(NoMemory),
+            _ => Ok(Err(refusal)),
         },
     }
 }
 
-/// Does a command. Where memory is refused, nothing changes.
+/// What is said where the command at this place of a line is refused.
+fn refused(
+    alloc: Global,
+    roster: &Roster,
+    index: usize,
+    refusal: &Refusal,
+) -> Result<Done, AllocError>
+    ensures text { IfOk result (λ d. cow_str_bytes d.text ≡ answer_line (outcome_text roster.now (Outcome.Refused refusal.now))) }
+    ensures kept { IfOk result (λ d. d.kept ≡ false) }
+    ensures complaint { IfOk result (λ d. d.complaint ≡ Some (Complaint.Refused index refusal.now)) }
+{
+    let text = outcome_line(alloc, roster, Outcome::Refused(*refusal))?;
+    let complaint = Complaint::Refused {
+        index,
+        refusal: *refusal,
+    };
+    Ok(undone(text, complaint))
+}
+
+/// Does the command at this place of a line. Where memory is refused, nothing changes.
 fn ask(
     alloc: Global,
     roster: &Roster,
     here: SiteId,
     replica: &mut Replica,
     who: &Who,
+    index: usize,
     command: &Command,
 ) -> Result<Done, NoMemory>
     requires { replica.old.site ≡ here }
-    ensures done { IfOk result (λ d. DoneAs replica.new (cow_str_bytes d.text) d.kept
-        (after_command roster.now (state_of replica.old) who.now command.now)) }
+    ensures done { IfOk result (λ d. DoneAs replica.new (cow_str_bytes d.text) d.kept d.complaint
+        (after_command roster.now (state_of replica.old) who.now index command.now)) }
     ensures site { replica.new.site ≡ here }
     ensures unchanged { OnErr result (replica.new ≡ replica.old) }
 {
@@ -99,15 +133,17 @@ fn ask(
     let _counters = before.counters();
     let _number = here.get();
     let text = ready_line(alloc, roster, here, replica.board(), command)?;
-    match replica.act(who, command) {
+    match told(replica.act(who, command))? {
         Ok(reply) => {
             let kept = !replica.board().version().le(&before);
-            Ok(replied(Done { text, kept }, reply))
+            let text = reply_line(text, reply);
+            Ok(Done {
+                text,
+                kept,
+                complaint: None,
+            })
         }
-        Err(refusal) => match refusal {
-            Refusal::NoMemory => Err(NoMemory),
-            _ => Ok(unchanged(outcome_line(alloc, roster, Outcome::Refused(refusal))?)),
-        },
+        Err(refusal) => Ok(refused(alloc, roster, index, &refusal)?),
     }
 }
 
@@ -127,20 +163,23 @@ fn ask_each(
     commands: &[Command],
 ) -> Result<Done, NoMemory>
     requires { replica.old.site ≡ here }
-    ensures done { IfOk result (λ d. DoneAs replica.new (cow_str_bytes d.text) d.kept
-        (after_commands roster.now (state_of replica.old) who.now commands.now)) }
+    ensures done { IfOk result (λ d. DoneAs replica.new (cow_str_bytes d.text) d.kept d.complaint
+        (after_commands roster.now (state_of replica.old) who.now 0 commands.now)) }
     ensures site { replica.new.site ≡ here }
 {
     let mut text = String::new(alloc);
     let mut kept = false;
-    for command in commands {
-        let done = ask(alloc, roster, here, replica, who, command)?;
+    let mut complaint = None;
+    for (index, command) in commands.iter().enumerate() {
+        let done = ask(alloc, roster, here, replica, who, index, command)?;
         text.push_str(done.text.as_str())?;
         kept = is_either(kept, done.kept);
+        complaint = complaint.or(done.complaint);
     }
     Ok(Done {
         text: CowStr::Owned(text),
         kept,
+        complaint,
     })
 }
 
@@ -155,13 +194,13 @@ pub(crate) fn act(
     commands: &[Command],
 ) -> Result<Done, NoMemory>
     requires { replica.old.site ≡ here }
-    ensures done { IfOk result (λ d. DoneAs replica.new (cow_str_bytes d.text) d.kept
-        (after_commands roster.now (state_of replica.old) who.now commands.now)) }
+    ensures done { IfOk result (λ d. DoneAs replica.new (cow_str_bytes d.text) d.kept d.complaint
+        (after_commands roster.now (state_of replica.old) who.now 0 commands.now)) }
     ensures site { replica.new.site ≡ here }
     ensures unchanged { OnErr result (replica.new ≡ replica.old) }
 {
     if let [command] = commands {
-        let done = ask(alloc, roster, here, replica, who, command)?;
+        let done = ask(alloc, roster, here, replica, who, 0, command)?;
         return Ok(done);
     }
     let before = replica.copy()?;

@@ -21,7 +21,7 @@ pub fn kept_lines_are_enough()
         kept_lines roster s (kept_lines roster s lines) ≡ kept_lines roster s lines }
 {}
 
-/// Two packets that a site makes for another are equal: there is one text of it.
+/// Two packets that a site makes for another are equal.
 pub fn one_packet_is_made(x: &Packet, y: &Packet)
     ensures { (s : State) (to : ℕ) → IsMadeFor s to x.now → IsMadeFor s to y.now → x.now ≡ y.now }
 {

@@ -3,6 +3,8 @@
 
 /// What a site does to commands.
 mod acts;
+/// Why lines aren't done as they ask.
+mod complaints;
 /// Laws of what sites say and keep.
 pub mod laws;
 /// What a site does to the texts of packets.
@@ -10,6 +12,7 @@ mod packets;
 /// Sites.
 pub mod site;
 
+pub use complaints::Complaint;
 pub use site::{Answered, Site};
 
 /// Lines with their answers.

@@ -1,9 +1,11 @@
 //! What a site does to the texts of packets, and the text of its own.
-ghost use Rattle.std.specs.Prelude.{◌≡◌, ◌<◌, ◌≤◌, ◌++◌, nat_lt, drop, ℕ, List, IfOk, OnErr, codes, if◌then◌else◌};
+ghost use Rattle.std.specs.Prelude.{◌≡◌, ◌≢◌, ◌<◌, ◌≤◌, ◌++◌, nat_lt, drop, ℕ, List, IfOk, OnErr, codes, if◌then◌else◌};
 ghost use Rattle.std.specs.Cow.{cow_str_bytes};
 ghost use Rattle.std.specs.Fmt.{decimal};
 ghost use Rattle.std.specs.List.{list_any};
 ghost use Rattle.fed_stamp.specs.declared.sites.TheConstants.{SITES};
+ghost use Rattle.fed_delta.specs.declared.faults.Absorb.{Absorb};
+ghost use Rattle.fed_wire.specs.declared.faults.WireFault.{WireFault};
 ghost use Rattle.fed_answers.specs.Outcome.{answer_line};
 ghost use Rattle.fed_site.specs.Acts.{DoneAs};
 ghost use Rattle.fed_replica.specs.State.{state_of};
@@ -11,7 +13,8 @@ ghost use Rattle.fed_site.specs.Packets.{is_foreign as tells_of_others, is_forgo
 ghost use Rattle.fed_site.specs.Says.{after_packet, after_reading, after_receipt};
 ghost use Rattle.fed_wire.specs.Reading.{packet_in};
 
-use crate::acts::{Done, unchanged};
+use crate::acts::{Done, undone};
+use crate::complaints::Complaint;
 use fed_answers::{Answer, outcome_line};
 use fed_delta::Absorb;
 use fed_lattice::NoMemory;
@@ -23,7 +26,7 @@ use std::alloc::{AllocError, Global};
 use std::borrow::CowStr;
 
 /// A part of a packet, in small letters.
-fn part_text(part: Part) -> &'static str
+pub(crate) fn part_text(part: Part) -> &'static str
     ensures { result.now ≡ text_of_part part }
 {
     match part {
@@ -120,6 +123,17 @@ fn taken_line(taken: Taken) -> Answer
     }
 }
 
+/// The site of which something is lacked, but for want of memory.
+fn lacked(fault: Absorb) -> Result<SiteId, NoMemory>
+    ensures lacked { IfOk result (λ site. fault ≡ Absorb.Gap site) }
+    ensures memory { OnErr result (fault ≡ Absorb.NoMemory) }
+{
+    match fault {
+        Absorb::Gap { missing } => Ok(missing),
+        Absorb::NoMemory => Err(NoMemory),
+    }
+}
+
 /// Takes a packet of this federation. Where memory is refused, nothing changes.
 fn take_known(
     alloc: Global,
@@ -127,7 +141,7 @@ fn take_known(
     replica: &mut Replica,
     packet: &Packet,
 ) -> Result<Done, NoMemory>
-    ensures done { IfOk result (λ d. DoneAs replica.new (cow_str_bytes d.text) d.kept
+    ensures done { IfOk result (λ d. DoneAs replica.new (cow_str_bytes d.text) d.kept d.complaint
         (after_receipt roster.now (state_of replica.old) packet.now)) }
     ensures site { replica.new.site ≡ replica.old.site }
     ensures unchanged { OnErr result (replica.new ≡ replica.old) }
@@ -137,14 +151,14 @@ fn take_known(
         Ok(taken) => Ok(Done {
             text: taken_line(taken),
             kept: true,
+            complaint: None,
         }),
-        Err(fault) => match fault {
-            Absorb::Gap { missing } => {
-                sites_are_few(missing);
-                Ok(unchanged(outcome_line(alloc, roster, Outcome::Gap(missing))?))
-            }
-            Absorb::NoMemory => Err(NoMemory),
-        },
+        Err(fault) => {
+            let missing = lacked(fault)?;
+            sites_are_few(missing);
+            let text = outcome_line(alloc, roster, Outcome::Gap(missing))?;
+            Ok(undone(text, Complaint::Gap(missing)))
+        }
     }
 }
 
@@ -157,18 +171,29 @@ fn take_packet(
     packet: &Packet,
 ) -> Result<Done, NoMemory>
     requires { replica.old.site ≡ here }
-    ensures done { IfOk result (λ d. DoneAs replica.new (cow_str_bytes d.text) d.kept
+    ensures done { IfOk result (λ d. DoneAs replica.new (cow_str_bytes d.text) d.kept d.complaint
         (after_packet roster.now (state_of replica.old) packet.now)) }
     ensures site { replica.new.site ≡ here }
     ensures unchanged { OnErr result (replica.new ≡ replica.old) }
 {
     if is_foreign(roster, packet) {
-        return Ok(unchanged(CowStr::Borrowed("foreign\n")));
+        return Ok(undone(CowStr::Borrowed("foreign\n"), Complaint::Foreign));
     }
     if is_forgotten(here, replica, packet) {
-        return Ok(unchanged(CowStr::Borrowed("forgotten\n")));
+        return Ok(undone(CowStr::Borrowed("forgotten\n"), Complaint::Forgotten));
     }
     take_known(alloc, roster, replica, packet)
+}
+
+/// The fault of a text, but for want of memory.
+fn of_text(fault: WireFault) -> Result<WireFault, NoMemory>
+    ensures same { IfOk result (λ told. (told ≡ fault) × (fault ≢ WireFault.NoMemory)) }
+    ensures memory { OnErr result (fault ≡ WireFault.NoMemory) }
+{
+    match fault {
+        WireFault::NoMemory => Err(NoMemory),
+        _ => Ok(fault),
+    }
 }
 
 /// Takes the packet that a text is of. Where memory is refused, nothing changes.
@@ -180,17 +205,17 @@ pub(crate) fn take(
     text: &[u8],
 ) -> Result<Done, NoMemory>
     requires { replica.old.site ≡ here }
-    ensures done { IfOk result (λ d. DoneAs replica.new (cow_str_bytes d.text) d.kept
+    ensures done { IfOk result (λ d. DoneAs replica.new (cow_str_bytes d.text) d.kept d.complaint
         (after_reading roster.now (state_of replica.old) (packet_in text.now))) }
     ensures site { replica.new.site ≡ here }
     ensures unchanged { OnErr result (replica.new ≡ replica.old) }
 {
     match read(alloc, text) {
         Ok(packet) => take_packet(alloc, roster, here, replica, &packet),
-        Err(fault) => match fault {
-            WireFault::NoMemory => Err(NoMemory),
-            _ => Ok(unchanged(unread_line(alloc, fault)?)),
-        },
+        Err(fault) => {
+            let fault = of_text(fault)?;
+            Ok(undone(unread_line(alloc, fault)?, Complaint::Unread(fault)))
+        }
     }
 }
 

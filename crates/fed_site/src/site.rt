@@ -1,17 +1,23 @@
 //! Sites.
-ghost use Rattle.std.specs.Prelude.{◌≡◌, ◌<◌, false, IfOk, OnErr, length, map, nat_eq, option_map};
+ghost use Rattle.std.specs.Prelude.{◌≡◌, ◌<◌, false, Some, None, IfOk, OnErr, codes, if◌then◌else◌, is_none, length, map, nat_eq, option_map};
 ghost use Rattle.std.specs.List.{list_any};
 ghost use Rattle.std.specs.Cow.{cow_str_bytes};
+ghost use Rattle.fed_board.specs.Board.{reads};
 ghost use Rattle.fed_script.specs.LineView.{said_by};
 ghost use Rattle.fed_replica.specs.State.{empty_at, state_of};
-ghost use Rattle.fed_site.specs.Answered.{bytes_of, kept_of};
+ghost use Rattle.fed_answers.specs.Outcome.{answer_line};
+ghost use Rattle.fed_answers.specs.Planned.{plan_or_none};
+ghost use Rattle.fed_site.specs.declared.complaints.Complaint.{Complaint};
+ghost use Rattle.fed_site.specs.Answered.{bytes_of, kept_of, complaint_of};
 ghost use Rattle.fed_site.specs.Journal.{SaidAs, after_lines};
 ghost use Rattle.fed_site.specs.Line.{packet_text as packet_text_in};
 ghost use Rattle.fed_site.specs.Says.{after_line, after_told, site_says};
 
-use crate::acts::{Done, act};
+use crate::acts::{Done, act, undone};
+use crate::complaints::Complaint;
 use crate::packets::{ship, take};
-use fed_answers::{Answer, listing_text, plan_line, usage_line};
+use fed_answers::{Answer, listing_text, plan_lines, usage_line};
+use fed_board::Board;
 use fed_lattice::NoMemory;
 use fed_replica::Replica;
 use fed_script::{HeldRoster, Line, read_own_line};
@@ -23,10 +29,17 @@ use std::marker::Model;
 /// What a site answers to a line.
 #[derive(Drop)]
 pub enum Answered {
-    /// A text, and whether the line changed what the site holds, so that it is to be kept.
-    Text { text: Answer, kept: bool },
+    /// A text, whether the line changed what the site holds, so that it is to be kept, and why the line isn't done as it
+    /// asks, if so.
+    Text {
+        text: Answer,
+        kept: bool,
+        complaint: Option<Complaint>,
+    },
     /// The line of a packet.
-    Packet { text: Vec<u8> },
+    Packet {
+        text: Vec<u8>,
+    },
 }
 
 impl Answered {
@@ -47,6 +60,16 @@ impl Answered {
         match self {
             Answered::Text { kept, .. } => *kept,
             Answered::Packet { .. } => false,
+        }
+    }
+
+    /// Why the line isn't done as it asks, if so: the first complaint of its commands.
+    pub fn complaint(&self) -> Option<Complaint>
+        ensures { result ≡ complaint_of self.now }
+    {
+        match self {
+            Answered::Text { complaint, .. } => *complaint,
+            Answered::Packet { .. } => None,
         }
     }
 }
@@ -73,17 +96,52 @@ impl Model for Site {
 fn done_answer(done: Done) -> Answered
     ensures bytes { bytes_of result ≡ cow_str_bytes done.text }
     ensures kept { kept_of result ≡ done.kept }
+    ensures complaint { complaint_of result ≡ done.complaint }
 {
-    let Done { text, kept } = done;
-    Answered::Text { text, kept }
+    let Done {
+        text,
+        kept,
+        complaint,
+    } = done;
+    Answered::Text {
+        text,
+        kept,
+        complaint,
+    }
 }
 
 /// The answer of a text that tells of no change.
 fn told(text: Answer) -> Answered
     ensures bytes { bytes_of result ≡ cow_str_bytes text.entry }
     ensures kept { kept_of result ≡ false }
+    ensures complaint { complaint_of result ≡ None }
 {
-    Answered::Text { text, kept: false }
+    Answered::Text {
+        text,
+        kept: false,
+        complaint: None,
+    }
+}
+
+/// The answer of a plan, or that there is none.
+fn plan_answer(plan: Option<Answer>) -> Answered
+    ensures bytes { bytes_of result ≡ plan_or_none (option_map cow_str_bytes plan.entry) }
+    ensures kept { kept_of result ≡ false }
+    ensures complaint { complaint_of result ≡ (if is_none plan.entry then Some Complaint.NoPlan else None) }
+{
+    match plan {
+        Some(text) => told(text),
+        None => done_answer(undone(CowStr::Borrowed("no plan\n"), Complaint::NoPlan)),
+    }
+}
+
+/// The answer to a line that can't be read.
+fn unreadable() -> Answered
+    ensures bytes { bytes_of result ≡ answer_line (codes "cannot be read") }
+    ensures kept { kept_of result ≡ false }
+    ensures complaint { complaint_of result ≡ Some Complaint.Unreadable }
+{
+    done_answer(undone(CowStr::Borrowed("cannot be read\n"), Complaint::Unreadable))
 }
 
 /// Whether the line has a line feed.
@@ -132,9 +190,16 @@ impl Site {
         self.replica.board().version()
     }
 
+    /// The board.
+    pub fn board(&self) -> &Board
+        ensures { reads result.now ≡ (state_of self.now.replica).view }
+    {
+        self.replica.board()
+    }
+
     /// Does what a line says.
     fn do_line(&mut self, alloc: Global, line: Line) -> Result<Answered, NoMemory>
-        ensures said { IfOk result (λ a. SaidAs self.old self.new (bytes_of a) (kept_of a)
+        ensures said { IfOk result (λ a. SaidAs self.old self.new a
             (after_line self.old.roster (state_of self.old.replica) (said_by line))) }
         ensures unchanged { OnErr result (self.new ≡ self.old) }
     {
@@ -150,32 +215,36 @@ impl Site {
                 let text = listing_text(alloc, roster, self.replica.board(), full, &jobs)?;
                 Ok(told(CowStr::Owned(text)))
             }
-            Line::Misuse { fault, .. } => Ok(told(CowStr::Owned(usage_line(alloc, fault)?))),
+            Line::Misuse { fault, .. } => {
+                let text = CowStr::Owned(usage_line(alloc, fault)?);
+                Ok(done_answer(undone(text, Complaint::Misused(fault))))
+            }
             Line::Ship { to, .. } => Ok(Answered::Packet {
                 text: ship(alloc, &self.replica, to)?,
             }),
             Line::Plan { moment, .. } => {
-                Ok(told(plan_line(alloc, roster, self.replica.board(), here, moment)?))
+                let plan = plan_lines(alloc, roster, self.replica.board(), here, moment)?;
+                Ok(plan_answer(plan))
             }
-            _ => Ok(told(CowStr::Borrowed("cannot be read\n"))),
+            _ => Ok(unreadable()),
         }
     }
 
     /// Does what a line says, if it can be read.
     fn do_told(&mut self, alloc: Global, line: Option<Line>) -> Result<Answered, NoMemory>
-        ensures said { IfOk result (λ a. SaidAs self.old self.new (bytes_of a) (kept_of a)
+        ensures said { IfOk result (λ a. SaidAs self.old self.new a
             (after_told self.old.roster (state_of self.old.replica) (option_map said_by line))) }
         ensures unchanged { OnErr result (self.new ≡ self.old) }
     {
         match line {
             Some(line) => self.do_line(alloc, line),
-            None => Ok(told(CowStr::Borrowed("cannot be read\n"))),
+            None => Ok(unreadable()),
         }
     }
 
     /// Answers a line. Where memory is refused, the site holds what it held.
     pub fn answer(&mut self, alloc: Global, line: &[u8]) -> Result<Answered, NoMemory>
-        ensures said { IfOk result (λ a. SaidAs self.old self.new (bytes_of a) (kept_of a)
+        ensures said { IfOk result (λ a. SaidAs self.old self.new a
             (site_says self.old.roster (state_of self.old.replica) line.now)) }
         ensures unchanged { OnErr result (self.new ≡ self.old) }
     {

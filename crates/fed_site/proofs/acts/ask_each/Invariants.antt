@@ -4,8 +4,8 @@ use Rattle.fed_replica.specs.State.{state_of}
 use Rattle.fed_site.specs.Says.{after_commands}
 use Rattle.fed_site.proofs.acts.ask_each.Given as goal
 
-abbrev pub invariant-loop-command : goal.invariant-loop-command
-invariant-loop-command l = record {
+abbrev pub invariant-loop-index : goal.invariant-loop-index
+invariant-loop-index l = record {
   site : l.replica.site ≡ l.here;
-  done : DoneAs l.replica (string_bytes l.text) l.kept (after_commands l.roster (state_of l.fn.replica) l.who (take l.command-index l.commands));
+  done : DoneAs l.replica (string_bytes l.text) l.kept l.complaint (after_commands l.roster (state_of l.fn.replica) l.who 0 (take l.index l.commands));
 }

@@ -1,10 +1,7 @@
 use Rattle.std.specs.Cow.{cow_str_bytes}
-use Rattle.std.proofs.Common.{sym, subst, ◌∙◌}
+use Rattle.std.proofs.Common.{subst, ◌∙◌}
 use Rattle.fed_delta.specs.declared.faults.Absorb.{Absorb}
 use Rattle.fed_delta.specs.Absorb.{IsFaultOf}
-use Rattle.fed_replica.specs.State.{state_of}
-use Rattle.fed_site.specs.Acts.{DoneAs}
-use Rattle.fed_site.specs.Says.{after_receipt}
 use Rattle.fed_site.proofs.Taking.{gap, taken}
 use Rattle.fed_site.proofs.packets.take_known.Goals as goal
 
@@ -13,9 +10,8 @@ returns-in-Ok-clause-done c =
     taken c.args.roster.now c.args.replica.now c.take.new.self c.args.packet.now c.in-Ok.taken c.in-Ok.ensures.grew c.take.ensures.site c.in-Ok.ensures.known c.in-Ok.ensures.joined
     c.senders_are_sites.ensures c.in-Ok.ensures.heard (cow_str_bytes c.taken_line.result) c.taken_line.ensures
 
-pub returns-in_ok-outcome_line-in-Gap-clause-done : goal.returns-in_ok-outcome_line-in-Gap-clause-done
-returns-in_ok-outcome_line-in-Gap-clause-done c =
-    subst (λ kept. DoneAs c.take.new.self (cow_str_bytes c.unchanged.result.text) kept (after_receipt c.args.roster.now (state_of c.args.replica.now) c.args.packet.now)) (sym c.unchanged.ensures.kept)
-    (gap c.args.roster.now c.args.replica.now c.take.new.self c.args.packet.now c.in-Gap.missing c.sites_are_few.ensures
-    (subst (λ (e : Absorb). IsFaultOf c.args.packet.now.delta.need c.args.replica.now.board.version e) c.in-Gap.is c.in-Err.ensures.fault)
-    c.in-Err.ensures.unchanged (cow_str_bytes c.unchanged.result.text) (c.unchanged.ensures.text ∙ c.in_ok-outcome_line-in-Gap.ensures))
+pub returns-in_ok-text-in-Err-clause-done : goal.returns-in_ok-text-in-Err-clause-done
+returns-in_ok-text-in-Err-clause-done c =
+    let fault = subst (λ (e : Absorb). IsFaultOf c.args.packet.now.delta.need c.args.replica.now.board.version e) c.in_ok-missing-in-Err.ensures.lacked c.in-Err.ensures.fault in
+    let d = gap c.args.roster.now c.args.replica.now c.take.new.self c.args.packet.now c.in_ok-missing-in-Err.missing c.sites_are_few.ensures fault c.in-Err.ensures.unchanged (cow_str_bytes c.undone.result.text) (c.undone.ensures.text ∙ c.in_ok-text-in-Err.ensures) in
+    record { after = d.after; said = d.said; keeps = c.undone.ensures.kept ∙ d.keeps; complains = c.undone.ensures.complaint ∙ d.complains }

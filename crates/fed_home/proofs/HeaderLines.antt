@@ -1,0 +1,56 @@
+-- What headers name.
+use Rattle.std.specs.Prelude.{Some, None, Option, option_map, ◌&&◌, codes, if◌then◌else◌}
+use Rattle.std.proofs.Common.{◌≡◌, ℕ, ◌<◌, Bool, true, false, List, [], ◌∷◌, ◌++◌, length, refl, subst, arith}
+use Rattle.std.specs.Str.{bytes_eq}
+use Rattle.fed_stamp.specs.Roster.{is_named}
+use Rattle.fed_words.proofs.SiteNames.{found_in_range}
+use Rattle.fed_words.specs.Site.{site_named}
+use Rattle.fed_script.specs.Forms.{◌>>=◌}
+use Rattle.fed_script.specs.Line.{begins, first_line_in}
+use Rattle.fed_script.specs.Lines.{is_readable, words_of}
+use Rattle.fed_script.specs.Rosters.{roster_of}
+use Rattle.fed_journal.specs.Lines.{IsLine}
+use Rattle.fed_home.specs.declared.headers.Header.{Header}
+use Rattle.fed_home.specs.Header.{header_in, header_of, site_among}
+use Rattle.fed_home.proofs.Lines.{readable_line}
+
+-- the words of a roster behind the word of a script's first line
+pub first_of_roster : (sites : List ℕ) → is_readable sites ≡ true → first_line_in (codes "roster " ++ sites) ≡ option_map begins (roster_of (words_of sites))
+first_of_roster sites e = rw e refl
+
+some_same : (x y : Header) → Some x ≡ Some y → x ≡ y
+some_same x y e = cc
+
+module _ (name : List ℕ) (h : Header) where
+  found_below : (roster : List (List ℕ × ℕ)) (found : Option ℕ) → site_named roster name ≡ found → option_map (λ site. record { roster = roster; site = site }) found ≡ Some h → h.site < length h.roster
+  found_below roster None s e = cc
+  found_below roster (Some i) s e =
+      let made : Header = record { roster = roster; site = i } in
+      let is : made ≡ h = some_same made h e in
+      let below : i < length roster = let within = (found_in_range (is_named roster name) 0 (length roster) i s).1 in omega arith in
+      subst (λ (x : Header). x.site < length x.roster) is below
+
+  among_below : (o : Option (List (List ℕ × ℕ))) → (o >>= λ roster. option_map (λ site. record { roster = roster; site = site }) (site_named roster name)) ≡ Some h → h.site < length h.roster
+  among_below None e = cc
+  among_below (Some roster) e = found_below roster (site_named roster name) refl e
+
+  tested_below : (test : Bool) (sites : List (List ℕ)) → (if test then site_among name sites else None) ≡ Some h → h.site < length h.roster
+  tested_below true sites e = among_below (roster_of sites) e
+  tested_below false sites e = cc
+
+words_below : (words : List (List ℕ)) (h : Header) → header_of words ≡ Some h → h.site < length h.roster
+words_below [] h e = cc
+words_below (format ∷ []) h e = cc
+words_below (format ∷ version ∷ []) h e = cc
+words_below (format ∷ version ∷ name ∷ sites) h e = tested_below name h (bytes_eq format (codes "nettlebeam") && bytes_eq version (codes "1")) sites e
+
+-- a line that is read can be kept, and names a site of its roster
+read_line : (line : List ℕ) (readable : Bool) (h : Header) → is_readable line ≡ readable → (if readable then header_of (words_of line) else None) ≡ Some h → IsLine line × (h.site < length h.roster)
+read_line line true h r e = (readable_line line r, words_below (words_of line) h e)
+read_line line false h r e = cc
+
+pub header_line : (line : List ℕ) (h : Header) → header_in line ≡ Some h → IsLine line
+header_line line h e = (read_line line (is_readable line) h refl e).0
+
+pub header_site : (line : List ℕ) (h : Header) → header_in line ≡ Some h → h.site < length h.roster
+header_site line h e = (read_line line (is_readable line) h refl e).1

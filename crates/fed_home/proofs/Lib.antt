@@ -1,0 +1,5 @@
+pub mod Answering
+pub mod FaultCases
+pub mod HeaderLines
+pub mod Lines
+pub mod Replays

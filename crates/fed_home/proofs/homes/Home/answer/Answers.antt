@@ -1,0 +1,30 @@
+use Rattle.std.specs.Borrow.{Bor}
+use Rattle.std.specs.List.{All}
+use Rattle.std.proofs.Common.{◌≡◌, ◌∙◌, sym, ap, subst, List, ℕ, map}
+use Rattle.fed_replica.specs.State.{state_of}
+use Rattle.fed_site.specs.Journal.{kept_lines}
+use Rattle.fed_journal.specs.Journal.{device_of, entries_in}
+use Rattle.fed_journal.specs.Lines.{IsLine}
+use Rattle.fed_home.proofs.Lines.{kept_are_lines}
+use Rattle.fed_home.proofs.Replays.{open_again}
+use Rattle.fed_home.proofs.homes.Home.answer.Goals as goal
+
+pub append-requires-clause-lines : goal.append-requires-clause-lines
+append-requires-clause-lines g c =
+    let lines = map (λ (line : Bor (List ℕ)). line.now) c.args.lines.now in
+    let site = c.args.self.now.site in
+    let group : map (λ (text : Bor (List ℕ)). text.now) c.deref.result.now ≡ kept_lines site.roster (state_of site.replica) lines =
+    ap (map (λ (text : Bor (List ℕ)). text.now)) c.deref.ensures.value ∙ c.in_ok-run.ensures.kept in
+    subst (λ (ls : List (List ℕ)). All IsLine ls) (sym group) (kept_are_lines site.roster (state_of site.replica) lines)
+
+pub returns-clause-open : goal.returns-clause-open
+returns-clause-open g c =
+    let lines = map (λ (line : Bor (List ℕ)). line.now) c.args.lines.now in
+    let site = c.args.self.now.site in
+    let group : map (λ (text : Bor (List ℕ)). text.now) c.deref.result.now ≡ kept_lines site.roster (state_of site.replica) lines =
+    ap (map (λ (text : Bor (List ℕ)). text.now)) c.deref.ensures.value ∙ c.in_ok-run.ensures.kept in
+    record {
+      settled = c.in_ok-append.ensures.acknowledged;
+      replayed = open_again (entries_in (g.D.Device.seen (device_of c.args.self.now.journal))) (map (λ (text : Bor (List ℕ)). text.now) c.deref.result.now) lines
+          (g.D.Device.seen (device_of c.append.new.self)) site c.answer_lines.new.site c.in_ok-append.ensures.appended group c.requires.replayed c.in_ok-run.ensures.roster c.in_ok-run.ensures.after;
+    }

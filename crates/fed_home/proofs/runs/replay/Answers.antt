@@ -1,0 +1,16 @@
+use Rattle.std.proofs.Common.{◌≡◌, ◌∙◌, sym, Some, None, ◌∷◌}
+use Rattle.fed_home.specs.Header.{header_in}
+use Rattle.fed_home.proofs.FaultCases.{unread_first}
+use Rattle.fed_home.proofs.HeaderLines.{header_site}
+use Rattle.fed_home.proofs.runs.replay.Goals as goal
+
+pub open-requires : goal.open-requires
+open-requires c =
+    let e : header_in c.deref.result.now ≡ Some c.in-Some-2.header = sym c.in_ok-header.ensures ∙ c.in-Some-2.is in
+    header_site c.deref.result.now c.in-Some-2.header e
+
+pub returns-in-None-clause-fault : goal.returns-in-None-clause-fault
+returns-in-None-clause-fault c =
+    let none : header_in c.deref.result.now ≡ None = sym c.in_ok-header.ensures ∙ c.in-None.is in
+    let is : c.args.entries.now ≡ c.in-Some.first.now ∷ c.in-Some.lines.now = c.in-Some.ensures.cases.0 in
+    unread_first c.args.entries.now c.in-Some.lines.now c.in-Some.first.now c.deref.result.now is c.deref.ensures.value none

@@ -1,0 +1,42 @@
+-- The site that entries stand for, and what it answers to lines.
+use Rattle.std.specs.Prelude.{◌≡◌, ℕ, List, [], ◌∷◌, Option, None, option_map, ⊤}
+use Rattle.fed_replica.specs.State.{State, empty_at, state_of}
+use Rattle.fed_site.specs.Answered.{bytes_of, complaint_of, kept_of}
+use Rattle.fed_site.specs.Journal.{after_lines}
+use Rattle.fed_site.specs.Says.{IsReply, site_says}
+use Rattle.fed_site.specs.Site.{SiteValue}
+use Rattle.fed_site.specs.declared.site.Answered.{Answered}
+use Rattle.fed_home.specs.declared.headers.Header.{Header}
+use Rattle.fed_home.specs.Header.{header_in}
+
+-- a roster, and what a site of it holds
+pub record Replayed : Type 0 where
+  pub roster : List (List ℕ × ℕ)
+  pub state : State
+
+-- the site of the header that has answered these lines
+abbrev pub site_after : List (List ℕ) → Header → Replayed
+site_after lines header = record {
+  roster = header.roster;
+  state = after_lines header.roster (empty_at header.site) lines;
+}
+
+-- the site that entries stand for: the first is the header, and it has answered the others
+abbrev pub replay : List (List ℕ) → Option Replayed
+replay [] = None
+replay (first ∷ lines) = option_map (site_after lines) (header_in first)
+
+-- a site as the code keeps it
+abbrev pub replayed_of : SiteValue → Replayed
+replayed_of site = record { roster = site.roster; state = state_of site.replica }
+
+module _ (roster : List (List ℕ × ℕ)) where
+  -- these are the answers to these lines, one after another
+  abbrev pub AreReplies : State → List (List ℕ) → List Answered → Type 0
+  AreReplies s [] [] = ⊤
+  AreReplies s (line ∷ lines) (answer ∷ answers) =
+      IsReply s (site_says roster s line).reply (bytes_of answer)
+      × (kept_of answer ≡ (site_says roster s line).kept)
+      × (complaint_of answer ≡ (site_says roster s line).complaint)
+      × AreReplies (site_says roster s line).after lines answers
+  AreReplies s _ _ = ⊥

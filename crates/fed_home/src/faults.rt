@@ -1,0 +1,99 @@
+//! Why a site on a disk fails.
+ghost use Rattle.std.specs.Prelude.{◌≡◌};
+
+use fed_journal::JournalFault;
+use fed_lattice::NoMemory;
+use std::alloc::{AllocError, AllocFailed};
+use std::io;
+use thiserror::Error;
+
+/// Why a home isn't made or opened, or lines aren't answered.
+#[derive(Clone, Copy, Debug, Drop, Error)]
+pub enum HomeFault {
+    /// 1: a growth was refused memory.
+    #[error("out of memory")]
+    NoMemory,
+    /// 2: the disk failed, with this error.
+    #[error("{0}")]
+    Failed(io::Error),
+    /// 3: this line of the journal, counted from 1, is damaged.
+    #[error("line {line} of the journal is damaged")]
+    Damaged { line: u64 },
+    /// 4: the journal would have more bytes than it may.
+    #[error("the journal is full")]
+    Full,
+    /// 5: the journal has no entry, so that no site is named.
+    #[error("the journal has no entry")]
+    NoHeader,
+    /// 6: the header doesn't say `nettlebeam 1`, the name of a site, and a roster that has it.
+    #[error("the header doesn't name a site and its roster in format 1")]
+    UnreadHeader,
+    /// 7: the journal has entries, so that no site can be made there.
+    #[error("the journal has entries")]
+    HasEntries,
+}
+
+impl HomeFault {
+    ghost use Rattle.fed_home.specs.Fault.{number_of};
+
+    /// The number of the fault: 1 for `NoMemory`, 2 for `Failed`, 3 for `Damaged`, 4 for `Full`, 5 for `NoHeader`, 6 for
+    /// `UnreadHeader` and 7 for `HasEntries`.
+    pub fn number(self) -> u8
+        ensures { result ≡ number_of self }
+    {
+        match self {
+            HomeFault::NoMemory => 1,
+            HomeFault::Failed(_) => 2,
+            HomeFault::Damaged { .. } => 3,
+            HomeFault::Full => 4,
+            HomeFault::NoHeader => 5,
+            HomeFault::UnreadHeader => 6,
+            HomeFault::HasEntries => 7,
+        }
+    }
+}
+
+impl From<JournalFault> for HomeFault {
+    ghost use Rattle.fed_home.specs.Fault.{fault_of};
+
+    ghost from_gives = { λ fault r. r ≡ fault_of fault };
+
+    fn from(fault: JournalFault) -> HomeFault {
+        match fault {
+            JournalFault::NoMemory => HomeFault::NoMemory,
+            JournalFault::Failed(error) => HomeFault::Failed(error),
+            JournalFault::Damaged { line } => HomeFault::Damaged { line },
+            JournalFault::Full => HomeFault::Full,
+        }
+    }
+}
+
+impl From<NoMemory> for HomeFault {
+    ghost use Rattle.fed_home.specs.declared.faults.HomeFault.TheVariants.{NoMemory};
+
+    ghost from_gives = { λ _ r. r ≡ NoMemory };
+
+    fn from(_fault: NoMemory) -> HomeFault {
+        HomeFault::NoMemory
+    }
+}
+
+impl From<AllocError> for HomeFault {
+    ghost use Rattle.fed_home.specs.declared.faults.HomeFault.TheVariants.{NoMemory};
+
+    ghost from_gives = { λ _ r. r ≡ NoMemory };
+
+    fn from(_error: AllocError) -> HomeFault {
+        HomeFault::NoMemory
+    }
+}
+
+impl<T: Drop> From<AllocFailed<T>> for HomeFault {
+    ghost use Rattle.fed_home.specs.declared.faults.HomeFault.TheVariants.{NoMemory};
+
+    ghost from_gives = { λ _ r. r ≡ NoMemory };
+
+    fn from(_refused: AllocFailed<T>) -> HomeFault {
+        HomeFault::NoMemory
+    }
+}

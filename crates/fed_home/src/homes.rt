@@ -1,0 +1,194 @@
+//! Sites on a disk. Whatever a site says rests on entries that the disk has had before.
+ghost use Rattle.std.specs.Prelude.{◌≡◌, ◌++◌, ◌∷◌, [], List, ℕ, Ok, length, map, IfErr, IfOk, MatchResult, OnOk};
+ghost use Rattle.fed_site.specs.Journal.{after_lines, kept_lines};
+ghost use Rattle.fed_journal.specs.Device.{LeavesJust, LeavesOnly};
+ghost use Rattle.fed_journal.specs.Journal.{IsBeforeOrAfter, IsRead, IsSettled, device_of, entries_in};
+ghost use Rattle.fed_journal.specs.Lines.{Stands, at_rest, recovered, texts_of};
+ghost use Rattle.fed_home.specs.Fault.{StopsAnswers, StopsMaking, StopsOpening, StopsRepair};
+ghost use Rattle.fed_home.specs.Home.{IsBeforeOrHeader};
+ghost use Rattle.fed_home.specs.Replay.{AreReplies, replay as replay_of, replayed_of};
+
+use crate::faults::HomeFault;
+use crate::headers::read_header;
+use crate::runs::{answer_lines, replay};
+use fed_journal::{Device, Journal};
+use fed_site::{Answered, Site};
+use std::alloc::Global;
+
+/// A site and its journal. It is read by `open`, and answers lines once `repair` has brought its file to rest.
+#[derive(Drop)]
+pub struct Home<D: Device + Drop> {
+    alloc: Global,
+    site: Site,
+    journal: Journal<D>,
+}
+
+/// A device that is no home, and why.
+#[derive(Drop)]
+pub struct Unopened<D: Device + Drop> {
+    /// The device, which is to be opened again before it is used.
+    pub device: D,
+    /// Why it is no home.
+    pub fault: HomeFault,
+}
+
+/// Writes the header to a journal that has these entries, of which there may be none.
+fn begin<D: Device + Drop>(
+    alloc: Global,
+    journal: &mut Journal<D>,
+    entries: &[Vec<u8>],
+    header: &[u8],
+) -> Result<Site, HomeFault>
+    requires read { (tail : List ℕ) × IsRead D.seen D.may_leave journal.old tail }
+    requires entries { recovered (D.seen (device_of journal.old)) ≡ Ok (texts_of entries.now) }
+    ensures settled { IfOk result (λ site. IsSettled D.seen D.may_leave journal.new) }
+    ensures replayed { IfOk result (λ site. replay_of (header.now ∷ []) ≡ Some (replayed_of site)) }
+    ensures made { IfOk result (λ site. (recovered (D.seen (device_of journal.old)) ≡ Ok []) × (recovered (D.seen (device_of journal.new)) ≡ Ok (header.now ∷ []))) }
+    ensures any_moment { LeavesOnly D.moment D.left_since (device_of journal.old) (device_of journal.new)
+        (IsBeforeOrHeader (D.seen (device_of journal.old)) header.now) }
+    ensures fault { IfErr result (StopsMaking (D.errors (device_of journal.new)) (D.seen (device_of journal.old)) header.now) }
+{
+    if !entries.is_empty() {
+        return Err(HomeFault::HasEntries);
+    }
+    let Some(named) = read_header(alloc, header)? else {
+        return Err(HomeFault::UnreadHeader);
+    };
+    journal.repair()?;
+    journal.append(&[header])?;
+    Ok(Site::new(alloc, named.roster, named.site))
+}
+
+impl<D: Device + Drop> Home<D> {
+    ghost use Rattle.fed_home.specs.Home.{IsOpen, IsReplayed, held_by, home_device, site_of};
+
+    /// Makes the home of a new site in a file that has no entry: it is new, or was cut short before the header was
+    /// acknowledged. Gives what stood behind the closed gate too, which is cut. Errors: `Damaged` and `HasEntries` of a file
+    /// that isn't so, `UnreadHeader` of a header that `read_header` doesn't read, `Full`, `Failed` and `NoMemory`.
+    pub fn make(alloc: Global, device: D, header: &[u8]) -> Result<(Home<D>, Vec<u8>), Unopened<D>>
+        requires { LeavesJust (D.seen device) (D.may_leave device) }
+        ensures open { IfOk result (λ made. IsOpen D.seen D.may_leave made.0) }
+        ensures header { IfOk result (λ made. recovered (D.seen (home_device made.0)) ≡ Ok (header.now ∷ [])) }
+        ensures cut { IfOk result (λ made. Stands (D.seen device) [] made.1.items) }
+
+        // A crash at any moment of the call leaves what the file stood for, or where that was nothing, the header.
+        ensures any_moment { MatchResult result
+            (λ made. LeavesOnly D.moment D.left_since device (home_device made.0) (IsBeforeOrHeader (D.seen device) header.now))
+            (λ unopened. LeavesOnly D.moment D.left_since device unopened.device (IsBeforeOrHeader (D.seen device) header.now)) }
+        ensures fault { IfErr result (λ unopened. StopsMaking (D.errors unopened.device) (D.seen device) header.now unopened.fault) }
+    {
+        match Journal::open(alloc, device) {
+            Ok((mut journal, found)) => match begin(alloc, &mut journal, &found.entries, header) {
+                Ok(site) => {
+                    let home = Home {
+                        alloc,
+                        site,
+                        journal,
+                    };
+                    Ok((home, found.tail))
+                }
+                Err(fault) => Err(Unopened {
+                    device: journal.into_device(),
+                    fault,
+                }),
+            },
+            Err(unopened) => Err(Unopened {
+                device: unopened.device,
+                fault: HomeFault::from(unopened.fault),
+            }),
+        }
+    }
+
+    /// The home in a file that the disk has, as after a crash, and what stands behind the file's closed gate. Changes
+    /// nothing: so that can be kept elsewhere before `repair` cuts it, and nothing is lost by a crash in between. Errors:
+    /// `Damaged` of a file that is damaged, `NoHeader` of one that has no entry, `UnreadHeader` of one whose first entry is no
+    /// header, `Failed` and `NoMemory`.
+    pub fn open(alloc: Global, device: D) -> Result<(Home<D>, Vec<u8>), Unopened<D>>
+        requires { LeavesJust (D.seen device) (D.may_leave device) }
+        ensures replayed { IfOk result (λ opened. IsReplayed D.seen D.may_leave opened.0 opened.1.items) }
+
+        // The file is as it was, and a crash at any moment of the call leaves it so.
+        ensures same { MatchResult result (λ opened. D.seen (home_device opened.0) ≡ D.seen device) (λ unopened. D.seen unopened.device ≡ D.seen device) }
+        ensures any_moment { MatchResult result
+            (λ opened. LeavesOnly D.moment D.left_since device (home_device opened.0) (λ c. c ≡ D.seen device))
+            (λ unopened. LeavesOnly D.moment D.left_since device unopened.device (λ c. c ≡ D.seen device)) }
+        ensures fault { IfErr result (λ unopened. StopsOpening (D.errors device) (D.errors unopened.device) (D.seen device) unopened.fault) }
+    {
+        match Journal::open(alloc, device) {
+            Ok((journal, found)) => match replay(alloc, &found.entries) {
+                Ok(site) => {
+                    let home = Home {
+                        alloc,
+                        site,
+                        journal,
+                    };
+                    Ok((home, found.tail))
+                }
+                Err(fault) => Err(Unopened {
+                    device: journal.into_device(),
+                    fault,
+                }),
+            },
+            Err(unopened) => Err(Unopened {
+                device: unopened.device,
+                fault: HomeFault::from(unopened.fault),
+            }),
+        }
+    }
+
+    /// Brings the file to rest: cuts what stands behind its gate. After an `Err`, which is `Failed` or `NoMemory`, the home has
+    /// to be opened again.
+    pub fn repair(&mut self) -> Result<(), HomeFault>
+        requires { (tail : List ℕ) × IsReplayed D.seen D.may_leave self.old tail }
+        ensures open { OnOk result (IsOpen D.seen D.may_leave self.new) }
+        ensures same { OnOk result (recovered (D.seen (home_device self.new)) ≡ recovered (D.seen (home_device self.old))) }
+        ensures site { site_of self.new ≡ site_of self.old }
+
+        // A crash at any moment of the call leaves the same entries.
+        ensures any_moment { LeavesOnly D.moment D.left_since (home_device self.old) (home_device self.new) (λ c. recovered c ≡ recovered (D.seen (home_device self.old))) }
+        ensures fault { IfErr result (StopsRepair (D.errors (home_device self.old)) (D.errors (home_device self.new))) }
+    {
+        Ok(self.journal.repair()?)
+    }
+
+    /// Answers lines, one after another. Those that changed what the site holds are one group of the journal, which the disk
+    /// has before an answer is given. After an `Err`, which is `Full`, `Failed` or `NoMemory`, no line was answered, the file
+    /// may have the group or not, and the home has to be opened again.
+    pub fn answer(&mut self, lines: &[&[u8]]) -> Result<Vec<Answered>, HomeFault>
+        requires { IsOpen D.seen D.may_leave self.old }
+        ensures open { IfOk result (λ answers. IsOpen D.seen D.may_leave self.new) }
+        ensures answers { IfOk result (λ answers.
+            AreReplies (site_of self.old).roster (held_by self.old) (map (λ line. line.now) lines.now) answers.items) }
+        ensures kept { IfOk result (λ answers. recovered (D.seen (home_device self.new)) ≡
+            Ok (entries_in (D.seen (home_device self.old)) ++ kept_lines (site_of self.old).roster (held_by self.old) (map (λ line. line.now) lines.now))) }
+        ensures roster { IfOk result (λ answers. (site_of self.new).roster ≡ (site_of self.old).roster) }
+        ensures left { IfOk result (λ answers. held_by self.new ≡
+            after_lines (site_of self.old).roster (held_by self.old) (map (λ line. line.now) lines.now)) }
+
+        // A crash at any moment of the call leaves the entries from before it, with the whole group or without any of it.
+        ensures any_moment { LeavesOnly D.moment D.left_since (home_device self.old) (home_device self.new)
+            (IsBeforeOrAfter (entries_in (D.seen (home_device self.old)))
+            (kept_lines (site_of self.old).roster (held_by self.old) (map (λ line. line.now) lines.now))) }
+        ensures fault { IfErr result (StopsAnswers (D.errors (home_device self.old)) (D.errors (home_device self.new))
+            (length (at_rest (entries_in (D.seen (home_device self.old))
+            ++ kept_lines (site_of self.old).roster (held_by self.old) (map (λ line. line.now) lines.now))))) }
+    {
+        let run = answer_lines(self.alloc, &mut self.site, lines)?;
+        self.journal.append(&run.kept)?;
+        Ok(run.answers)
+    }
+
+    /// The site.
+    pub fn site(&self) -> &Site
+        ensures { result.now ≡ site_of self.now }
+    {
+        &self.site
+    }
+
+    /// Gives the device back.
+    pub fn into_device(self) -> D
+        ensures { result ≡ home_device self }
+    {
+        self.journal.into_device()
+    }
+}

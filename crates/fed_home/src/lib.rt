@@ -1,0 +1,21 @@
+//! A site on a disk. What the site says rests on the entries of its journal, which the disk has before anything is said.
+#![tactic(auto)]
+
+/// Why a site on a disk fails.
+pub mod faults;
+/// The first entry of a journal.
+pub mod headers;
+/// Sites on a disk.
+pub mod homes;
+/// Laws of what a crash leaves.
+pub mod laws;
+/// What entries and lines come to at a site.
+pub mod runs;
+
+pub use faults::HomeFault;
+pub use headers::{Header, read_header};
+pub use homes::{Home, Unopened};
+pub use runs::replay;
+
+#[cfg(test)]
+mod tests;

@@ -1,0 +1,75 @@
+//! What entries and lines come to at a site.
+ghost use Rattle.std.specs.Prelude.{◌≡◌, Some, IfErr, IfOk, map};
+ghost use Rattle.fed_replica.specs.State.{state_of};
+ghost use Rattle.fed_site.specs.Journal.{after_lines, kept_lines};
+ghost use Rattle.fed_journal.specs.Lines.{texts_of};
+ghost use Rattle.fed_home.specs.Fault.{StopsReplay};
+ghost use Rattle.fed_home.specs.Replay.{AreReplies, replay as replay_of, replayed_of};
+
+use crate::faults::HomeFault;
+use crate::headers::read_header;
+use fed_lattice::NoMemory;
+use fed_site::{Answered, Site};
+use std::alloc::{AllocError, Global};
+
+/// The texts of entries.
+fn texts(alloc: Global, entries: &[Vec<u8>]) -> Result<Vec<&[u8]>, AllocError>
+    ensures { IfOk result (λ texts. map (λ text. text.now) texts.items ≡ texts_of entries.now) }
+{
+    let mut texts = Vec::new(alloc);
+    for entry in entries {
+        texts.push(entry.as_slice())?;
+    }
+    Ok(texts)
+}
+
+/// The site that entries stand for: the first is the header, and it has answered the others. Errors: `NoHeader` where there
+/// is no entry, `UnreadHeader` where the first is no header, and `NoMemory`.
+pub fn replay(alloc: Global, entries: &[Vec<u8>]) -> Result<Site, HomeFault>
+    ensures replayed { IfOk result (λ site. replay_of (texts_of entries.now) ≡ Some (replayed_of site)) }
+    ensures fault { IfErr result (StopsReplay (texts_of entries.now)) }
+{
+    let Some((first, lines)) = entries.split_first() else {
+        return Err(HomeFault::NoHeader);
+    };
+    match read_header(alloc, first)? {
+        Some(header) => {
+            let lines = texts(alloc, lines)?;
+            Ok(Site::open(alloc, header.roster, header.site, &lines)?)
+        }
+        None => Err(HomeFault::UnreadHeader),
+    }
+}
+
+/// The answers to lines, and those of the lines that are to be kept.
+#[derive(Drop)]
+pub(crate) struct Run<'a> {
+    pub(crate) answers: Vec<Answered>,
+    pub(crate) kept: Vec<&'a [u8]>,
+}
+
+/// Answers lines one after another. Where memory is refused, the site may have done some of them.
+pub(crate) fn answer_lines<'a>(
+    alloc: Global,
+    site: &mut Site,
+    lines: &[&'a [u8]],
+) -> Result<Run<'a>, NoMemory>
+    ensures roster { IfOk result (λ run. site.new.roster ≡ site.old.roster) }
+    ensures after { IfOk result (λ run. state_of site.new.replica ≡
+        after_lines site.old.roster (state_of site.old.replica) (map (λ line. line.now) lines.now)) }
+    ensures answers { IfOk result (λ run.
+        AreReplies site.old.roster (state_of site.old.replica) (map (λ line. line.now) lines.now) run.answers.items) }
+    ensures kept { IfOk result (λ run. map (λ line. line.now) run.kept.items ≡
+        kept_lines site.old.roster (state_of site.old.replica) (map (λ line. line.now) lines.now)) }
+{
+    let mut answers = Vec::new(alloc);
+    let mut kept = Vec::new(alloc);
+    for line in lines {
+        let answered = site.answer(alloc, line)?;
+        if answered.is_kept() {
+            kept.push(*line)?;
+        }
+        answers.push(answered)?;
+    }
+    Ok(Run { answers, kept })
+}

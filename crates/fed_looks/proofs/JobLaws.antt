@@ -1,0 +1,144 @@
+-- Jobs as JSON objects: the members, put in one after another, are those of the object, and no value is a float.
+use Rattle.std.specs.Prelude.{ℤ, pos, negsuc, flat_map}
+use Rattle.std.specs.List.{AllByRecursion}
+use Rattle.std.specs.List.Sorted.{IsStrictlySortedBy}
+use Rattle.std.specs.Map.{keys_of}
+use Rattle.std.proofs.Common.{◌≡◌, ℕ, Bool, true, false, List, [], ◌∷◌, ◌++◌, ◌==◌, map, length, Option, Some, None, unwrap_or, refl, sym, ap, ◌∙◌, append-nil, arith}
+use Rattle.std.proofs.lemmas.Bool.{eqb-true}
+use Rattle.serde_json.specs.Data.{Data, object, no_members}
+use Rattle.serde_json.specs.View.{items_of}
+use Rattle.serde_json.specs.Written.{compact_text, has_float, items_have_float, members_have_float}
+use Rattle.fed_stamp.specs.Stamp.{StampValue}
+use Rattle.fed_lattice.specs.Latest.{stamp_cmp}
+use Rattle.fed_record.specs.declared.grants.GrantStage.{GrantStage}
+use Rattle.fed_record.specs.declared.grants.GrantStage.TheVariants.{Open, Returned}
+use Rattle.fed_record.specs.declared.letters.Letter.{Letter}
+use Rattle.fed_record.specs.declared.progress.Beginning.{Beginning}
+use Rattle.fed_record.specs.declared.progress.Ending.{Ending}
+use Rattle.fed_record.specs.JobRecord.{JobRecordValue, reads as reads_job}
+use Rattle.fed_record.specs.JobView.{JobView}
+use Rattle.fed_record.specs.Letter.{letter}
+use Rattle.fed_board.specs.Board.{BoardValue, no_operation, reads}
+use Rattle.fed_board.specs.Names.{jobs_in}
+use Rattle.fed_board.specs.View.{View}
+use Rattle.fed_easy.proofs.BoardEntries.{entry_found}
+use Rattle.fed_json.specs.Numbers.{integer_value}
+use Rattle.fed_json.specs.Objects.{Named, members_from}
+use Rattle.fed_qstat.specs.JobText.{sites_of}
+use Rattle.fed_looks.specs.JobMembers.{with_names, with_numbers, with_sets, with_stages}
+use Rattle.fed_looks.specs.JobObject.{asked_jobs, begun_data, field_data, finished_data, grant_data, job_data, job_members, kinds_data, known_line, letter_data, lines_of_jobs, site_data}
+use Rattle.fed_looks.proofs.Entries.{names_said}
+
+pub members_are : (roster : List (List ℕ × ℕ)) (id : StampValue) (j : JobView) → object (with_sets roster j (with_stages roster j (with_numbers j (with_names roster id j no_members)))) ≡ job_data roster id j
+unfolding job_members with_names with_numbers with_stages with_sets
+members_are roster id j = refl
+
+-- ---- no value is a float
+members_plain : (ms : Named) → AllByRecursion (λ m. has_float m.1 ≡ false) ms → members_have_float (members_from ms) ≡ false
+members_plain [] h = refl
+members_plain (m ∷ ms) h = rw (h.0, members_plain ms h.1) refl
+
+field_plain : {T : Type 0} (value : T → Data) → ((x : T) → has_float (value x) ≡ false) → (o : Option (StampValue × T)) → has_float (field_data value o) ≡ false
+field_plain value h None = refl
+field_plain value h (Some latest) = h latest.1
+
+integer_plain : (z : ℤ) → has_float (integer_value z) ≡ false
+integer_plain (pos n) = refl
+integer_plain (negsuc n) = refl
+
+letter_plain : (o : Option Letter) → has_float (letter_data o) ≡ false
+letter_plain None = refl
+letter_plain (Some sign) = refl
+
+begun_plain : (roster : List (List ℕ × ℕ)) (o : Option (StampValue × Beginning)) → has_float (begun_data roster o) ≡ false
+begun_plain roster None = refl
+begun_plain roster (Some begun) = refl
+
+finished_plain : (o : Option (StampValue × Ending)) → has_float (finished_data o) ≡ false
+finished_plain None = refl
+finished_plain (Some finished) = refl
+
+grant_plain : (roster : List (List ℕ × ℕ)) (o : Option GrantStage) → has_float (grant_data roster o) ≡ false
+grant_plain roster None = refl
+grant_plain roster (Some (Open term stamp site)) = refl
+grant_plain roster (Some (Returned term stamp)) = refl
+
+kinds_plain : (user operator system : Bool) → has_float (kinds_data user operator system) ≡ false
+kinds_plain false false false = refl
+kinds_plain false false true = refl
+kinds_plain false true false = refl
+kinds_plain false true true = refl
+kinds_plain true false false = refl
+kinds_plain true false true = refl
+kinds_plain true true false = refl
+kinds_plain true true true = refl
+
+sites_plain : (roster : List (List ℕ × ℕ)) (sites : List ℕ) → items_have_float (items_of (map (site_data roster) sites)) ≡ false
+sites_plain roster [] = refl
+sites_plain roster (site ∷ sites) = sites_plain roster sites
+
+job_plain : (roster : List (List ℕ × ℕ)) (id : StampValue) (j : JobView) → has_float (job_data roster id j) ≡ false
+unfolding job_members
+job_plain roster id j = members_plain (job_members roster id j) (
+  field_plain _ (λ x. refl) j.account,
+  (
+    begun_plain roster j.begun,
+    (
+      refl,
+      (
+        finished_plain j.finished,
+        (
+          grant_plain roster j.grant,
+          (
+            kinds_plain _ _ _,
+            (
+              refl,
+              (
+                letter_plain (letter j),
+                (
+                  field_plain _ (λ x. refl) j.limit,
+                  (
+                    field_plain _ (λ x. refl) j.name,
+                    (
+                      field_plain _ (λ x. refl) j.nodes,
+                      (
+                        field_plain _ (λ x. refl) j.owner,
+                        (
+                          field_plain _ integer_plain j.priority,
+                          (sites_plain roster (sites_of j), tt),
+                        ),
+                      ),
+                    ),
+                  ),
+                ),
+              ),
+            ),
+          ),
+        ),
+      ),
+    ),
+  ),
+)
+
+pub text_is : (roster : List (List ℕ × ℕ)) (id : StampValue) (j : JobView) (d : Data) (bytes : List ℕ) → d ≡ job_data roster id j → (has_float d ≡ false → bytes ≡ compact_text d) → bytes ≡ compact_text (job_data roster id j)
+text_is roster id j d bytes e h = h (ap has_float e ∙ job_plain roster id j) ∙ ap compact_text e
+
+-- ---- the jobs of a board
+abbrev pub known_from : List (List ℕ × ℕ) → List (StampValue × JobRecordValue) → List ℕ
+known_from roster es = flat_map (λ e. known_line roster e.0 (reads_job e.1)) es
+
+pub known_done : (roster : List (List ℕ × ℕ)) (b : BoardValue) → IsStrictlySortedBy stamp_cmp (keys_of b.jobs) → keys_of b.jobs ≡ jobs_in (reads b)
+    → (written : List ℕ) (rest : List (StampValue × JobRecordValue)) → written ++ known_from roster rest ≡ known_from roster b.jobs → rest ≡ [] → written ≡ lines_of_jobs roster (reads b) (jobs_in (reads b))
+known_done roster b sorted names written rest under none =
+    sym (append-nil written) ∙ ap (λ l. written ++ known_from roster l) (sym none) ∙ under
+    ∙ sym (names_said (λ job. known_line roster job ((reads b).job job)) (λ e. known_line roster e.0 (reads_job e.1)) b.jobs
+    (λ e h. ap (λ (o : Option JobRecordValue). known_line roster e.0 (reads_job (unwrap_or o no_operation))) (entry_found b.jobs e sorted h)))
+    ∙ ap (lines_of_jobs roster (reads b)) names
+
+pub asked_all : (v : View) (names : List StampValue) → true ≡ (length names == 0) → asked_jobs v names ≡ jobs_in v
+asked_all v [] e = refl
+asked_all v (name ∷ names) e = absurd (omega (arith, eqb-true (length (name ∷ names)) 0 (sym e)))
+
+pub asked_some : (v : View) (names : List StampValue) → false ≡ (length names == 0) → asked_jobs v names ≡ names
+asked_some v [] e = absurd cc
+asked_some v (name ∷ names) e = refl

@@ -1,0 +1,5 @@
+-- Lemmas on the entries of a board, on jobs as JSON objects, on sites and on words.
+pub mod EachWord
+pub mod Entries
+pub mod JobLaws
+pub mod Sites

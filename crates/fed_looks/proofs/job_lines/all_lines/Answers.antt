@@ -1,0 +1,10 @@
+use Rattle.std.specs.Map.Iter.{deref_pair}
+use Rattle.std.proofs.Common.{string_bytes}
+use Rattle.std.proofs.lemmas.Map.Iter.{rest_all}
+use Rattle.fed_looks.proofs.JobLaws.{known_done}
+use Rattle.fed_looks.proofs.job_lines.all_lines.Goals as goal
+
+pub returns : goal.returns
+returns c =
+    known_done c.args.roster.now c.args.board.now c.jobs-id-items.ensures.ascending c.jobs-id-items.ensures.names (string_bytes c.loop-id.text)
+    c.loop-id.id-iterator c.loop-id.invariant (rest_all deref_pair _ _ _ c.in-None.is c.next.ensures.steps)

@@ -1,0 +1,10 @@
+use Rattle.std.specs.Map.Iter.{deref_pair}
+use Rattle.std.proofs.Common.{string_bytes}
+use Rattle.std.proofs.lemmas.Map.Iter.{rest_all}
+use Rattle.fed_looks.proofs.Entries.{lines_done}
+use Rattle.fed_looks.proofs.reserved.reservation_lines.Goals as goal
+
+pub returns : goal.returns
+returns c =
+    lines_done c.args.roster.now c.args.board.now c.reservations-name-items.ensures.ascending c.reservations-name-items.ensures.names (string_bytes c.loop-name.text)
+    c.loop-name.name-iterator c.loop-name.invariant (rest_all deref_pair _ _ _ c.in-None.is c.next.ensures.steps)

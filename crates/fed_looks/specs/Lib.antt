@@ -1,0 +1,10 @@
+-- What the contracts of this crate cite.
+pub mod JobMembers
+pub mod JobObject
+pub mod Look
+pub mod LookView
+pub mod Machine
+pub mod Planned
+pub mod Reserved
+pub mod Seen
+pub mod Why

@@ -1,0 +1,42 @@
+-- The lines that ask for a look. Jobs and moments are read as in a script.
+use Rattle.std.specs.Prelude.{ℕ, List, [], ◌∷◌, codes, is_some, option_map, Some, None, if◌then◌else◌}
+use Rattle.std.specs.List.{filter_map, list_all}
+use Rattle.std.specs.Str.{bytes_eq}
+use Rattle.fed_stamp.specs.Stamp.{StampValue}
+use Rattle.fed_script.specs.Forms.{Form, Reads, one, two}
+use Rattle.fed_script.specs.Values.{identifier, moment}
+
+pub data Look : Type 0 where
+  -- why a job stands where it does at a moment
+  whys : (job : StampValue) (moment : ℕ) → Look
+  -- the machine at a moment
+  machines : (moment : ℕ) → Look
+  -- what is reserved
+  reserves : Look
+  -- these jobs, or all where none is named
+  tells : (jobs : List StampValue) → Look
+  -- what is seen
+  sees : Look
+  -- a picture of the machine from a moment on
+  charts : (moment : ℕ) → Look
+
+-- what the words say where each can be read
+abbrev pub each : {A : Type 0} → Reads A → Form (List A)
+each f words = if list_all (λ w. is_some (f w)) words then Some (filter_map f words) else None
+
+-- the look, where no word is left
+abbrev pub alone : Look → Form Look
+alone look [] = Some look
+alone look (word ∷ words) = None
+
+-- the look that the words of a line ask a site for, if they ask for one
+abbrev pub look_in : List (List ℕ × ℕ) → ℕ → Form Look
+look_in roster here [] = None
+look_in roster here (word ∷ words) =
+    if bytes_eq word (codes "why") then two (identifier roster here) moment whys words
+    else if bytes_eq word (codes "machine") then one moment machines words
+    else if bytes_eq word (codes "reservations") then alone reserves words
+    else if bytes_eq word (codes "jobs") then option_map tells (each (identifier roster here) words)
+    else if bytes_eq word (codes "seen") then alone sees words
+    else if bytes_eq word (codes "chart") then one moment charts words
+    else None

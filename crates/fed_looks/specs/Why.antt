@@ -1,0 +1,68 @@
+-- Why a job stands where it does, at a site and a moment.
+use Rattle.std.specs.Prelude.{ℕ, Bool, true, not, ◌&&◌, List, ◌++◌, codes, nat_le, if◌then◌else◌, unwrap_or, Option, Some, None}
+use Rattle.std.specs.List.{list_any}
+use Rattle.std.specs.Fmt.{decimal}
+use Rattle.fed_stamp.specs.Roster.{nodes_at}
+use Rattle.fed_stamp.specs.Stamp.{StampValue, same_stamp}
+use Rattle.fed_record.specs.declared.progress.Beginning.{Beginning}
+use Rattle.fed_record.specs.declared.progress.Ending.{Ending}
+use Rattle.fed_record.specs.JobView.{JobView}
+use Rattle.fed_record.specs.Letter.{has_site, holder, is_granted, is_granted_to, is_held, is_submitted}
+use Rattle.fed_board.specs.View.{View}
+use Rattle.fed_easy.specs.Plan.{PlanValue}
+use Rattle.fed_qstat.specs.Identifier.{identifier_text, site_text}
+use Rattle.fed_qstat.specs.JobText.{field_text, holder_text, holds_text}
+use Rattle.fed_answers.specs.Outcome.{answer_line}
+use Rattle.fed_looks.specs.Planned.{planned}
+
+-- where the job began, when, and on how many nodes
+abbrev pub begun_text : List (List ℕ × ℕ) → StampValue × Beginning → List ℕ
+begun_text roster begun = codes "begun at " ++ site_text roster begun.0.site ++ codes " since " ++ decimal begun.1.moment
+    ++ codes " on " ++ decimal begun.1.nodes ++ codes " nodes until " ++ decimal begun.1.end
+
+-- the head itself, or a job behind it
+abbrev pub behind_text : List (List ℕ × ℕ) → StampValue → StampValue × ℕ → List ℕ
+behind_text roster job head = if same_stamp job head.0 then codes "head, at " ++ decimal head.1
+    else codes "waits behind " ++ identifier_text roster head.0 ++ codes ", which starts at " ++ decimal head.1
+
+-- where a job of the queue stands: without a head the whole queue starts
+abbrev pub place_beside : List (List ℕ × ℕ) → StampValue → Bool → Option (StampValue × ℕ) → List ℕ
+place_beside roster job starts None = codes "starts"
+place_beside roster job starts (Some head) = if starts then codes "starts" else behind_text roster job head
+
+abbrev pub place_text : List (List ℕ × ℕ) → StampValue → Option PlanValue → List ℕ
+place_text roster job None = codes "no plan"
+place_text roster job (Some plan) = place_beside roster job (list_any (λ start. same_stamp start job) plan.starts) plan.head
+
+-- the nodes that a job asks for are at most so many
+abbrev pub is_narrow : ℕ → Option (StampValue × ℕ) → Bool
+is_narrow capacity None = true
+is_narrow capacity (Some nodes) = nat_le nodes.1 capacity
+
+-- the first thing that keeps a job that has not begun from the queue of the site, if anything does
+abbrev pub obstacle : List (List ℕ × ℕ) → ℕ → JobView → Option (List ℕ)
+obstacle roster here j =
+    if is_held j then Some (codes "held " ++ holds_text j)
+    else if is_granted j && not (is_granted_to j here) then Some (codes "granted to " ++ holder_text roster (holder j))
+    else if not (has_site j here) then Some (codes "not for " ++ site_text roster here)
+    else if is_narrow (nodes_at roster here) j.nodes then None
+    else Some (codes "needs " ++ field_text decimal j.nodes ++ codes " of " ++ decimal (nodes_at roster here) ++ codes " nodes")
+
+-- how far a job has come; one that has not begun waits
+abbrev pub progress_text : List (List ℕ × ℕ) → Option (StampValue × Ending) → Option (StampValue × Beginning) → List ℕ → List ℕ
+progress_text roster (Some finished) begun waiting = codes "finished " ++ decimal finished.1.status
+progress_text roster None (Some begun) waiting = begun_text roster begun
+progress_text roster None None waiting = waiting
+
+-- of a job that is known, beside the plan of the site
+abbrev pub job_text : List (List ℕ × ℕ) → ℕ → StampValue → JobView → Option PlanValue → List ℕ
+job_text roster here job j plan = if j.deleted then codes "deleted"
+    else progress_text roster j.finished j.begun (unwrap_or (obstacle roster here j) (place_text roster job plan))
+
+-- the first that applies
+abbrev pub why_text : List (List ℕ × ℕ) → View → ℕ → StampValue → ℕ → List ℕ
+why_text roster v here job moment = if is_submitted (v.job job)
+    then job_text roster here job (v.job job) (planned roster v here moment) else codes "unknown"
+
+abbrev pub why_line : List (List ℕ × ℕ) → View → ℕ → StampValue → ℕ → List ℕ
+why_line roster v here job moment = answer_line (why_text roster v here job moment)

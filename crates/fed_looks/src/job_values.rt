@@ -1,0 +1,154 @@
+//! The values of the parts of a job.
+ghost use Rattle.std.specs.Prelude.{◌≡◌, ◌++◌, ◌∷◌, [], IfOk, OnOk, map, if◌then◌else◌};
+ghost use Rattle.serde_json.specs.View.{view};
+ghost use Rattle.fed_record.specs.JobRecord.{reads as reads_job};
+ghost use Rattle.fed_record.specs.Letter.{has_site};
+ghost use Rattle.fed_qstat.specs.JobText.{letter_sign as sign_of_letter};
+ghost use Rattle.fed_looks.specs.JobObject.{begun_data, finished_data, grant_data, holder_data, kinds_data, letter_data, site_data, sites_data};
+
+use fed_qstat::site_text;
+use fed_record::{Beginning, Ending, GrantStage, JobRecord, Letter};
+use fed_stamp::{Roster, SITES, SiteId, Stamp};
+use serde_json::{Value, json};
+use std::alloc::{AllocError, Global};
+
+fn letter_sign(letter: Letter) -> &'static str
+    ensures { result.now ≡ sign_of_letter letter }
+{
+    match letter {
+        Letter::Exiting => "E",
+        Letter::Running => "R",
+        Letter::Held => "H",
+        Letter::Granted => "T",
+        Letter::Queued => "Q",
+    }
+}
+
+/// The letter, or null where the job is gone.
+pub(crate) fn letter(alloc: Global, letter: Option<Letter>) -> Result<Value, AllocError>
+    ensures { IfOk result (λ v. view v ≡ letter_data letter) }
+{
+    match letter {
+        Some(letter) => json!(in alloc; letter_sign(letter)),
+        None => Ok(Value::Null),
+    }
+}
+
+/// The name of a site.
+fn site(alloc: Global, roster: &Roster, site: SiteId) -> Result<Value, AllocError>
+    ensures { IfOk result (λ v. view v ≡ site_data roster.now site) }
+{
+    let name = site_text(alloc, roster, site)?;
+    json!(in alloc; name.as_str())
+}
+
+/// The Begin, or null where there is none.
+pub(crate) fn begun(
+    alloc: Global,
+    roster: &Roster,
+    begun: Option<(Stamp, Beginning)>,
+) -> Result<Value, AllocError>
+    ensures { IfOk result (λ v. view v ≡ begun_data roster.now begun) }
+{
+    match begun {
+        Some((stamp, beginning)) => json!(in alloc; {
+            "end": beginning.end,
+            "moment": beginning.moment.get(),
+            "nodes": beginning.nodes.get(),
+            "site": site(alloc, roster, stamp.site())?,
+        }),
+        None => Ok(Value::Null),
+    }
+}
+
+/// The Finish, or null where there is none.
+pub(crate) fn finished(
+    alloc: Global,
+    finished: Option<(Stamp, Ending)>,
+) -> Result<Value, AllocError>
+    ensures { IfOk result (λ v. view v ≡ finished_data finished) }
+{
+    match finished {
+        Some((_, ending)) => json!(in alloc; {
+            "moment": ending.moment.get(),
+            "status": ending.status,
+        }),
+        None => Ok(Value::Null),
+    }
+}
+
+fn holder(alloc: Global, roster: &Roster, holder: Option<SiteId>) -> Result<Value, AllocError>
+    ensures { IfOk result (λ v. view v ≡ holder_data roster.now holder) }
+{
+    match holder {
+        Some(holder) => site(alloc, roster, holder),
+        None => Ok(Value::Null),
+    }
+}
+
+/// The grant of greatest term, or null where there is none.
+pub(crate) fn grant(
+    alloc: Global,
+    roster: &Roster,
+    grant: Option<GrantStage>,
+) -> Result<Value, AllocError>
+    ensures { IfOk result (λ v. view v ≡ grant_data roster.now grant) }
+{
+    match grant {
+        Some(stage) => json!(in alloc; {
+            "site": holder(alloc, roster, stage.holder())?,
+            "term": stage.term().get(),
+        }),
+        None => Ok(Value::Null),
+    }
+}
+
+/// The kinds of holds that are present, in the order u, o, s.
+pub(crate) fn kinds(
+    alloc: Global,
+    user: bool,
+    operator: bool,
+    system: bool,
+) -> Result<Value, AllocError>
+    ensures { IfOk result (λ v. view v ≡ kinds_data user operator system) }
+{
+    match (user, operator, system) {
+        (false, false, false) => Ok(Value::Array(Vec::new(alloc))),
+        (true, false, false) => json!(in alloc; ["u"]),
+        (false, true, false) => json!(in alloc; ["o"]),
+        (true, true, false) => json!(in alloc; ["u", "o"]),
+        (false, false, true) => json!(in alloc; ["s"]),
+        (true, false, true) => json!(in alloc; ["u", "s"]),
+        (false, true, true) => json!(in alloc; ["o", "s"]),
+        (true, true, true) => json!(in alloc; ["u", "o", "s"]),
+    }
+}
+
+/// Adds the name of the site, if the job may run there.
+fn push_site(
+    alloc: Global,
+    values: &mut Vec<Value>,
+    roster: &Roster,
+    held: &JobRecord,
+    number: SiteId,
+) -> Result<(), AllocError>
+    ensures { OnOk result (map view values.new.items ≡ map view values.old.items
+        ++ (if has_site (reads_job held.now) number then site_data roster.now number ∷ [] else [])) }
+{
+    if held.has_site(number) {
+        values.push(site(alloc, roster, number)?)?;
+    }
+    Ok(())
+}
+
+/// The names of the sites that a job may run at, in the order of their numbers.
+pub(crate) fn sites(alloc: Global, roster: &Roster, held: &JobRecord) -> Result<Value, AllocError>
+    ensures { IfOk result (λ v. view v ≡ sites_data roster.now (reads_job held.now)) }
+{
+    let mut values = Vec::new(alloc);
+    for number in 0..SITES as u8 {
+        let site = SiteId::new(number).unwrap();
+        push_site(alloc, &mut values, roster, held, site)?;
+    }
+    Ok(Value::Array(values))
+}

@@ -1,0 +1,29 @@
+//! Looks: what an operator asks a site. Each is a text that is a function of what the board reads as, and changes nothing.
+#![tactic(auto)]
+
+/// Jobs as JSON objects.
+mod job_lines;
+/// The values of the parts of a job.
+mod job_values;
+/// The lines that ask for a look.
+pub mod looks;
+/// What is said of a site's machine.
+mod machines;
+/// The plan of a site.
+mod plans;
+/// What is reserved.
+mod reserved;
+/// What a site has seen of the others.
+mod seen;
+/// Worked looks.
+#[cfg(test)]
+mod tests;
+/// Why a job stands where it does.
+mod whys;
+
+pub use job_lines::jobs_json;
+pub use looks::{Look, read_look};
+pub use machines::machine_lines;
+pub use reserved::reservation_lines;
+pub use seen::seen_lines;
+pub use whys::why_line;

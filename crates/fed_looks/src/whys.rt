@@ -1,0 +1,236 @@
+//! Why a job stands where it does.
+ghost use Rattle.std.specs.Prelude.{◌≡◌, ◌<◌, ◌++◌, IfOk, IsTrue, Some, codes, length, option_map, string_bytes, unwrap_or};
+ghost use Rattle.std.specs.Fmt.{decimal};
+ghost use Rattle.fed_record.specs.JobRecord.{reads as reads_job};
+ghost use Rattle.fed_record.specs.Letter.{holder, is_submitted};
+ghost use Rattle.fed_board.specs.Board.{reads};
+ghost use Rattle.fed_easy.specs.Plan.{reads as reads_plan};
+ghost use Rattle.fed_qstat.specs.Identifier.{site_text as text_of_site};
+ghost use Rattle.fed_qstat.specs.JobText.{hold_letters as letters_of_holds, holder_text as text_of_holder, holds_text as text_of_holds};
+ghost use Rattle.fed_looks.specs.Planned.{planned};
+ghost use Rattle.fed_looks.specs.Why.{behind_text as text_of_behind, begun_text as text_of_begun, job_text as text_of_job, obstacle as obstacle_of, place_text as text_of_place, why_line as line_of_why};
+
+use crate::plans::{nodes_of, plan_at};
+use fed_board::Board;
+use fed_easy::Plan;
+use fed_lattice::NoMemory;
+use fed_qstat::{identifier_text, site_text};
+use fed_record::{Beginning, HoldKind, JobRecord, Moment};
+use fed_stamp::{JobId, Roster, SiteId, Stamp};
+use std::alloc::{AllocError, Global};
+
+/// Where a job began, when, and on how many nodes.
+fn begun_text(
+    alloc: Global,
+    roster: &Roster,
+    stamp: Stamp,
+    beginning: Beginning,
+) -> Result<String, AllocError>
+    ensures { IfOk result (λ text. string_bytes text ≡ text_of_begun roster.now (stamp, beginning)) }
+{
+    let site = site_text(alloc, roster, stamp.site())?;
+    let moment = beginning.moment.get();
+    let nodes = beginning.nodes.get();
+    let end = beginning.end;
+    format!(in alloc; "begun at {site} since {moment} on {nodes} nodes until {end}")
+}
+
+/// The letters of the kinds of holds that are present, in the order u, o, s, or `n` where there is none.
+fn hold_letters(user: bool, operator: bool, system: bool) -> &'static str
+    ensures { result.now ≡ letters_of_holds user operator system }
+{
+    match (user, operator, system) {
+        (false, false, false) => "n",
+        (true, false, false) => "u",
+        (false, true, false) => "o",
+        (true, true, false) => "uo",
+        (false, false, true) => "s",
+        (true, false, true) => "us",
+        (false, true, true) => "os",
+        (true, true, true) => "uos",
+    }
+}
+
+/// The letters of a job's holds.
+fn holds_text(held: &JobRecord) -> &'static str
+    ensures { result.now ≡ text_of_holds (reads_job held.now) }
+{
+    hold_letters(
+        held.has_hold(HoldKind::User),
+        held.has_hold(HoldKind::Operator),
+        held.has_hold(HoldKind::System),
+    )
+}
+
+/// The head itself, or a job behind it.
+fn behind_text(
+    alloc: Global,
+    roster: &Roster,
+    job: JobId,
+    head: JobId,
+    second: u64,
+) -> Result<String, AllocError>
+    ensures { IfOk result (λ text. string_bytes text ≡ text_of_behind roster.now job (head, second)) }
+{
+    if job == head {
+        return format!(in alloc; "head, at {second}");
+    }
+    let name = identifier_text(alloc, roster, head)?;
+    format!(in alloc; "waits behind {name}, which starts at {second}")
+}
+
+/// Where a job of the queue stands in the plan.
+fn place_text(alloc: Global, roster: &Roster, job: JobId, plan: &Plan) -> Result<String, AllocError>
+    ensures { IfOk result (λ text. string_bytes text ≡ text_of_place roster.now job (Some (reads_plan plan.now))) }
+{
+    let Some((head, second)) = plan.head else {
+        return String::from_str(alloc, "starts");
+    };
+    if plan.starts.contains(&job) {
+        return String::from_str(alloc, "starts");
+    }
+    behind_text(alloc, roster, job, head, second)
+}
+
+/// The site that a job is granted to, or `-` where there is none.
+fn holder_text(alloc: Global, roster: &Roster, held: &JobRecord) -> Result<String, AllocError>
+    ensures { IfOk result (λ text. string_bytes text ≡ text_of_holder roster.now (holder (reads_job held.now))) }
+{
+    match held.holder() {
+        Some(site) => site_text(alloc, roster, site),
+        None => String::from_str(alloc, "-"),
+    }
+}
+
+/// That a job needs more nodes than the site has.
+fn needs_text(alloc: Global, nodes: u64, capacity: u64) -> Result<String, AllocError>
+    ensures { IfOk result (λ text. string_bytes text ≡
+        codes "needs " ++ decimal nodes ++ codes " of " ++ decimal capacity ++ codes " nodes") }
+{
+    format!(in alloc; "needs {nodes} of {capacity} nodes")
+}
+
+/// That a job is granted to another site.
+fn granted_text(alloc: Global, roster: &Roster, held: &JobRecord) -> Result<String, AllocError>
+    ensures { IfOk result (λ text. string_bytes text ≡
+        codes "granted to " ++ text_of_holder roster.now (holder (reads_job held.now))) }
+{
+    let name = holder_text(alloc, roster, held)?;
+    format!(in alloc; "granted to {name}")
+}
+
+/// That a job may not run at the site.
+fn elsewhere_text(alloc: Global, roster: &Roster, here: SiteId) -> Result<String, AllocError>
+    ensures { IfOk result (λ text. string_bytes text ≡ codes "not for " ++ text_of_site roster.now here) }
+{
+    let name = site_text(alloc, roster, here)?;
+    format!(in alloc; "not for {name}")
+}
+
+/// The first thing that keeps a job that has not begun from the queue of the site, if anything does.
+fn obstacle(
+    alloc: Global,
+    roster: &Roster,
+    here: SiteId,
+    held: &JobRecord,
+) -> Result<Option<String>, AllocError>
+    requires site { here < length roster.now }
+    requires submitted { IsTrue (is_submitted (reads_job held.now)) }
+    ensures { IfOk result (λ text. option_map string_bytes text ≡ obstacle_of roster.now here (reads_job held.now)) }
+{
+    if held.is_held() {
+        let text = format!(in alloc; "held {}", holds_text(held))?;
+        return Ok(Some(text));
+    }
+    if held.holder().is_some() && !held.is_granted_to(here) {
+        let text = granted_text(alloc, roster, held)?;
+        return Ok(Some(text));
+    }
+    if !held.has_site(here) {
+        let text = elsewhere_text(alloc, roster, here)?;
+        return Ok(Some(text));
+    }
+    let nodes = held.nodes().1.get();
+    let capacity = nodes_of(roster, here);
+    if nodes <= capacity {
+        return Ok(None);
+    }
+    let text = needs_text(alloc, nodes, capacity)?;
+    Ok(Some(text))
+}
+
+/// What keeps a job that has not begun from the queue of the site, or its place in the site's plan.
+fn waiting_text(
+    alloc: Global,
+    roster: &Roster,
+    board: &Board,
+    here: SiteId,
+    job: JobId,
+    moment: Moment,
+    held: &JobRecord,
+) -> Result<String, NoMemory>
+    requires site { here < length roster.now }
+    requires submitted { IsTrue (is_submitted (reads_job held.now)) }
+    ensures { IfOk result (λ text. string_bytes text ≡ unwrap_or (obstacle_of roster.now here (reads_job held.now))
+        (text_of_place roster.now job (planned roster.now (reads board.now) here moment))) }
+{
+    if let Some(text) = obstacle(alloc, roster, here, held)? {
+        return Ok(text);
+    }
+    match plan_at(alloc, roster, board, here, moment)? {
+        Some(plan) => Ok(place_text(alloc, roster, job, &plan)?),
+        None => Ok(String::from_str(alloc, "no plan")?),
+    }
+}
+
+/// Why a job that the board has stands where it does.
+fn job_text(
+    alloc: Global,
+    roster: &Roster,
+    board: &Board,
+    here: SiteId,
+    job: JobId,
+    moment: Moment,
+    held: &JobRecord,
+) -> Result<String, NoMemory>
+    requires site { here < length roster.now }
+    requires submitted { IsTrue (is_submitted (reads_job held.now)) }
+    ensures { IfOk result (λ text. string_bytes text ≡
+        text_of_job roster.now here job (reads_job held.now) (planned roster.now (reads board.now) here moment)) }
+{
+    if held.deleted() {
+        return Ok(String::from_str(alloc, "deleted")?);
+    }
+    let progress = held.progress();
+    if let Some((_, ending)) = progress.finished {
+        return Ok(format!(in alloc; "finished {}", ending.status)?);
+    }
+    if let Some((stamp, beginning)) = progress.begun {
+        return Ok(begun_text(alloc, roster, stamp, beginning)?);
+    }
+    waiting_text(alloc, roster, board, here, job, moment, held)
+}
+
+/// Why a job stands where it does at the site, in one line: the first that applies of `unknown`, `deleted`,
+/// `finished STATUS`, `begun at SITE since MOMENT on NODES nodes until END`, `held uo`, `granted to SITE` where that is
+/// another site, `not for SITE`, `needs 9 of 8 nodes`, and, by the site's plan at the moment, `starts`,
+/// `head, at SECOND` and `waits behind ID, which starts at SECOND`; `no plan` where no machine may be as the board has
+/// it, which no board of a run has.
+pub fn why_line(
+    alloc: Global,
+    roster: &Roster,
+    board: &Board,
+    here: SiteId,
+    job: JobId,
+    moment: Moment,
+) -> Result<String, NoMemory>
+    requires { here < length roster.now }
+    ensures { IfOk result (λ text. string_bytes text ≡ line_of_why roster.now (reads board.now) here job moment) }
+{
+    let mut text = match board.job(job) {
+        Some(held) => job_text(alloc, roster, board, here, job, moment, held)?,
+        None => String::from_str(alloc, "unknown")?,
+    };
+    text.push_str("\n")?;
+    Ok(text)
+}

@@ -1,0 +1,73 @@
+//! The lines of an input.
+ghost use Rattle.std.specs.Prelude.{◌≡◌, ◌++◌, List, ℕ, IfOk, OnOk, map};
+ghost use Rattle.std.specs.Str.Lines.{lines};
+ghost use Rattle.fed_serve.specs.Inputs.{EndsLines, HasNoLineFeed, heard as heard_as, lines_in};
+
+use fed_script::split_line;
+use std::alloc::{AllocError, Global};
+use std::mem;
+
+/// The most bytes that a line may have. A longer one can't be read.
+pub const MAX_LINE_BYTES: usize = 67_108_864;
+
+/// A line that can't be read.
+pub const UNREADABLE: &[u8] = b"\0";
+
+/// The line that a site is given: for one that is too long a line that can't be read.
+pub fn heard(line: &[u8]) -> &[u8]
+    ensures { result.now ≡ heard_as line.now }
+{
+    if line.len() > MAX_LINE_BYTES {
+        UNREADABLE
+    } else {
+        line
+    }
+}
+
+/// The lines of a text, as a site is given them.
+pub(crate) fn heard_lines(alloc: Global, text: &[u8]) -> Result<Vec<&[u8]>, AllocError>
+    ensures { IfOk result (λ given. map (λ line. line.now) given.items ≡ lines_in text.now) }
+{
+    let mut given = Vec::new(alloc);
+    let mut rest = text;
+    while let Some((line, after)) = split_line(rest) {
+        given.push(heard(line))?;
+        rest = after;
+    }
+    Ok(given)
+}
+
+/// Cuts a text behind its last line feed: whole lines, and what has come of the next one.
+fn split_behind_lines(text: &[u8]) -> (&[u8], &[u8])
+    ensures cut { text.now ≡ result.0.now ++ result.1.now }
+    ensures whole { EndsLines result.0.now }
+    ensures begun { HasNoLineFeed result.1.now }
+{
+    match text.iter().rposition(|byte| *byte == b'\n') {
+        Some(last) => text.split_at(last + 1),
+        None => (&[], text),
+    }
+}
+
+/// Takes the lines that a chunk of the input ends, the first of which had begun before it, and leaves what has begun of
+/// the next one. Of a line that is too long the end is left out.
+pub(crate) fn take_lines(
+    alloc: Global,
+    begun: &mut Vec<u8>,
+    chunk: &[u8],
+) -> Result<Vec<u8>, AllocError>
+    requires { HasNoLineFeed begun.old.items }
+    ensures lines { IfOk result (λ taken. (more : List ℕ) →
+        lines_in (begun.old.items ++ (chunk.now ++ more)) ≡ lines_in taken.items ++ lines_in (begun.new.items ++ more)) }
+    ensures begun { OnOk result (HasNoLineFeed begun.new.items) }
+{
+    let (whole, rest) = split_behind_lines(chunk);
+    let mut taken = Vec::new(alloc);
+    if !whole.is_empty() {
+        begun.extend_from_slice(whole)?;
+        taken = mem::replace(begun, Vec::new(alloc));
+    }
+    begun.extend_from_slice(rest)?;
+    begun.truncate(MAX_LINE_BYTES + 2);
+    Ok(taken)
+}

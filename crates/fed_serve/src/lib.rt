@@ -1,0 +1,19 @@
+//! What a site on a disk says to an input of lines, group by group, and to one line whose words are given apart.
+#![tactic(auto)]
+
+/// Why an input is not served to its end.
+pub mod faults;
+/// The lines of an input.
+mod inputs;
+/// Lines whose words are given apart.
+pub mod lines;
+/// Answering an input.
+pub mod serving;
+
+pub use faults::ServeFault;
+pub use inputs::{MAX_LINE_BYTES, heard};
+pub use lines::{line_of_words, take_line};
+pub use serving::serve;
+
+#[cfg(test)]
+mod tests;

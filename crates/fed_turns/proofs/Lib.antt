@@ -1,0 +1,10 @@
+pub mod Reached
+pub mod Acts
+pub mod Packets
+pub mod Takes
+pub mod Requests
+pub mod OwnLines
+pub mod Turns
+pub mod Alarms
+pub mod Crashes
+pub mod Begins

@@ -1,0 +1,168 @@
+-- Turns do what their events do in a run.
+use Rattle.std.specs.Prelude.{codes, map, suc, Option, Some, None, IfSome}
+use Rattle.std.specs.List.{position_or_len}
+use Rattle.std.specs.Str.{bytes_eq}
+use Rattle.std.proofs.Common.{◌≡◌, ◌≢◌, ◌≤◌, ◌<◌, ℕ, List, [], ◌∷◌, ◌++◌, All, Bool, length, append-nil, refl, sym, subst, ap, ◌∙◌, inl, inr}
+use Rattle.std.proofs.lemmas.Bool.{cases_eq}
+use Rattle.std.proofs.lemmas.List.Elements.{All-append, All-cons, All-map, All-nil}
+use Rattle.fed_stamp.specs.Indexes.{put}
+use Rattle.fed_stamp.specs.Stamp.{StampValue}
+use Rattle.fed_lattice.specs.Sets.{Has}
+use Rattle.fed_record.specs.declared.askers.Who.{Who}
+use Rattle.fed_record.specs.declared.commands.Command.{Command}
+use Rattle.fed_words.specs.declared.faults.UsageFault.{UsageFault}
+use Rattle.fed_wire.specs.Reading.{packet_in}
+use Rattle.fed_replica.specs.Packet.{shipped}
+use Rattle.fed_replica.specs.Ranges.{IsRanged}
+use Rattle.fed_replica.specs.State.{State}
+use Rattle.fed_script.specs.Line.{Line, skips, acts, lists, misuses, ships, takes as takes_line, plans, own_line_in}
+use Rattle.fed_world.specs.declared.events.Event.TheVariants.{Do, Ship, Take}
+use Rattle.fed_world.specs.Ranges.{AreRanged, IsRangedEvent}
+use Rattle.fed_world.specs.Run.{World, Step, run_from, outcomes_from, ships as ships_in, step, takes}
+use Rattle.fed_world.proofs.KeptLaws.{put_other}
+use Rattle.fed_world.proofs.Runs.{packet_Has, put_same, run-append}
+use Rattle.fed_world.proofs.SentLaws.{ship_here, take_here}
+use Rattle.fed_answers.specs.Listed.{listed}
+use Rattle.fed_answers.specs.Outcome.{answer_line, outcome_text, usage_line}
+use Rattle.fed_answers.specs.Planned.{plan_if_any, plan_or_none}
+use Rattle.fed_site.specs.Line.{packet_text}
+use Rattle.fed_site.specs.Says.{IsReply, Said, after_commands, after_line, after_plan, after_reading, after_text, after_told, only, said_of, site_says}
+use Rattle.fed_turns.specs.Turn.{Course, MayTurn, MayTurns, Turn, after_said, after_turn, after_turns, said_to}
+use Rattle.fed_turns.specs.Run.{AreAnswered, AreShipments, IsToldAnswer, StandsFor, events_at, events_from, events_told, line_of, number_of, numbered, state_at}
+use Rattle.fed_turns.proofs.Acts.{IsStepped, acted}
+use Rattle.fed_turns.proofs.OwnLines.{own_line_is}
+use Rattle.fed_turns.proofs.Packets.{found, shipment, shipments_push}
+use Rattle.fed_turns.proofs.Reached.{Reached, run_reached}
+use Rattle.fed_turns.proofs.Takes.{is_taken}
+
+-- ---- one site changes
+settled : (c : Course) (w v : World) (i : ℕ) (s : State) → StandsFor c w → s ≡ state_at i (v.site i) → ((j : ℕ) → j ≢ i → v.site j ≡ w.site j) → (j : ℕ) → put c.site i s j ≡ state_at j (v.site j)
+settled c w v i s stands here others j = elim (cases_eq j i) [
+  | inl at ↦ subst (λ (k : ℕ). put c.site i s k ≡ state_at k (v.site k)) (sym at) (put_same c.site i s ∙ here)
+  | inr apart ↦ put_other c.site i s j apart ∙ stands.sites j ∙ ap (state_at j) (sym (others j apart))
+]
+
+-- and nothing is shipped
+unshipped : (c : Course) (w v : World) → StandsFor c w → v.packets ≡ w.packets → AreShipments v.packets (c.shipped ++ [])
+unshipped c w v stands e =
+    subst (AreShipments v.packets) (sym (append-nil c.shipped)) (subst (λ ps. AreShipments ps c.shipped) (sym e) stands.shipped)
+
+-- the turn says this, and the line does the same
+pub record IsPlayed (roster : List (List ℕ × ℕ)) (c : Course) (w : World) (t : Turn) (said : Said) (line : Option Line) : Type 0 where
+  pub answered : IsToldAnswer roster w line (outcomes_from (length roster) w (events_told line)) t.answer
+  pub stands : StandsFor (after_said c t.site said t.answer) (run_from (length roster) w (events_told line))
+  pub ranged : AreRanged (events_told line)
+
+module _ (roster : List (List ℕ × ℕ)) (few : length roster ≤ 16) (c : Course) (w : World) (t : Turn) (stands : StandsFor c w) (r : Reached (length roster) w) (small : t.site < length roster) where
+  abbrev n : ℕ
+  n = length roster
+
+  abbrev here : State
+  here = state_at t.site (w.site t.site)
+
+  -- nothing changes
+  quiet : (text : List ℕ) → StandsFor (after_said c t.site (said_of (only here text)) t.answer) w
+  quiet text = record { sites = settled c w w t.site here stands refl (λ j apart. refl); shipped = unshipped c w w stands refl }
+
+  -- what is played of a line that can be read
+  abbrev Plays : Line → Type 0
+  Plays line = IsReply here (after_line roster here line).reply t.answer → IsPlayed roster c w t (after_line roster here line) (Some line)
+
+  skip_played : Plays skips
+  skip_played e = record { answered = e; stands = quiet []; ranged = All-nil IsRangedEvent }
+
+  list_played : (full : Bool) (jobs : List StampValue) → Plays (lists t.site full jobs)
+  list_played full jobs e = record { answered = e; stands = quiet (listed full roster here.view jobs); ranged = All-nil IsRangedEvent }
+
+  misuse_played : (fault : UsageFault) → Plays (misuses t.site fault)
+  misuse_played fault e = record { answered = e; stands = quiet (usage_line fault); ranged = All-nil IsRangedEvent }
+
+  plan_said : (plan : Option (List ℕ)) → IsReply here (said_of (after_plan here plan)).reply t.answer
+      → (t.answer ≡ plan_or_none plan) × StandsFor (after_said c t.site (said_of (after_plan here plan)) t.answer) w
+  plan_said (Some text) e = (e, quiet text)
+  plan_said None e = (e, quiet (plan_or_none None))
+
+  plan_played : (moment : ℕ) → Plays (plans t.site moment)
+  plan_played moment e =
+      let said = plan_said (plan_if_any roster here.view t.site moment) e in
+      record { answered = said.0; stands = said.1; ranged = All-nil IsRangedEvent }
+
+  act_played : (who : Who) (commands : List Command) → All (IsRanged who) commands → Plays (acts t.site who commands)
+  act_played who commands ranged e =
+      let done = acted roster few t.site small who commands 0 w r ranged in
+      let v : World = run_from n w (map (Do t.site who) commands) in
+      record {
+        answered = e ∙ done.text;
+        stands = record {
+          sites = settled c w v t.site (after_commands roster here who 0 commands).after stands done.after done.others;
+          shipped = unshipped c w v stands done.packets;
+        };
+        ranged = All-map IsRangedEvent (Do t.site who) commands ranged;
+      }
+
+  ship_played : (to : ℕ) → to < length roster → Plays (ships t.site to)
+  ship_played to known reply =
+      let one = shipment n few w r t.site to small t.answer reply in
+      let does = ship_here n w t.site to small known in
+      record {
+        answered = (ap (λ (s : Step). s.outcome ∷ []) does, one);
+        stands = subst (λ (s : Step). StandsFor (after_said c t.site (after_line roster here (ships t.site to)) t.answer) s.after) (sym does) (record {
+          sites = settled c w (ships_in w t.site to).after t.site here stands refl (λ j apart. refl);
+          shipped = shipments_push w.packets c.shipped (shipped t.site (w.site t.site) to) t.answer stands.shipped one;
+        });
+        ranged = All-cons IsRangedEvent (Ship t.site to) [] tt (All-nil IsRangedEvent);
+      }
+
+  -- the text of a packet
+  take_played : (text : List ℕ) → Has c.shipped (answer_line text) → t.answer ≡ (after_reading roster here (packet_in text)).text
+      → IsPlayed roster c w t (said_of (after_reading roster here (packet_in text))) (Some (takes_line t.site (number_of c.shipped text)))
+  take_played text carried e =
+      let k = position_or_len (bytes_eq (answer_line text)) c.shipped in
+      let it = found w.packets c.shipped text stands.shipped carried in
+      let does : step n w (Take t.site (suc k)) ≡ takes w t.site (Some it.packet) = take_here n w t.site (suc k) small ∙ ap (takes w t.site) it.is in
+      let one = subst (λ (s : Step). IsStepped roster t.site w s (after_reading roster here (packet_in text))) (sym does) (is_taken roster few w r t.site it.packet (packet_Has w (suc k) it.packet it.is) text it.of) in
+      let s : Step = step n w (Take t.site (suc k)) in
+      record {
+        answered = e ∙ one.text ∙ sym (append-nil (answer_line (outcome_text roster s.outcome)));
+        stands = record {
+          sites = settled c w s.after t.site (after_reading roster here (packet_in text)).after stands one.after one.others;
+          shipped = unshipped c w s.after stands one.packets;
+        };
+        ranged = All-cons IsRangedEvent (Take t.site (suc k)) [] tt (All-nil IsRangedEvent);
+      }
+
+  -- a line that can be read, or can't
+  line_played : (o : Option Line) → own_line_in roster t.site t.line ≡ o → IsReply here (after_told roster here o).reply t.answer → IsPlayed roster c w t (after_told roster here o) o
+  line_played None is e = record { answered = e; stands = quiet (answer_line (codes "cannot be read")); ranged = All-nil IsRangedEvent }
+  line_played (Some line) is reply =
+      own_line_is roster few t.site Plays skip_played act_played list_played misuse_played ship_played plan_played line t.line is reply
+
+  text_played : (o : Option (List ℕ)) → IfSome o (λ text. Has c.shipped (answer_line text)) → IsReply here (after_text roster here t.line o).reply t.answer
+      → IsPlayed roster c w t (after_text roster here t.line o) (numbered roster c t o)
+  text_played None carried reply = line_played (own_line_in roster t.site t.line) refl reply
+  text_played (Some text) carried reply = take_played text carried reply
+
+-- ---- turns
+module _ (roster : List (List ℕ × ℕ)) (few : length roster ≤ 16) where
+  pub turn_played : (c : Course) (w : World) (t : Turn) → StandsFor c w → Reached (length roster) w → MayTurn roster c t → IsPlayed roster c w t (said_to roster c t) (line_of roster c t)
+  turn_played c w t stands r may =
+      subst (λ (s : State). IsReply s (site_says roster s t.line).reply t.answer → IsPlayed roster c w t (site_says roster s t.line) (line_of roster c t)) (sym (stands.sites t.site))
+      (text_played roster few c w t stands r may.site (packet_text t.line) may.carried) may.said
+
+  pub record ArePlayed (c : Course) (w : World) (ts : List Turn) : Type 0 where
+    pub answered : AreAnswered roster c w ts
+    pub stands : StandsFor (after_turns roster c ts) (run_from (length roster) w (events_from roster c ts))
+    pub ranged : AreRanged (events_from roster c ts)
+
+  pub turns_played : (ts : List Turn) (c : Course) (w : World) → StandsFor c w → Reached (length roster) w → MayTurns roster c ts → ArePlayed c w ts
+  turns_played [] c w stands r may = record { answered = tt; stands = stands; ranged = All-nil IsRangedEvent }
+  turns_played (t ∷ ts) c w stands r may =
+      let one = turn_played c w t stands r may.0 in
+      let v : World = run_from (length roster) w (events_at roster c t) in
+      let rest = turns_played ts (after_turn roster c t) v one.stands (run_reached (length roster) (events_at roster c t) w one.ranged r) may.1 in
+      let all = sym (run-append (length roster) w (events_at roster c t) (events_from roster (after_turn roster c t) ts)) in
+      record {
+        answered = (one.answered, rest.answered);
+        stands = subst (StandsFor (after_turns roster (after_turn roster c t) ts)) all rest.stands;
+        ranged = All-append IsRangedEvent (events_at roster c t) (events_from roster (after_turn roster c t) ts) one.ranged rest.ranged;
+      }

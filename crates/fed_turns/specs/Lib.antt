@@ -1,0 +1,6 @@
+-- What the contracts of this crate cite.
+pub mod Turn
+pub mod Run
+pub mod Crash
+pub mod Alarm
+pub mod Own

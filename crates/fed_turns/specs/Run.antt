@@ -1,0 +1,105 @@
+-- The run that turns make, and what is answered in it.
+use Rattle.std.specs.Prelude.{◌≡◌, ◌+◌, ℕ, suc, List, [], ◌∷◌, ◌++◌, length, map, codes, Option, Some, None}
+use Rattle.std.specs.List.{position_or_len}
+use Rattle.std.specs.Str.{bytes_eq}
+use Rattle.fed_board.specs.View.{view}
+use Rattle.fed_replica.specs.Packet.{Site, Packet, shipped}
+use Rattle.fed_replica.specs.State.{State}
+use Rattle.fed_script.specs.Line.{Line, skips, acts, lists, misuses, ships, takes, plans, own_line_in}
+use Rattle.fed_world.specs.declared.events.Event.{Event}
+use Rattle.fed_world.specs.declared.events.Event.TheVariants.{Do, Ship, Take}
+use Rattle.fed_world.specs.declared.outcomes.Outcome.{Outcome}
+use Rattle.fed_world.specs.Kept.{IsTextOf}
+use Rattle.fed_world.specs.Run.{World, run_from, outcomes_from}
+use Rattle.fed_answers.specs.Listed.{listed}
+use Rattle.fed_answers.specs.Outcome.{answer_line, outcome_text, usage_line}
+use Rattle.fed_answers.specs.Planned.{plan_text}
+use Rattle.fed_site.specs.Line.{packet_text}
+use Rattle.fed_turns.specs.Turn.{Turn, Course, after_turn}
+
+-- ---- what a turn does in a run
+-- The number of the first packet that was shipped by this text: packets are counted from 1. Where none was, no packet has
+-- the number
+abbrev pub number_of : List (List ℕ) → List ℕ → ℕ
+number_of answers text = suc (position_or_len (bytes_eq (answer_line text)) answers)
+
+-- the line of a script that does the same, if it can be read: a packet has a number there
+abbrev pub numbered : List (List ℕ × ℕ) → Course → Turn → Option (List ℕ) → Option Line
+numbered roster c t None = own_line_in roster t.site t.line
+numbered roster c t (Some text) = Some (takes t.site (number_of c.shipped text))
+
+abbrev pub line_of : List (List ℕ × ℕ) → Course → Turn → Option Line
+line_of roster c t = numbered roster c t (packet_text t.line)
+
+-- the events of a line: its commands in order, a packet that is made, or one that is taken
+abbrev pub events_of : Line → List Event
+events_of (acts site who commands) = map (Do site who) commands
+events_of (ships site to) = Ship site to ∷ []
+events_of (takes site number) = Take site number ∷ []
+events_of _ = []
+
+abbrev pub events_told : Option Line → List Event
+events_told None = []
+events_told (Some line) = events_of line
+
+module _ (roster : List (List ℕ × ℕ)) where
+  abbrev pub events_at : Course → Turn → List Event
+  events_at c t = events_told (line_of roster c t)
+
+  -- the events of turns, in their order
+  abbrev pub events_from : Course → List Turn → List Event
+  events_from c [] = []
+  events_from c (t ∷ ts) = events_at c t ++ events_from (after_turn roster c t) ts
+
+-- ---- what a run leaves
+-- what is read of a site
+abbrev pub state_at : ℕ → Site → State
+state_at i s = record { site = i; view = view s.set; heard = s.heard }
+
+-- the bytes are the line of a text of the packet
+abbrev pub IsShipment : Packet → List ℕ → Type 0
+IsShipment p bytes = (text : List ℕ) × IsTextOf p text × (bytes ≡ answer_line text)
+
+-- so they are for each packet in order
+abbrev pub AreShipments : List Packet → List (List ℕ) → Type 0
+AreShipments [] [] = Unit {0}
+AreShipments (p ∷ packets) (bytes ∷ answers) = IsShipment p bytes × AreShipments packets answers
+AreShipments _ _ = ⊥
+
+-- each site reads as in the run, and what was shipped are the packets of the run
+pub record StandsFor (c : Course) (w : World) : Type 0 where
+  pub sites : (i : ℕ) → c.site i ≡ state_at i (w.site i)
+  pub shipped : AreShipments w.packets c.shipped
+
+-- ---- what is answered in a run
+-- the texts of outcomes, a line each
+abbrev pub outcome_lines : List (List ℕ × ℕ) → List Outcome → List ℕ
+outcome_lines roster [] = []
+outcome_lines roster (outcome ∷ outcomes) = answer_line (outcome_text roster outcome) ++ outcome_lines roster outcomes
+
+-- the bytes answer a line in a world, where its events have these outcomes
+abbrev pub IsAnswer : List (List ℕ × ℕ) → World → Line → List Outcome → List ℕ → Type 0
+IsAnswer roster w (acts site who commands) outcomes bytes = bytes ≡ outcome_lines roster outcomes
+IsAnswer roster w (takes site number) outcomes bytes = bytes ≡ outcome_lines roster outcomes
+IsAnswer roster w (ships site to) outcomes bytes =
+    (outcomes ≡ Outcome.Packet (length w.packets + 1) ∷ []) × IsShipment (shipped site (w.site site) to) bytes
+IsAnswer roster w (lists site full jobs) outcomes bytes = bytes ≡ listed full roster (view (w.site site).set) jobs
+IsAnswer roster w (plans site moment) outcomes bytes = bytes ≡ plan_text roster (view (w.site site).set) site moment
+IsAnswer roster w (misuses site fault) outcomes bytes = bytes ≡ usage_line fault
+IsAnswer roster w skips outcomes bytes = bytes ≡ []
+IsAnswer roster w _ outcomes bytes = bytes ≡ answer_line (codes "cannot be read")
+
+abbrev pub IsToldAnswer : List (List ℕ × ℕ) → World → Option Line → List Outcome → List ℕ → Type 0
+IsToldAnswer roster w None outcomes bytes = bytes ≡ answer_line (codes "cannot be read")
+IsToldAnswer roster w (Some line) outcomes bytes = IsAnswer roster w line outcomes bytes
+
+module _ (roster : List (List ℕ × ℕ)) where
+  abbrev pub IsAnswered : Course → World → Turn → Type 0
+  IsAnswered c w t =
+      IsToldAnswer roster w (line_of roster c t) (outcomes_from (length roster) w (events_at roster c t)) t.answer
+
+  -- each turn is answered as in the run
+  abbrev pub AreAnswered : Course → World → List Turn → Type 0
+  AreAnswered c w [] = Unit {0}
+  AreAnswered c w (t ∷ ts) = IsAnswered c w t ×
+      AreAnswered (after_turn roster c t) (run_from (length roster) w (events_at roster c t)) ts

@@ -1,0 +1,84 @@
+//! A site's directory: its journal, and the files of what was cut from it.
+ghost use Rattle.std.specs.Prelude.{IfOk};
+ghost use Rattle.fed_journal.specs.Device.{LeavesJust};
+ghost use Rattle.fed_journal.specs.Files.{file_may_leave, file_seen};
+ghost use Rattle.fed_home.specs.Home.{IsOpen};
+
+use crate::faults::Fault;
+use fed_home::Home;
+use fed_journal::{FileDevice, OpenFault, keep};
+use std::fs::{File, Files};
+use std::io::ErrorKind;
+use std::thread;
+use std::time::{Clock, Duration};
+
+/// The name of the journal's file.
+pub const JOURNAL: &str = "journal";
+
+/// How often the lock of a directory is tried, and how long the program waits between: ten seconds in all.
+const TRIES: u32 = 500;
+
+const PAUSE_MILLISECONDS: u64 = 20;
+
+/// How many files of what was cut there may be.
+const CUTS: u32 = 1_000_000;
+
+/// The journal's file. Where another process has it, it is waited for, up to ten seconds.
+pub fn open_device(
+    rt: &(impl Files<File = File> + Clock + AllocGlobal),
+    directory: &str,
+) -> Result<FileDevice, Fault>
+    ensures { IfOk result (λ device. LeavesJust (file_seen device) (file_may_leave device)) }
+{
+    for _ in 0..TRIES {
+        match FileDevice::open(rt, directory, JOURNAL) {
+            Ok(device) => return Ok(device),
+            Err(OpenFault::InUse) => thread::sleep(rt, Duration::from_millis(PAUSE_MILLISECONDS)),
+            Err(fault) => return Err(Fault::from(fault)),
+        }
+    }
+    Err(Fault::InUse)
+}
+
+/// Keeps what is to be cut in the first of the files `journal.cut-1`, `journal.cut-2` .. that isn't there, or is empty, and
+/// gives its number.
+fn keep_cut(
+    rt: &(impl Files<File = File> + AllocGlobal),
+    directory: &str,
+    cut: &[u8],
+) -> Result<u32, Fault> {
+    for number in 1..=CUTS {
+        let name = format!(in rt.alloc(); "journal.cut-{number}")?;
+        let mut device = FileDevice::make(rt, directory, name.as_str())?;
+        if keep(rt.alloc(), &mut device, cut)? {
+            return Ok(number);
+        }
+    }
+    Err(Fault::Directory(ErrorKind::StorageFull.into()))
+}
+
+/// The site of a directory, its journal at rest. What stood behind the journal's gate, as of a group that a crash cut, is
+/// kept in a file of its own, and standard error says so.
+pub fn open_home(
+    streams: &impl Eprint,
+    rt: &(impl Files<File = File> + Clock + AllocGlobal),
+    directory: &str,
+) -> Result<Home<FileDevice>, Fault>
+    ensures { IfOk result (λ home. IsOpen file_seen file_may_leave home) }
+{
+    let device = open_device(rt, directory)?;
+    match Home::open(rt.alloc(), device) {
+        Ok((mut home, cut)) => {
+            if !cut.is_empty() {
+                let number = keep_cut(rt, directory, &cut)?;
+                let count = cut.len();
+                let _ = eprintln!(streams;
+                    "nettlebeam: {directory}/journal: {count} bytes that were never answered are cut, and kept in journal.cut-{number}"
+                );
+            }
+            home.repair()?;
+            Ok(home)
+        }
+        Err(unopened) => Err(Fault::Home(unopened.fault)),
+    }
+}

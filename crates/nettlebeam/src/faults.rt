@@ -1,0 +1,157 @@
+//! Why the program doesn't do what it is asked.
+ghost use Rattle.std.specs.Prelude.{◌≡◌};
+
+use fed_home::HomeFault;
+use fed_journal::{DeviceFault, JournalFault, OpenFault};
+use fed_lattice::NoMemory;
+use fed_serve::ServeFault;
+use std::alloc::AllocError;
+use std::fmt::{self, Display, Formatter};
+use std::io::{self, ErrorKind};
+
+/// Why the program doesn't do what it is asked.
+#[derive(Clone, Copy, Debug, Drop)]
+pub enum Fault {
+    /// The words of `init` name no roster that has the site.
+    Roster,
+    /// The directory has other files than those of a site that isn't made yet.
+    NotEmpty,
+    /// There is no journal in the directory.
+    NoSite,
+    /// Another process has the directory.
+    InUse,
+    /// The directory can't be made, or looked at.
+    Directory(io::Error),
+    /// The site can't be opened, or can't answer.
+    Home(HomeFault),
+    /// Standard input can't be read.
+    Input(io::Error),
+    /// Standard output can't be written.
+    Output(io::Error),
+}
+
+impl Fault {
+    ghost use Rattle.nettlebeam.specs.Status.{fault_status};
+
+    /// The status that the program ends with: 2 where its words are at fault, and 3 else.
+    pub fn status(self) -> u8
+        ensures { result ≡ fault_status self }
+    {
+        match self {
+            Fault::Roster => 2,
+            _ => 3,
+        }
+    }
+}
+
+impl From<OpenFault> for Fault {
+    fn from(fault: OpenFault) -> Fault {
+        match fault {
+            OpenFault::NoMemory => Fault::Home(HomeFault::NoMemory),
+            OpenFault::InUse => Fault::InUse,
+            OpenFault::Failed(error) if error.kind() == ErrorKind::NotFound => Fault::NoSite,
+            OpenFault::Failed(error) => Fault::Home(HomeFault::Failed(error)),
+        }
+    }
+}
+
+impl From<HomeFault> for Fault {
+    fn from(fault: HomeFault) -> Fault {
+        Fault::Home(fault)
+    }
+}
+
+impl From<DeviceFault> for Fault {
+    fn from(fault: DeviceFault) -> Fault {
+        match fault {
+            DeviceFault::NoMemory => Fault::Home(HomeFault::NoMemory),
+            DeviceFault::Failed(error) => Fault::Home(HomeFault::Failed(error)),
+        }
+    }
+}
+
+impl From<ServeFault> for Fault {
+    fn from(fault: ServeFault) -> Fault {
+        match fault {
+            ServeFault::Home(fault) => Fault::Home(fault),
+            ServeFault::Read(error) => Fault::Input(error),
+            ServeFault::Write(error) => Fault::Output(error),
+        }
+    }
+}
+
+impl From<JournalFault> for Fault {
+    fn from(fault: JournalFault) -> Fault {
+        Fault::Home(HomeFault::from(fault))
+    }
+}
+
+impl From<NoMemory> for Fault {
+    fn from(_fault: NoMemory) -> Fault {
+        Fault::Home(HomeFault::NoMemory)
+    }
+}
+
+impl From<AllocError> for Fault {
+    fn from(_error: AllocError) -> Fault {
+        Fault::Home(HomeFault::NoMemory)
+    }
+}
+
+/// A fault that was met at a directory.
+#[derive(Clone, Copy, Drop)]
+pub struct FaultAt<'a> {
+    pub directory: &'a str,
+    pub fault: Fault,
+}
+
+impl Display for FaultAt<'_> {
+    fn fmt<W: fmt::Write>(&self, f: &mut Formatter<W>) -> fmt::Result {
+        let directory = self.directory;
+        match self.fault {
+            Fault::Roster => write!(f, "the words name no roster that has the site"),
+            Fault::NotEmpty => write!(f, "{directory}: not empty, so no site is made there"),
+            Fault::NoSite => write!(
+                f,
+                "{directory}: no site is there; nettlebeam init makes one"
+            ),
+            Fault::InUse => write!(
+                f,
+                "{directory}: in use by another process; try again when it has ended"
+            ),
+            Fault::Directory(error) => write!(f, "{directory}: {error}"),
+            Fault::Home(fault) => write_home_fault(f, directory, fault),
+            Fault::Input(error) => write!(f, "standard input: {error}"),
+            Fault::Output(error) => write!(f, "standard output: {error}; what was done is kept"),
+        }
+    }
+}
+
+/// Writes why the site of a directory can't be opened, or can't answer.
+fn write_home_fault<W: fmt::Write>(
+    f: &mut Formatter<W>,
+    directory: &str,
+    fault: HomeFault,
+) -> fmt::Result {
+    match fault {
+        HomeFault::NoMemory => write!(f, "out of memory; the site is as its journal says"),
+        HomeFault::Failed(error) => write!(
+            f,
+            "{directory}/journal: {error}; what was not answered may be kept or not: ask again"
+        ),
+        HomeFault::Damaged { line } => write!(
+            f,
+            "{directory}/journal, line {line}: damaged; nothing is changed: mend the line from a copy of the journal"
+        ),
+        HomeFault::Full => write!(f, "{directory}/journal: it may grow no further"),
+        HomeFault::NoHeader => write!(
+            f,
+            "{directory}/journal: no entry is there; call nettlebeam init again, if no site has been made"
+        ),
+        HomeFault::UnreadHeader => write!(
+            f,
+            "{directory}/journal, line 1: it doesn't name a site and its roster, as nettlebeam 1 does"
+        ),
+        HomeFault::HasEntries => write!(f, "{directory}: a site is there already"),
+    }
+}

@@ -1,0 +1,74 @@
+//! The program `nettlebeam`: one site of a federation of batch queues, on a disk.
+#![tactic(auto)]
+
+/// The program's own words.
+mod command_line;
+/// A site's directory: its journal, and the files of what was cut from it.
+mod directories;
+/// Why the program doesn't do what it is asked.
+mod faults;
+/// Making the home of a site.
+mod making;
+/// What the program does with a site.
+mod tasks;
+
+use clap::error::ErrorKind;
+use command_line::read_command_line;
+use faults::{Fault, FaultAt};
+use std::fs::File;
+use std::process::ExitCode;
+use std::rt::{Env, Files};
+use std::time::Clock;
+use std::{env, io};
+use tasks::do_task;
+
+/// The program's words, its name first.
+fn read_words(streams: &(impl Env + AllocGlobal)) -> io::Result<Vec<String>> {
+    Ok(env::args(streams)?.collect(streams.alloc())?)
+}
+
+/// Does what the program's words ask, and gives the status.
+fn run<R: Files<File = File> + Clock + AllocGlobal + Clone + Drop>(
+    streams: &(impl Input + Print + Eprint + AllocGlobal),
+    rt: &R,
+    words: &[String],
+) -> u8 {
+    match read_command_line(rt.alloc(), words) {
+        Ok(asked) => match do_task(streams, rt, &asked) {
+            Ok(status) => status,
+            Err(fault) => {
+                let directory = asked.directory;
+                // the status tells the fault also where standard error takes nothing
+                let _ = eprintln!(streams; "nettlebeam: {}", FaultAt { directory, fault });
+                fault.status()
+            }
+        },
+        Err(error) => {
+            let printed = error.print(streams);
+            match error.kind() {
+                ErrorKind::OutOfMemory => 3,
+                ErrorKind::DisplayHelp | ErrorKind::DisplayVersion if printed.is_err() => 3,
+                ErrorKind::DisplayHelp | ErrorKind::DisplayVersion => 0,
+                _ => 2,
+            }
+        }
+    }
+}
+
+/// Runs the program, and gives its status. Files are of a handle of their own, so that streams can be had without them.
+fn run_program<R: Files<File = File> + Clock + AllocGlobal + Clone + Drop>(
+    streams: &(impl Input + Print + Eprint + Env + AllocGlobal),
+    rt: &R,
+) -> u8 {
+    match read_words(streams) {
+        Ok(words) => run(streams, rt, &words),
+        Err(error) => {
+            let _ = eprintln!(streams; "nettlebeam: the words can't be read: {error}");
+            2
+        }
+    }
+}
+
+fn main(rt: HostRuntime) -> ExitCode {
+    ExitCode::from(run_program(&rt, &rt))
+}

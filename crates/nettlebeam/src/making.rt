@@ -1,0 +1,88 @@
+//! Making the home of a site.
+
+use crate::directories::JOURNAL;
+use crate::faults::Fault;
+use fed_home::{Home, read_header};
+use fed_journal::FileDevice;
+use fed_serve::line_of_words;
+use std::alloc::{AllocError, Global};
+use std::fs::{self, DirBuilder, File, Files};
+use std::io::{self, ErrorKind};
+use std::os::unix::fs::DirBuilderExt;
+use std::path::Path;
+
+/// Its owner alone may use the directory.
+const OWNER_ALONE: u32 = 0o700;
+
+/// How many bytes a journal has beside the header that is its one entry.
+const FRAME_BYTES: u64 = 21;
+
+/// The first entry of the journal.
+fn header<'x>(alloc: Global, site: &'x str, sites: &[&'x str]) -> Result<Vec<u8>, AllocError> {
+    let mut words = vec![in alloc; "nettlebeam", "1", site]?;
+    words.extend_from_slice(sites)?;
+    line_of_words(alloc, &words)
+}
+
+/// Whether a directory has no file but a journal that is no longer than what an `init` leaves that is cut short.
+fn is_free<R: Files + AllocGlobal + Clone + Drop>(
+    rt: &R,
+    directory: &str,
+    longest: u64,
+) -> io::Result<bool> {
+    for entry in fs::read_dir(rt, directory)? {
+        let entry = entry?;
+        if entry.file_name() != JOURNAL || entry.metadata()?.len() > longest {
+            return Ok(false);
+        }
+    }
+    Ok(true)
+}
+
+/// Makes the directory, where it isn't there.
+fn make_directory<R: Files + AllocGlobal + Clone + Drop>(
+    rt: &R,
+    directory: &str,
+    longest: u64,
+) -> Result<(), Fault> {
+    match DirBuilder::new().mode(OWNER_ALONE).create(rt, directory) {
+        Ok(()) => Ok(()),
+        Err(error) if error.kind() == ErrorKind::AlreadyExists => {
+            match is_free(rt, directory, longest) {
+                Ok(true) => Ok(()),
+                Ok(false) => Err(Fault::NotEmpty),
+                Err(error) => Err(Fault::Directory(error)),
+            }
+        }
+        Err(error) => Err(Fault::Directory(error)),
+    }
+}
+
+/// Waits until the disk has the directory's name.
+fn sync_parent(rt: &impl Files<File = File>, directory: &str) -> io::Result<()> {
+    let parent = match Path::new(directory).parent() {
+        Some(parent) if !parent.as_str().is_empty() => parent,
+        _ => Path::new("."),
+    };
+    File::open(rt, parent)?.sync_all()
+}
+
+/// Makes a directory that isn't there, that is empty, or that has what an earlier call left that was cut short, the home of
+/// a site of the roster.
+pub fn make_home<'x, R: Files<File = File> + AllocGlobal + Clone + Drop>(
+    rt: &R,
+    directory: &str,
+    site: &'x str,
+    sites: &[&'x str],
+) -> Result<(), Fault> {
+    let header = header(rt.alloc(), site, sites)?;
+    if read_header(rt.alloc(), &header)?.is_none() {
+        return Err(Fault::Roster);
+    }
+    make_directory(rt, directory, header.len() as u64 + FRAME_BYTES)?;
+    let device = FileDevice::make(rt, directory, JOURNAL)?;
+    match Home::make(rt.alloc(), device, &header) {
+        Ok(_) => sync_parent(rt, directory).map_err(Fault::Directory),
+        Err(unopened) => Err(Fault::Home(unopened.fault)),
+    }
+}

@@ -1,0 +1,145 @@
+//! What the program does with a site.
+ghost use Rattle.std.specs.Prelude.{◌≡◌};
+ghost use Rattle.nettlebeam.specs.Status.{answered_status as status_of};
+
+use crate::command_line::{Asked, Task};
+use crate::directories::{open_device, open_home};
+use crate::faults::Fault;
+use crate::making::make_home;
+use fed_home::replay;
+use fed_journal::Journal;
+use fed_serve::{MAX_LINE_BYTES, heard, line_of_words, serve, take_line};
+use fed_site::{Answered, Complaint, Site};
+use fed_stamp::{SITES, SiteId};
+use std::alloc::Global;
+use std::fs::{File, Files};
+use std::io::{self, BufWriter, Read, Write};
+use std::time::Clock;
+
+/// The text of standard input, or its beginning where a line could not have all of it.
+fn read_input(streams: &(impl Input + AllocGlobal)) -> Result<Vec<u8>, Fault> {
+    let mut text = Vec::new(streams.alloc());
+    streams
+        .reader()
+        .take(MAX_LINE_BYTES as u64 + 1)
+        .read_to_end(&mut text)
+        .map_err(Fault::Input)?;
+    Ok(text)
+}
+
+/// The line of these words. A lone `take` takes the packet of standard input.
+fn read_line(streams: &(impl Input + AllocGlobal), words: &[&str]) -> Result<Vec<u8>, Fault> {
+    match words {
+        ["take"] => Ok(take_line(streams.alloc(), &read_input(streams)?)?),
+        _ => Ok(line_of_words(streams.alloc(), words)?),
+    }
+}
+
+/// The status where a line is answered: 0, and 1 where it isn't done as it asks.
+fn answered_status(complaint: &Option<Complaint>) -> u8
+    ensures { result ≡ status_of complaint.now }
+{
+    match complaint {
+        None => 0,
+        Some(_) => 1,
+    }
+}
+
+/// Tells on standard error why a line isn't done as it asks. The status tells it also where standard error takes nothing.
+fn tell_complaint(streams: &impl Eprint, complaint: &Option<Complaint>) {
+    if let Some(complaint) = complaint {
+        let _ = eprintln!(streams; "nettlebeam: {complaint}");
+    }
+}
+
+/// Writes an answer, and tells on standard error why the line isn't done as it asks. Gives the status.
+fn write_answer(streams: &(impl Print + Eprint), answer: &Answered) -> Result<u8, Fault> {
+    let mut writer = io::writer(streams);
+    writer.write_all(answer.bytes()).map_err(Fault::Output)?;
+    writer.flush().map_err(Fault::Output)?;
+    let complaint = answer.complaint();
+    tell_complaint(streams, &complaint);
+    Ok(answered_status(&complaint))
+}
+
+/// Answers one line.
+fn answer_at(
+    streams: &(impl Input + Print + Eprint + AllocGlobal),
+    rt: &(impl Files<File = File> + Clock + AllocGlobal),
+    directory: &str,
+    words: &[&str],
+) -> Result<u8, Fault> {
+    // before the directory is locked, since standard input may be waited for
+    let line = read_line(streams, words)?;
+    let mut home = open_home(streams, rt, directory)?;
+    let answers = home.answer(&[heard(&line)])?;
+    match answers.first() {
+        Some(answer) => write_answer(streams, answer),
+        None => Ok(0),
+    }
+}
+
+/// Answers the lines of standard input.
+fn serve_input(
+    streams: &(impl Input + Print + Eprint + AllocGlobal),
+    rt: &(impl Files<File = File> + Clock + AllocGlobal),
+    directory: &str,
+) -> Result<u8, Fault> {
+    let mut home = open_home(streams, rt, directory)?;
+    let mut writer = io::writer(streams);
+    serve(rt.alloc(), &mut home, &mut streams.reader(), &mut writer)?;
+    Ok(0)
+}
+
+/// A line that tells how many entries a journal has, what its site has seen of each site, how many jobs it knows, and how
+/// many bytes stand behind the gate, which were never answered and are cut when the site is opened.
+fn report(alloc: Global, entries: usize, site: &Site, behind: usize) -> Result<String, Fault> {
+    let mut text = format!(in alloc; "entries {entries}, seen")?;
+    let version = site.version();
+    for number in 0..SITES as u8 {
+        if let Some(seen) = SiteId::new(number)
+            && let Some(name) = site.roster().name(seen)
+        {
+            let counter = version.get(seen);
+            text.push_str(format!(in alloc; " {name} {counter}")?.as_str())?;
+        }
+    }
+    let jobs = site.board().jobs().count();
+    text.push_str(format!(in alloc; ", jobs {jobs}, unfinished bytes {behind}")?.as_str())?;
+    Ok(text)
+}
+
+/// Tells what the journal of a directory has.
+fn check(
+    streams: &impl Print,
+    rt: &(impl Files<File = File> + Clock + AllocGlobal),
+    directory: &str,
+) -> Result<u8, Fault> {
+    let device = open_device(rt, directory)?;
+    let found = match Journal::open(rt.alloc(), device) {
+        Ok((_, found)) => found,
+        Err(unopened) => return Err(Fault::from(unopened.fault)),
+    };
+    let site = replay(rt.alloc(), &found.entries)?;
+    let text = report(rt.alloc(), found.entries.len(), &site, found.tail.len())?;
+    println!(streams; "{text}").map_err(Fault::Output)?;
+    Ok(0)
+}
+
+/// Does what is asked, and gives the status: 0 where it is done, and 1 where the line isn't done as it asks.
+pub fn do_task<R: Files<File = File> + Clock + AllocGlobal + Clone + Drop>(
+    streams: &(impl Input + Print + Eprint + AllocGlobal),
+    rt: &R,
+    asked: &Asked,
+) -> Result<u8, Fault> {
+    let directory = asked.directory;
+    match &asked.task {
+        Task::Init { site, sites } => {
+            make_home(rt, directory, site, sites)?;
+            Ok(0)
+        }
+        Task::At { words } => answer_at(streams, rt, directory, words),
+        Task::Serve => serve_input(streams, rt, directory),
+        Task::Check => check(streams, rt, directory),
+    }
+}

@@ -1,0 +1,448 @@
+"""A site in a directory, used through processes of the program and compared with a site of the plain model.
+
+Whatever a process answered must be what the model says, and must stand in the journal. Where a process was killed or
+the disk was full, the journal says how far it came, and the model follows it.
+"""
+import glob
+import hashlib
+import os
+import re
+import shutil
+import signal
+import subprocess
+import tempfile
+import threading
+from itertools import zip_longest
+from typing import NamedTuple
+
+from plain_model import Answer, Packet, Site
+from plain_words import READABLE
+
+LONGEST_WAIT = 120
+PIPE_BYTES = 65_536
+DISK_BYTES = 67_108_864
+FIRST_DIGEST = b"0" * 16
+FAULTS = ("refused", "usage", "gap", "unread", "foreign", "forgotten", "cannot be read")
+
+
+class Wrong(Exception):
+    """Something isn't what the model says."""
+
+
+class Damaged(Exception):
+    """A line of a journal isn't an entry."""
+
+    def __init__(self, line):
+        super().__init__(line)
+        self.line = line
+
+
+class Line(NamedTuple):
+    """A line for a site; of a `take` the packet that its text is of, or the answer where it is none of this run."""
+
+    text: bytes
+    packet: Packet = None
+    stray: str = None
+
+
+class Ended(NamedTuple):
+    """How a process ended, and what it wrote."""
+
+    status: int
+    out: bytes
+    err: bytes
+
+
+class Cut(NamedTuple):
+    """What may stop a process: a kill after so many seconds, a disk that takes no file longer than this, or is full, or
+    a reader of its answers that has gone away."""
+
+    kill_after: float = None
+    most_bytes: int = None
+    is_full: bool = False
+    is_deaf: bool = False
+
+    def explains(self, status):
+        """Whether a process that was stopped so may end with this status."""
+        if self.kill_after is not None and status == -signal.SIGKILL:
+            return True
+        return status == 3 and (self.most_bytes is not None or self.is_full or self.is_deaf)
+
+
+class SmallDisk:
+    """A file system in memory that can be filled. An OSError where none may be mounted here."""
+
+    def __init__(self, folder):
+        self.folder = folder
+        os.mkdir(folder)
+        command = ["mount", "-t", "tmpfs", "-o", f"size={DISK_BYTES}", "tmpfs", folder]
+        if subprocess.run(command, stderr=subprocess.DEVNULL, check=False).returncode:
+            raise OSError("no file system in memory may be mounted")
+
+    def fill(self, free):
+        """Takes all room but so many bytes."""
+        state = os.statvfs(self.folder)
+        room = state.f_bavail * state.f_frsize
+        with open(f"{self.folder}/filler", "wb") as file:
+            os.posix_fallocate(file.fileno(), 0, max(1, room - free))
+
+    def empty(self):
+        """Gives the room back."""
+        os.remove(f"{self.folder}/filler")
+
+    def unmount(self):
+        """Ends the file system."""
+        subprocess.run(["umount", self.folder], check=True)
+
+
+def read_journal(file):
+    """The entries of a journal's bytes, and what stands behind its closed gate."""
+    entries, digest, place = [], FIRST_DIGEST, 0
+    while file and file[place : place + 1] != b"-":
+        end = file.find(b"\n", place)
+        line = file[place:end] if end >= 0 else file[place:]
+        digest = hashlib.sha256(digest + line[19:]).hexdigest()[:16].encode()
+        if end < 0 or line[:19] != b"+ " + digest + b" ":
+            raise Damaged(len(entries) + 1)
+        entries.append(line[19:])
+        place = end + 1
+    return entries, file[place + 1 :]
+
+
+# No file of the program gets longer than the first word says, and a write that would is an error and no signal. The shell
+# does it, since a child of a process with threads must do nothing before it begins.
+LIMITED = ["sh", "-c", 'trap "" XFSZ; exec prlimit --fsize="$0" "$@"']
+
+
+def start(program, words, cut=Cut()):
+    """Starts a process of the program."""
+    before = [] if cut.most_bytes is None else [*LIMITED, str(cut.most_bytes)]
+    pipe = subprocess.PIPE
+    return subprocess.Popen([*before, program, *words], stdin=pipe, stdout=pipe, stderr=pipe)
+
+
+def feed(stream, given, pieces=1, is_whole=True):
+    """Writes to the input of a process in so many pieces, and closes it where that is all; a process may end before."""
+    size = len(given) // pieces + 1
+    try:
+        for place in range(0, len(given), size):
+            stream.write(given[place : place + size])
+            stream.flush()
+        if is_whole:
+            stream.close()
+    except BrokenPipeError:
+        pass
+
+
+def ask(process, given, most):
+    """Gives a process a part of its input, and reads so many bytes of its answers, or fewer where no more come."""
+    feeder = threading.Thread(target=feed, args=(process.stdin, given, 1, False))
+    watch = threading.Timer(LONGEST_WAIT, process.kill)
+    watch.start()
+    feeder.start()
+    out = process.stdout.read(most)
+    feeder.join()
+    watch.cancel()
+    return out
+
+
+def finish(process, given=b"", pieces=1):
+    """Gives a process its input, and waits for its end."""
+    stream, process.stdin = process.stdin, None
+    feeder = threading.Thread(target=feed, args=(stream, given, pieces))
+    feeder.start()
+    try:
+        out, err = process.communicate(timeout=LONGEST_WAIT)
+    except subprocess.TimeoutExpired:
+        process.kill()
+        process.communicate()
+        raise Wrong(f"no end after {LONGEST_WAIT} seconds") from None
+    finally:
+        feeder.join()
+    return Ended(process.returncode, out, err)
+
+
+def run(program, words, given=b"", cut=Cut(), pieces=1):
+    """Runs a process to its end, or to its kill."""
+    process = start(program, words, cut)
+    if cut.is_deaf:
+        process.stdout.close()
+    if cut.kill_after is None:
+        return finish(process, given, pieces)
+    timer = threading.Timer(cut.kill_after, process.kill)
+    timer.start()
+    try:
+        return finish(process, given, pieces)
+    finally:
+        timer.cancel()
+
+
+def is_fault(answer):
+    """Whether a line of an answer tells of a refusal, a misuse or a fault."""
+    return any(line.startswith(FAULTS) for line in answer.text.splitlines())
+
+
+def shown(text, most=300):
+    """The front of a text, for a message."""
+    return repr(text if len(text) <= most else text[:most] + b"..")
+
+
+class DiskSite:
+    """A site: its directory, its model, and the entries that its journal must have."""
+
+    def __init__(self, program, directory, roster, number):
+        self.program = program
+        self.directory = directory
+        self.roster = roster
+        self.model = Site(roster, number)
+        self.name = roster.names[number]
+        self.entries = [" ".join(["nettlebeam 1", self.name, *roster.words()]).encode()]
+        self.tail = b""
+        self.disk = None
+
+    # What is on the disk
+
+    def file(self):
+        """The bytes of the journal; none where there is no file."""
+        try:
+            with open(f"{self.directory}/journal", "rb") as file:
+                return file.read()
+        except FileNotFoundError:
+            return b""
+
+    def note_tail(self, tail):
+        """Sees that what an earlier process left behind the closed gate is kept beside the journal, once it was cut."""
+        if self.tail and tail != self.tail and not any(self.tail in text for text in self.cut_files()):
+            raise Wrong(f"{self.name}: what was cut is in no file beside the journal: {shown(self.tail)}")
+        self.tail = tail
+
+    def cut_files(self):
+        """What was cut from the journal by all openings."""
+        for name in glob.glob(f"{glob.escape(self.directory)}/journal.cut-*"):
+            with open(name, "rb") as file:
+                yield file.read()
+
+    def journal(self):
+        """The entries of the journal, and what stands behind its gate."""
+        try:
+            return read_journal(self.file())
+        except Damaged as damage:
+            raise Wrong(f"{self.name}: the journal is damaged at line {damage.line}") from None
+
+    def new_entries(self):
+        """The entries that the journal has beyond those that it had."""
+        entries, tail = self.journal()
+        if entries[: len(self.entries)] != self.entries:
+            raise Wrong(f"{self.name}: the journal has lost entries, or changed them")
+        self.note_tail(tail)
+        return entries[len(self.entries) :]
+
+    def replayed(self, entries, packets):
+        """A site of the model that was told these entries, the first being the header."""
+        site = Site(self.roster, self.model.number)
+        for entry in entries[1:]:
+            if entry.startswith(b"take "):
+                site.take(packets[entry[5:]])
+            else:
+                site.answer(entry)
+        return site
+
+    # Making
+
+    def make(self, cut=Cut()):
+        """Makes the directory, at the second attempt where the first was cut short."""
+        words = ["init", self.directory, self.name, *self.roster.words()]
+        ended = run(self.program, words, cut=cut)
+        if self.journal()[0] != self.entries:
+            if ended.status == 0:
+                raise Wrong(f"{self.name}: init ended with status 0 and left no header")
+            ended = run(self.program, words)
+            self.expect_status(ended, 0, "init")
+        if self.journal()[0] != self.entries:
+            raise Wrong(f"{self.name}: init left another journal: {shown(self.file())}")
+        self.tail = self.journal()[1]
+        if os.stat(f"{self.directory}/journal").st_mode & 0o077:
+            raise Wrong(f"{self.name}: others than the owner may use the journal")
+        self.expect_status(run(self.program, words), 3, "a second init")
+
+    def expect_status(self, ended, status, what):
+        """Sees that a process ended with this status, and said why where that is none of success."""
+        if ended.status != status:
+            raise Wrong(f"{self.name}: {what}: status {ended.status}, not {status}: {shown(ended.err)}")
+        if status and not ended.err.startswith(b"nettlebeam: "):
+            raise Wrong(f"{self.name}: {what}: status {status} and no cause: {shown(ended.err)}")
+
+    # Answers
+
+    def expected(self, line):
+        """The model's answer to a line."""
+        if line.packet:
+            return self.model.take(line.packet)
+        return Answer(line.stray + "\n") if line.stray else self.model.answer(line.text)
+
+    def came_out(self, answers, out, is_whole):
+        """How many of the answers came out whole, and how many at least in part."""
+        place = 0
+        for index, (line, answer) in enumerate(answers):
+            block = answer.text.encode() + b"\n"
+            found = out[place : place + len(block)]
+            place += len(found)
+            if found == block:
+                continue
+            if is_whole or place < len(out) or not block.startswith(found):
+                raise Wrong(f"{self.name}: {shown(line.text)}: answered {shown(found)}, and not {shown(block)}")
+            return index, index + bool(found)
+        if place < len(out):
+            raise Wrong(f"{self.name}: answered more than was asked: {shown(out[place:])}")
+        return len(answers), len(answers)
+
+    def follow(self, answers, before, said, is_whole, is_group=False):
+        """Sees that the journal has what was answered, and takes the model back to what the journal has. Lines that
+        came as one group are all there or none."""
+        kept = [line.text for line, answer in answers if answer.kept]
+        new = self.new_entries()
+        for found, wanted in zip_longest(new, kept[: len(new)], fillvalue=b"nothing"):
+            if found != wanted:
+                raise Wrong(f"{self.name}: the journal has {shown(found)}, and not {shown(wanted)}")
+        needed = len(kept) if is_whole else sum(answer.kept for _, answer in answers[:said])
+        if len(new) < needed:
+            raise Wrong(f"{self.name}: {needed} lines that change something were answered, the journal has {len(new)}")
+        if is_group and 0 < len(new) < len(kept):
+            raise Wrong(f"{self.name}: of a group of {len(kept)} lines the journal has {len(new)}")
+        self.entries += new
+        if len(new) < len(kept):
+            self.model, left = before, list(answers)
+            count = len(new)
+            while count:
+                count -= self.expected(left.pop(0)[0]).kept
+
+    def asked(self, make_line, count):
+        """So many lines with the model's answers, and the input that has these lines."""
+        answers = []
+        for _ in range(count):
+            line = make_line(self.model)
+            answers.append((line, self.expected(line)))
+        return answers, b"".join(line.text + b"\n" for line, _ in answers)
+
+    def serve(self, make_line, count, cut=Cut(), pieces=1):
+        """Pipes lines into `serve`. Gives those that were answered, with their answers."""
+        before = None if cut == Cut() else self.model.copy()
+        answers, given = self.asked(make_line, count)
+        ended = run(self.program, ["serve", self.directory], given, cut, pieces)
+        is_whole = ended.status == 0
+        if not cut.explains(ended.status):
+            self.expect_status(ended, 0, "serve")
+        whole, said = self.came_out(answers, ended.out, is_whole and not cut.is_deaf)
+        # what is written at once, and fits into the pipe, comes together
+        is_group = pieces == 1 and len(given) <= PIPE_BYTES
+        self.follow(answers, before, said, is_whole, is_group)
+        return ended, answers[:whole]
+
+    def at(self, line, cut=Cut()):
+        """Asks one line by `at`. Gives it with its answer, where that came out."""
+        before = None if cut == Cut() else self.model.copy()
+        answer = self.expected(line)
+        ended = run(self.program, *self.words_at(line), cut)
+        is_whole = not cut.explains(ended.status)
+        if is_whole:
+            self.expect_status(ended, int(is_fault(answer)), shown(line.text))
+        text = answer.text.encode()
+        whole = ended.out == text
+        if not whole and (is_whole or not text.startswith(ended.out)):
+            raise Wrong(f"{self.name}: at: {shown(line.text)}: answered {shown(ended.out)}, and not {shown(text)}")
+        self.follow([(line, answer)], before, int(is_whole or bool(ended.out)), is_whole)
+        return ended, [(line, answer)] if whole and is_whole else []
+
+    def words_at(self, line):
+        """The words of a call of `at`, and its standard input."""
+        if line.text.startswith(b"take "):
+            return ["at", self.directory, "take"], line.text[5:] + b"\n"
+        return ["at", self.directory, *line.text.split()], b""
+
+    @staticmethod
+    def is_for_at(line):
+        """Whether a line can be handed to `at` in words, so that the journal has the same bytes."""
+        words = line.text.split()
+        readable = READABLE.fullmatch(line.text) and line.text == b" ".join(words)
+        return line.text.startswith(b"take ") or bool(words and readable and line.text != b"take")
+
+    # Two processes
+
+    def at_twice(self, lines):
+        """Asks two lines at the same moment. Either may come first, and both are answered."""
+        processes = [start(self.program, self.words_at(line)[0]) for line in lines]
+        ends = [finish(process) for process in processes]
+        new = self.new_entries()
+        before = self.model
+        for order in ((0, 1), (1, 0)):
+            self.model = before.copy()
+            answers = {index: self.expected(lines[index]) for index in order}
+            kept = [lines[index].text for index in order if answers[index].kept]
+            wanted = [(answers[index].text.encode(), int(is_fault(answers[index]))) for index in (0, 1)]
+            if kept == new and [(end.out, end.status) for end in ends] == wanted:
+                self.entries += new
+                return [(lines[index], answers[index]) for index in order]
+        raise Wrong(f"{self.name}: two at once: {[line.text for line in lines]} ended so: {ends}, and kept {new}")
+
+    def at_beside_serve(self, make_line, count, last):
+        """Asks a line by `at` while `serve` has the directory, so that it has to wait until that ends."""
+        answers, given = self.asked(make_line, count)
+        serving = start(self.program, ["serve", self.directory])
+        out = ask(serving, given, sum(len(answer.text) + 1 for _, answer in answers))
+        asking = start(self.program, self.words_at(last)[0])
+        rest = finish(serving)
+        self.came_out(answers, out + rest.out, True)
+        self.expect_status(rest, 0, "serve")
+        answers.append((last, self.expected(last)))
+        if finish(asking).out != answers[-1][1].text.encode():
+            raise Wrong(f"{self.name}: at beside serve: {shown(last.text)} was answered otherwise")
+        self.follow(answers, None, len(answers), True)
+        return answers
+
+    # Checks
+
+    def check(self):
+        """Calls `check`, which must tell what the model has, and change nothing."""
+        before = self.file()
+        ended = run(self.program, ["check", self.directory])
+        self.expect_status(ended, 0, "check")
+        seen = " ".join(f"{name} {counter}" for name, counter in zip(self.roster.names, self.model.version))
+        front = f"entries {len(self.entries)}, seen {seen}, jobs {len(self.model.jobs())}, "
+        wanted = f"{front}unfinished bytes {len(self.tail)}\n".encode()
+        if ended.out != wanted:
+            raise Wrong(f"{self.name}: check: {shown(ended.out)}, and not {shown(wanted)}")
+        if self.file() != before:
+            raise Wrong(f"{self.name}: check changed the journal")
+
+    def damage(self, pick, packets):
+        """Damages a copy of the directory; an opening must name the first damaged line, or show what is left."""
+        with tempfile.TemporaryDirectory(dir=os.path.dirname(self.directory)) as folder:
+            copy = f"{folder}/copy"
+            shutil.copytree(self.directory, copy)
+            file = bytearray(self.file())
+            place = pick.randrange(len(file))
+            if pick.random() < 0.3:
+                del file[place:]
+            else:
+                file[place] = pick.choice([byte for byte in (*b"-+\n a0", file[place] ^ 1) if byte != file[place]])
+            with open(f"{copy}/journal", "wb") as journal:
+                journal.write(file)
+            ended = run(self.program, ["at", copy, "ann", "qstat", "-f"])
+            self.see_damage(bytes(file), ended, packets)
+
+    def see_damage(self, file, ended, packets):
+        """Compares the opening of a damaged file with what the file's lines say."""
+        try:
+            entries, _ = read_journal(file)
+        except Damaged as damage:
+            self.expect_status(ended, 3, f"a journal with line {damage.line} damaged")
+            if not re.search(rf"\b{damage.line}\b".encode(), ended.err):
+                raise Wrong(f"{self.name}: line {damage.line} is damaged, not {shown(ended.err)}") from None
+            return
+        if not entries:
+            self.expect_status(ended, 3, "a journal without an entry")
+            return
+        self.expect_status(ended, 0, "a journal with a closed gate")
+        listing = self.replayed(entries, packets).listing(True).encode()
+        if ended.out != listing:
+            raise Wrong(f"{self.name}: what is before a closed gate lists {shown(ended.out)}, and not {shown(listing)}")

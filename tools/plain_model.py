@@ -1,0 +1,585 @@
+"""A plain model of sites: each keeps the set of its operations, and all that it says is worked out from that set.
+
+The model follows the definitions and not the program: it keeps no board, merges by the union of sets, ships whole sets,
+and looks at the operations of a job anew whenever it is asked for the job.
+"""
+import json
+from collections import Counter
+from typing import NamedTuple
+
+from plain_words import GREATEST_COUNTER, GREATEST_MOMENT, GREATEST_NODES
+from plain_words import Unread, read_line, read_roster, read_words, words_of
+
+MOST_JOBS = 10_000
+MOST_RESERVATIONS = 1_000
+KINDS = "uos"
+FIELDS = ("owner", "name", "priority", "nodes", "limit", "account")
+
+
+class Operation(NamedTuple):
+    """One operation: its stamp, its kind, the stamp of its job or reservation, and what it says."""
+
+    stamp: tuple
+    kind: str
+    subject: tuple
+    values: dict
+
+
+class Packet(NamedTuple):
+    """What a site tells another: the versions that it needs and reaches, and the sender's whole set."""
+
+    sender: int
+    need: list
+    reached: list
+    gives: dict
+
+
+class Answer(NamedTuple):
+    """The answer to a line, whether the line is kept, and the packet that a shipment made."""
+
+    text: str
+    kept: bool = False
+    packet: Packet = None
+
+
+def version_of(operations):
+    """Of each site the greatest counter among these operations, else 0."""
+    version = [0] * 16
+    for operation in operations:
+        counter, site = operation.stamp
+        version[site] = max(version[site], counter)
+    return version
+
+
+def covers(version, stamp):
+    """Whether a version covers a stamp."""
+    return stamp[0] <= version[stamp[1]]
+
+
+def is_at_most(version, other):
+    """Whether a version is at most another."""
+    return all(mine <= theirs for mine, theirs in zip(version, other))
+
+
+def by_kind(pair):
+    """The order of the live pairs of holds: that of the kinds, then that of the stamps."""
+    return KINDS.index(pair[0]), pair[1]
+
+
+class Job:
+    """What a set of operations says of a job. These are the operations of the set that are the job's."""
+
+    def __init__(self, operations):
+        self.operations = operations
+        self.stamp = operations[0].subject
+        self.version = version_of(operations)
+        self.grant = max((self.stage(it) for it in self.of("grant", "handback")), default=None)
+        self.begun = next(iter(self.of("begin")), None)
+        self.finished = next(iter(self.of("finish")), None)
+        self.deleted = bool(self.of("delete"))
+        self.fields = {name: self.field(name) for name in FIELDS}
+        pairs = self.live_pairs()
+        self.site_pairs = sorted(pair for pair in pairs if isinstance(pair[0], int))
+        self.hold_pairs = sorted((pair for pair in pairs if isinstance(pair[0], str)), key=by_kind)
+        self.holds = [kind for kind in KINDS if any(kind == it for it, _ in self.hold_pairs)]
+        self.letter = self.letter_now()
+
+    def of(self, *kinds):
+        """The operations of these kinds."""
+        return [it for it in self.operations if it.kind in kinds]
+
+    def field(self, name):
+        """The value of a field with its stamp: that of the greatest operation which sets it."""
+        greatest = max((it for it in self.operations if name in it.values), key=lambda it: it.stamp)
+        return greatest.values[name], greatest.stamp
+
+    @staticmethod
+    def stage(operation):
+        """The stage of a grant that an operation makes: its term, whether it is handed back, its stamp, its site."""
+        return operation.values["term"], operation.kind == "handback", operation.stamp, operation.values.get("site")
+
+    def live_pairs(self):
+        """The pairs of an element, a site or a kind, and a stamp that an operation adds and none removes."""
+        added, removed = set(), set()
+        for operation in self.operations:
+            added |= {(element, operation.stamp) for element in operation.values.get("adds", ())}
+            removed |= operation.values.get("removes", set())
+        return added - removed
+
+    def value(self, name):
+        """The value of a field."""
+        return self.fields[name][0]
+
+    def sites(self):
+        """The sites that are present, in their order."""
+        return sorted({site for site, _ in self.site_pairs})
+
+    def granted(self):
+        """The site that the job is granted to, or None."""
+        return self.grant[3] if self.grant and not self.grant[1] else None
+
+    def letter_now(self):
+        """The letter of the job, empty where it is gone."""
+        if self.finished or self.deleted and not self.begun:
+            return ""
+        if self.begun:
+            return "E" if self.deleted else "R"
+        if self.holds:
+            return "H"
+        return "Q" if self.granted() is None else "T"
+
+
+class Site:
+    """A site: the set of its operations, and what it has heard from each site."""
+
+    def __init__(self, roster, number):
+        self.roster = roster
+        self.number = number
+        self.operations = {}
+        self.subjects = {}
+        self.heard = [[0] * 16 for _ in range(16)]
+        self.known_jobs = {}
+        self.version = [0] * 16
+        self.counts = Counter()
+
+    def copy(self):
+        """A site that holds the same."""
+        other = Site(self.roster, self.number)
+        other.operations = dict(self.operations)
+        other.subjects = {subject: list(them) for subject, them in self.subjects.items()}
+        other.heard = [list(version) for version in self.heard]
+        other.known_jobs = dict(self.known_jobs)
+        other.version = list(self.version)
+        other.counts = Counter(self.counts)
+        return other
+
+    # The set
+
+    def add(self, operation):
+        """Adds an operation to the set, and to the list of those of its job or reservation."""
+        self.operations[operation.stamp] = operation
+        self.subjects.setdefault(operation.subject, []).append(operation)
+        counter, site = operation.stamp
+        self.version[site] = max(self.version[site], counter)
+        self.counts[operation.kind, site] += 1
+
+    def make(self, kind, subject, values):
+        """Makes a new operation of this site; a subject None means the operation itself."""
+        stamp = (1 + max(self.version), self.number)
+        self.add(Operation(stamp, kind, subject or stamp, values))
+        return stamp
+
+    def job(self, stamp):
+        """The job of this stamp, or None. What was worked out is kept until the job has another operation."""
+        operations = self.subjects.get(stamp)
+        if not operations or operations[0].kind in ("reserve", "cancel"):
+            return None
+        job = self.known_jobs.get(stamp)
+        if job is None or len(job.operations) != len(operations):
+            job = self.known_jobs[stamp] = Job(list(operations))
+        return job
+
+    def jobs(self, most=None):
+        """All jobs in the order of their stamps, or so many of the last subjects as are jobs."""
+        stamps = sorted(self.subjects)
+        found = (self.job(stamp) for stamp in (stamps if most is None else stamps[-most:]))
+        return [job for job in found if job]
+
+    def last_of_reservation(self, stamp):
+        """The greatest operation of a reservation, or None where there is no such reservation."""
+        operations = self.subjects.get(stamp, [])
+        if not any(it.kind == "reserve" for it in operations):
+            return None
+        return max(operations, key=lambda it: it.stamp)
+
+    def reservations(self):
+        """The greatest operation of each reservation, in the order of the reservations' stamps."""
+        found = (self.last_of_reservation(stamp) for stamp in sorted(self.subjects))
+        return [last for last in found if last]
+
+    def count(self, kind):
+        """How many operations of a kind this site has made."""
+        return self.counts[kind, self.number]
+
+    # Names
+
+    def name(self, stamp):
+        """The identifier of a job or a reservation."""
+        return f"{stamp[0]}.{self.site_name(stamp[1])}"
+
+    def site_name(self, number):
+        """The name of a site, `-` for none."""
+        return "-" if number is None else self.roster.names[number]
+
+    # Refusals and operations
+
+    def refusals(self, who, command):
+        """The numbers of all refusals that apply to a command. What needs a job that isn't known doesn't apply."""
+        found = {15} if max(self.version) >= GREATEST_COUNTER and self.would_add(command) else set()
+        if command.kind == "submit":
+            return found | ({14} if self.count("submit") >= MOST_JOBS else set())
+        if command.kind in ("reserve", "cancel"):
+            return found | self.refusals_of_reservations(who, command)
+        job = self.job(command.subject)
+        if job is None:
+            return {1}
+        return found | self.refusals_of_jobs(who, command, job)
+
+    def would_add(self, command):
+        """Whether a command would add an operation where nothing refuses it."""
+        job = self.job(command.subject) if command.subject else None
+        if command.kind == "release":
+            return job is not None and bool(self.pairs_to_release(job, command))
+        return not (command.kind == "grant" and job is not None and job.granted() == command.values["asker"])
+
+    @staticmethod
+    def pairs_to_release(job, command):
+        """The live pairs of the kinds that a command releases."""
+        return {pair for pair in job.hold_pairs if pair[0] in command.values["kinds"]}
+
+    def refusals_of_reservations(self, who, command):
+        """Those of `reserve` and `cancel`."""
+        found = {2} if who.role == "user" else set()
+        if command.kind == "cancel":
+            last = self.last_of_reservation(command.subject)
+            return found | ({13} if last is None or last.kind == "cancel" else set())
+        start, end, nodes = (command.values[it] for it in ("start", "end", "nodes"))
+        if end <= start or end > GREATEST_MOMENT or not 1 <= nodes <= GREATEST_NODES:
+            found.add(12)
+        if self.count("reserve") >= MOST_RESERVATIONS:
+            found.add(14)
+        return found
+
+    def refusals_of_jobs(self, who, command, job):
+        """Those of the commands that name a job which is known."""
+        kind, granted = command.kind, job.granted()
+        asker = command.values.get("asker")
+        held = bool(job.holds)
+        applies = {
+            2: not self.is_permitted(who, command, job),
+            3: job.letter == "",
+            4: kind in ("alter", "hold") and granted is not None,
+            5: kind == "grant" and job.stamp[1] != self.number,
+            6: held and (kind == "grant" and granted is None or kind == "begin" and not job.begun),
+            7: kind == "grant" and granted is None and asker not in job.sites(),
+            8: kind == "grant" and granted not in (None, asker),
+            9: kind in ("begin", "finish", "handback") and granted != self.number,
+            10: kind in ("begin", "handback") and job.begun is not None,
+            11: kind == "finish" and job.begun is None,
+        }
+        return {number for number, does in applies.items() if does}
+
+    @staticmethod
+    def is_permitted(who, command, job):
+        """Whether the role permits a command on a job."""
+        owns = who.user == job.value("owner") or who.role in ("operator", "admin")
+        if command.kind in ("alter", "delete"):
+            return owns
+        if command.kind not in ("hold", "release"):
+            return True
+        may = {"u": owns, "o": who.role in ("operator", "admin"), "s": who.role == "admin"}
+        return all(may[kind] for kind in command.values["kinds"])
+
+    def do(self, who, command):
+        """Does a command: its answer, and whether it added an operation."""
+        found = self.refusals(who, command)
+        if found:
+            return Answer(f"refused {min(found)}\n")
+        if command.kind in ("submit", "reserve"):
+            return Answer(self.name(self.begin_subject(who, command)) + "\n", True)
+        adds = self.would_add(command)
+        if adds:
+            self.make(command.kind, command.subject, self.values_of(command))
+        if command.kind == "grant":
+            return Answer("granted\n" if adds else "yours\n", adds)
+        return Answer("done\n", adds)
+
+    def begin_subject(self, who, command):
+        """Adds a Submit or a Reserve, and gives its stamp."""
+        values = dict(command.values)
+        if command.kind == "submit":
+            values["owner"] = who.user
+            values["adds"] = values.pop("sites") | ({"u"} if values.pop("held") else set())
+        return self.make(command.kind, None, values)
+
+    def values_of(self, command):
+        """What the operation of a command says."""
+        values, job = dict(command.values), self.job(command.subject)
+        if command.kind == "alter" and "sites" in values:
+            values["adds"] = values.pop("sites")
+            values["removes"] = set(job.site_pairs)
+        elif command.kind == "hold":
+            values = {"adds": values["kinds"]}
+        elif command.kind == "release":
+            values = {"removes": self.pairs_to_release(job, command)}
+        elif command.kind == "grant":
+            values = {"site": values["asker"], "term": 1 + (job.grant[0] if job.grant else 0)}
+        elif command.kind == "handback":
+            values = {"term": job.grant[0]}
+        elif command.kind == "begin":
+            # not under the names of the fields, which a Begin doesn't set
+            values["takes"] = job.value("nodes")
+            values["end"] = values["moment"] + job.value("limit")
+        return values
+
+    # Packets
+
+    def ship(self, to):
+        """The packet for a site."""
+        return Packet(self.number, list(self.heard[to]), list(self.version), dict(self.operations))
+
+    def take(self, packet):
+        """Takes a packet: its answer."""
+        for site, counter in enumerate(packet.need):
+            if counter > self.version[site]:
+                return Answer(f"gap {self.site_name(site)}\n")
+        grew = not is_at_most(packet.reached, self.version)
+        for stamp in packet.gives.keys() - self.operations.keys():
+            self.add(packet.gives[stamp])
+        self.heard[packet.sender] = [max(pair) for pair in zip(self.heard[packet.sender], packet.reached)]
+        return Answer("taken\n" if grew else "known\n", True)
+
+    def text_of(self, packet):
+        """The text of a packet that this site has just made: what changed beyond the packet's need."""
+        jobs = [job for job in self.jobs() if not is_at_most(job.version, packet.need)]
+        reservations = [last for last in self.reservations() if not covers(packet.need, last.stamp)]
+        value = {
+            "format": 2,
+            "jobs": [job_value(job) for job in jobs],
+            "need": packet.need,
+            "reached": packet.reached,
+            "reservations": [reservation_value(last) for last in reservations],
+            "sender": packet.sender,
+        }
+        return json.dumps(value, separators=(",", ":"), sort_keys=True) + "\n"
+
+    # Listings
+
+    def listed(self, jobs):
+        """The jobs that have a letter and are asked for: all where none is."""
+        return [job for job in self.jobs() if job.letter and (not jobs or job.stamp in jobs)]
+
+    def short_line(self, job):
+        """A job's line of the short listing."""
+        value = job.value
+        front = f"{self.name(job.stamp):<18} {value('name'):<16} {value('owner'):<16} {job.letter}"
+        numbers = f"{value('priority'):>6} {value('nodes'):>8} {value('limit'):>9}"
+        return f"{front} {numbers} {self.site_name(job.granted())}\n"
+
+    def full_lines(self, job):
+        """A job's lines of the full listing."""
+        rows = {
+            "Job_Name": job.value("name"),
+            "Job_Owner": job.value("owner"),
+            "Account_Name": job.value("account") or "-",
+            "job_state": job.letter,
+            "Priority": job.value("priority"),
+            "Hold_Types": "".join(job.holds) or "n",
+            "Resource_List.nodes": job.value("nodes"),
+            "Resource_List.walltime": job.value("limit"),
+            "Resource_List.sites": "+".join(self.site_name(site) for site in job.sites()) or "-",
+            "granted": self.site_name(job.granted()),
+            "begun": job.begun.values["moment"] if job.begun else "-",
+        }
+        return f"Job Id: {self.name(job.stamp)}\n" + "".join(f"    {label} = {it}\n" for label, it in rows.items())
+
+    def listing(self, full, jobs=()):
+        """The text of a listing."""
+        line = self.full_lines if full else self.short_line
+        return "".join(line(job) for job in self.listed(jobs))
+
+    # Plans
+
+    def queue(self):
+        """The jobs that wait for this site's machine, in their order."""
+        nodes = self.roster.nodes[self.number]
+        waiting = [
+            job
+            for job in self.jobs()
+            if job.letter in ("Q", "T")
+            and job.granted() in (None, self.number)
+            and self.number in job.sites()
+            and job.value("nodes") <= nodes
+        ]
+        return sorted(waiting, key=lambda job: (job.granted() != self.number, -job.value("priority"), job.stamp))
+
+    def spans(self, moment):
+        """What the site's nodes are used for: the start, the end and the nodes of each use."""
+        found = []
+        for job in self.jobs():
+            if job.begun and not job.finished and job.begun.stamp[1] == self.number:
+                end = max(job.begun.values["end"], moment + 1)
+                found.append((moment, end, job.begun.values["takes"]))
+        for last in self.reservations():
+            if last.kind == "reserve" and last.values["site"] == self.number:
+                found.append((last.values["start"], last.values["end"], last.values["nodes"]))
+        return found
+
+    def fits(self, job, second, spans):
+        """Whether a job fits at a second. The use only rises where a span starts, so these seconds are enough."""
+        end, nodes = second + job.value("limit"), self.roster.nodes[self.number]
+        seconds = {second} | {start for start, _, _ in spans if second < start < end}
+        return all(use_at(it, spans) + job.value("nodes") <= nodes for it in seconds)
+
+    def plan(self, moment):
+        """The text of the plan: the jobs that start at the moment, and the head with the second at which it can."""
+        spans, queue, text = self.spans(moment), self.queue(), ""
+        while queue and self.fits(queue[0], moment, spans):
+            job = queue.pop(0)
+            text += f"start {self.name(job.stamp)}\n"
+            spans.append((moment, moment + job.value("limit"), job.value("nodes")))
+        if not queue:
+            return text
+        head = queue.pop(0)
+        # a job that doesn't fit at a second fits at the next only where some use ends there
+        seconds = sorted({moment} | {end for _, end, _ in spans if end > moment})
+        shadow = next(second for second in seconds if self.fits(head, second, spans))
+        spans.append((shadow, shadow + head.value("limit"), head.value("nodes")))
+        for job in queue:
+            if self.fits(job, moment, spans):
+                text += f"start {self.name(job.stamp)}\n"
+                spans.append((moment, moment + job.value("limit"), job.value("nodes")))
+        return text + f"head {self.name(head.stamp)} {shadow}\n"
+
+    # Lines
+
+    def say(self, said):
+        """The answer to what a line says; `take` is not among these lines."""
+        if said.kind == "acts":
+            answers = [self.do(said.who, command) for command in said.commands]
+            return Answer("".join(it.text for it in answers), any(it.kept for it in answers))
+        if said.kind == "list":
+            return Answer(self.listing(said.full, said.jobs))
+        if said.kind == "misuse":
+            return Answer(f"usage {said.number}\n")
+        if said.kind == "ship":
+            return Answer("", packet=self.ship(said.number))
+        if said.kind == "plan":
+            return Answer(self.plan(said.number))
+        return Answer("")
+
+    def answer(self, line):
+        """The answer of a site by itself to a line that is no `take` of a packet."""
+        try:
+            said = read_line(self.roster, self.number, line)
+        except Unread:
+            return Answer("cannot be read\n")
+        if said.kind == "take":
+            return Answer("cannot be read\n")
+        answer = self.say(said)
+        return answer._replace(text=self.text_of(answer.packet)) if answer.packet else answer
+
+
+def use_at(second, spans):
+    """How many nodes are used at a second."""
+    return sum(nodes for start, end, nodes in spans if start <= second < end)
+
+
+def stamped(field):
+    """A value with its stamp, as packets write it."""
+    return [field[0], list(field[1])]
+
+
+def grant_value(job):
+    """A job's grant, as packets write it."""
+    if job.grant is None:
+        return None
+    term, is_returned, stamp, site = job.grant
+    return ["returned", term, list(stamp)] if is_returned else ["open", term, list(stamp), site]
+
+
+def progress_value(job):
+    """A job's progress, as packets write it."""
+    if job.begun is None:
+        return None
+    begun = job.begun
+    front = [list(begun.stamp), begun.values["moment"], begun.values["takes"], begun.values["end"]]
+    if job.finished is None:
+        return ["begun"] + front
+    finished = job.finished
+    return ["finished"] + front + [list(finished.stamp), finished.values["moment"], finished.values["status"]]
+
+
+def job_value(job):
+    """A job, as packets write it."""
+    value = {name: stamped(job.fields[name]) for name in FIELDS}
+    value["deleted"] = job.deleted
+    value["grant"] = grant_value(job)
+    value["holds"] = [stamped(pair) for pair in job.hold_pairs]
+    value["id"] = list(job.stamp)
+    value["progress"] = progress_value(job)
+    value["sites"] = [stamped(pair) for pair in job.site_pairs]
+    value["touched"] = job.version
+    return value
+
+
+def reservation_value(last):
+    """A reservation by its greatest operation, as packets write it."""
+    window = None
+    if last.kind == "reserve":
+        window = [last.values[it] for it in ("site", "start", "end", "nodes")]
+    return {"id": list(last.subject), "window": [window, list(last.stamp)]}
+
+
+class Federation:
+    """All sites of a script, and the packets between them."""
+
+    def __init__(self, roster):
+        self.roster = roster
+        self.sites = [Site(roster, number) for number in range(len(roster.names))]
+        self.packets = []
+
+    def answer(self, words):
+        """The answer to the words of a line of a script behind the line of the roster."""
+        if words[0] == "equal":
+            if len(words) != 3:
+                raise Unread
+            return "equal\n" if len({self.state(name) for name in words[1:]}) == 1 else "different\n"
+        site = self.site(words[0])
+        if len(words) < 2:
+            raise Unread
+        return self.said(site, read_words(self.roster, site.number, words[1:]))
+
+    def said(self, site, said):
+        """The answer to what a line says of a site."""
+        if said.kind == "take":
+            if not said.word.isdigit() or not 1 <= int(said.word) <= len(self.packets):
+                raise Unread
+            return site.take(self.packets[int(said.word) - 1]).text
+        answer = site.say(said)
+        if answer.packet:
+            self.packets.append(answer.packet)
+            return f"packet {len(self.packets)}\n"
+        return answer.text
+
+    def site(self, name):
+        """The site of this name."""
+        number = self.roster.find(name)
+        if number is None:
+            raise Unread
+        return self.sites[number]
+
+    def state(self, name):
+        """The stamps of all operations of a site, which name them."""
+        return frozenset(self.site(name).operations)
+
+
+def replay(script):
+    """What a replay of a script writes, and the number of the first line that can't be read, or None."""
+    federation, text = None, []
+    lines = script.split(b"\n")
+    for number, line in enumerate(lines, 1):
+        line = line[:-1] if line.endswith(b"\r") and number < len(lines) else line
+        try:
+            words = words_of(line)
+            if not words:
+                continue
+            if federation is None:
+                if words[0] != "roster":
+                    raise Unread
+                federation = Federation(read_roster(words[1:]))
+            else:
+                text.append(federation.answer(words))
+        except Unread:
+            return "".join(text), number
+    return "".join(text), None

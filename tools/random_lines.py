@@ -1,0 +1,262 @@
+"""Random lines for a site of the plain model: commands of every kind, misuses and lines that can't be read."""
+
+USERS = ("ann", "ann", "bob", "Dora.x-y", "cy_2/operator", "oz/operator", "root/admin", "root/admin")
+SITE_NAMES = (
+    "argonne lemont batavia fermi oak-ridge sparks ames golden livermore hanford A z9 "
+    "a-rather-long-1 brookhaven upton idaho"
+).split()
+MISUSES = (
+    "ann",
+    "ann qmove 1",
+    "ann QSUB",
+    "ann qsub -Z",
+    "ann qsub -p",
+    "ann qsub -p 1024",
+    "ann qsub -p -1025",
+    "ann qsub -l nodes=0",
+    "ann qsub -l nodes=2,,walltime=5",
+    "ann qsub -l walltime=10000001",
+    "ann qsub -l sites=nowhere",
+    "ann qsub -l sites=+",
+    "ann qsub -l color=red",
+    "ann qsub -N 9x",
+    "ann qsub -A averyverylongname",
+    "ann qalter",
+    "ann qalter -h 1",
+    "ann qalter -p 5 x",
+    "ann qhold -h n 1",
+    "ann qhold -h uox 1",
+    "ann qrls 1.nowhere",
+    "ann qrls -- -",
+    "ann qdel",
+    "ann qdel -f 1",
+    "ann qdel 12345678901",
+    "ann qdel 1.9x",
+    "ann qdel 0",
+    "ann qstat -x",
+    "ann qstat --x",
+    "ann qstat -f 1.",
+    "roster a:1",
+    "equal a b",
+    "root/admin grant 1 argonne",
+)
+UNREADABLE = (
+    "9x qsub",
+    "ann/ qsub",
+    "ann/boss qsub",
+    "grant/operator qsub",
+    "averyverylonguser qsub",
+    "grant 1",
+    "grant 1 nowhere",
+    "begin 1 x",
+    "begin 1 1000000000001",
+    "finish 1 5 256",
+    "finish 1 5",
+    "handback 1 2",
+    "handback 1.nowhere",
+    "ship",
+    "ship nowhere",
+    "take",
+    "plan",
+    "plan -1",
+    "plan 18446744073709551616",
+    "ann cancel",
+    "ann cancel x",
+    "oz/operator reserve nowhere 1 2 3",
+    "oz/operator reserve lemont 1 2",
+    "ann qsub \x7f",
+    "# a comment with \x01",
+    "\xe9ric qsub",
+)
+SKIPPED = ("", "   ", "\t", "# a comment", "  #x qsub")
+
+
+class RandomLines:
+    """Makes lines by what a site holds, so that most of them do something."""
+
+    def __init__(self, pick, roster):
+        self.pick = pick
+        self.roster = roster
+        self.makers = (
+            [self.submit] * 18
+            + [self.alter] * 9
+            + [self.hold] * 7
+            + [self.release] * 7
+            + [self.delete] * 3
+            + [self.short_list] * 4
+            + [self.full_list] * 4
+            + [self.reserve] * 3
+            + [self.cancel] * 2
+            + [self.grant] * 14
+            + [self.begin] * 10
+            + [self.finish] * 5
+            + [self.hand_back] * 5
+            + [self.plan] * 5
+            + [self.misuse] * 3
+            + [self.unreadable] * 2
+            + [self.skipped] * 1
+        )
+
+    def line(self, site):
+        """A line for the site, as a text; a `ship` or a `take` is not among them."""
+        return self.pick.choice(self.makers)(site)
+
+    # Words
+
+    def user(self):
+        """Who submits or lists."""
+        return self.pick.choice(USERS)
+
+    def master(self):
+        """Who asks something of a job: mostly one who may."""
+        return self.pick.choice(("root/admin", "root/admin", "oz/operator", self.user()))
+
+    def moment(self):
+        """A moment, mostly a small one."""
+        return self.pick.choice((self.pick.randrange(100), self.pick.randrange(5000), 1_000_000_000_000))
+
+    def site_name(self):
+        """A site of the roster."""
+        return self.pick.choice(self.roster.names)
+
+    def site_names(self):
+        """A value of `sites`."""
+        return "+".join(self.site_name() for _ in range(self.pick.randrange(1, 4)))
+
+    def identifier(self, site, wanted=lambda job: True):
+        """The identifier of a job that the site knows, of those wanted if there are any; seldom of another job."""
+        recent = site.jobs(40)
+        if not recent or self.pick.random() < 0.04:
+            return f"{self.pick.randrange(1, 40)}.{self.site_name()}"
+        job = self.pick.choice([job for job in recent if wanted(job)] or recent)
+        counter, origin = job.stamp
+        if origin == site.number and self.pick.random() < 0.5:
+            return f"{counter:0{self.pick.choice((1, 1, 10))}d}"
+        return site.name(job.stamp)
+
+    def identifiers(self, site):
+        """One to three jobs."""
+        return " ".join(self.identifier(site) for _ in range(self.pick.choice((1, 1, 1, 2, 3))))
+
+    def resources(self):
+        """An argument of `-l`."""
+        pairs = (
+            f"nodes={self.pick.choice((1, 2, 3, 5, 8, 13, 1_000_000))}",
+            f"walltime={self.pick.choice((1, 10, 50, 51, 100, 3600, 10_000_000))}",
+            f"sites={self.site_names()}",
+        )
+        return ",".join(self.pick.sample(pairs, self.pick.randrange(1, 4)))
+
+    def options(self, letters):
+        """Some options of a utility, in some spelling."""
+        words = []
+        for letter in self.pick.sample(letters, self.pick.randrange(0, len(letters) + 1)):
+            if letter == "h":
+                words.append("-h")
+                continue
+            argument = {
+                "A": lambda: self.pick.choice(("chem", "phys", "x.y-z_1")),
+                "N": lambda: self.pick.choice(("render", "STDIN", "a", "fifteen-letters")),
+                "p": lambda: self.pick.choice(("5", "-5", "+7", "1023", "-1024", "0012", str(self.pick.randrange(9)))),
+                "l": self.resources,
+            }[letter]()
+            words.append(f"-{letter}{self.pick.choice(('', ' '))}{argument}")
+        return " ".join(words + [""])
+
+    # Lines
+
+    def submit(self, site):
+        """`qsub`"""
+        options = self.options(self.pick.choice(("", "l", "lp", "pN", "AhlNp")))
+        return f"{self.user()} qsub {options}{self.pick.choice(('', '', 'render.sh', '-- -p 5'))}".strip()
+
+    def alter(self, site):
+        """`qalter`"""
+        return f"{self.master()} qalter {self.options('AlNp')}{self.identifiers(site)}"
+
+    def kinds(self):
+        """The option of `qhold` and `qrls`, which may be left out."""
+        return self.pick.choice(("", "", "-h u ", "-ho ", "-h s ", "-h uos ", "-hsuu "))
+
+    def hold(self, site):
+        """`qhold`"""
+        return f"{self.master()} qhold {self.kinds()}{self.identifiers(site)}"
+
+    def release(self, site):
+        """`qrls`"""
+        held = self.identifier(site, lambda job: job.letter == "H")
+        kinds = self.pick.choice(("-h uos ", self.kinds()))
+        return f"{self.master()} qrls {kinds}{held}"
+
+    def delete(self, site):
+        """`qdel`"""
+        return f"{self.master()} qdel {self.identifiers(site)}"
+
+    def short_list(self, site):
+        """`qstat` of all jobs or of some"""
+        return self.pick.choice(("ann qstat", f"bob qstat {self.identifiers(site)}", "root/admin qstat --"))
+
+    def full_list(self, site):
+        """`qstat -f` of some jobs, seldom of all"""
+        return self.pick.choice(("ann qstat -f", *[f"bob qstat -ff {self.identifiers(site)}"] * 3))
+
+    def reserve(self, site):
+        """`reserve`"""
+        start = self.pick.randrange(3000)
+        end = start + self.pick.choice((0, 1, 60, 1000, 1_000_000_000_000))
+        nodes = self.pick.choice((0, 1, 2, 4, 8, 1_000_000, 1 << 63))
+        who = self.pick.choice(("oz/operator", "root/admin", "oz/operator", "ann"))
+        return f"{who} reserve {self.site_name()} {start} {end} {nodes}"
+
+    def cancel(self, site):
+        """`cancel`"""
+        standing = [last.subject for last in site.reservations()]
+        name = self.identifier(site)
+        if standing and self.pick.random() < 0.9:
+            name = site.name(self.pick.choice(standing))
+        return f"{self.pick.choice(('oz/operator', 'root/admin', 'bob'))} cancel {name}"
+
+    def grant(self, site):
+        """`grant`, mostly of a job of this site"""
+        own = self.identifier(site, lambda job: job.stamp[1] == site.number and job.letter == "Q")
+        return f"grant {own} {self.pick.choice((self.site_name(), site.site_name(site.number)))}"
+
+    def of_granted(self, site, letters, verb, rest):
+        """A line of the scheduler's on a job that is granted to the site and has one of these letters; mostly a grant
+        where there is no such job."""
+
+        def is_wanted(job):
+            """Whether the job is so."""
+            return job.granted() == site.number and job.letter in letters
+
+        if not any(is_wanted(job) for job in site.jobs(40)) and self.pick.random() < 0.8:
+            return self.grant(site)
+        return f"{verb} {self.identifier(site, is_wanted)}{rest}"
+
+    def begin(self, site):
+        """`begin`"""
+        return self.of_granted(site, "TH", "begin", f" {self.moment()}")
+
+    def finish(self, site):
+        """`finish`"""
+        return self.of_granted(site, "RE", "finish", f" {self.moment()} {self.pick.choice((0, 1, 255))}")
+
+    def hand_back(self, site):
+        """`handback`"""
+        return self.of_granted(site, "TH", "handback", "")
+
+    def plan(self, site):
+        """`plan`"""
+        return f"plan {self.moment()}"
+
+    def misuse(self, site):
+        """The words of a utility, misused."""
+        return self.pick.choice(MISUSES)
+
+    def unreadable(self, site):
+        """A line that can't be read."""
+        return self.pick.choice(UNREADABLE)
+
+    def skipped(self, site):
+        """A line that is answered by nothing."""
+        return self.pick.choice(SKIPPED)
