@@ -4,7 +4,7 @@ ghost use Rattle.fed_journal.specs.Device.{LeavesJust};
 ghost use Rattle.fed_journal.specs.Memory.{memory_may_leave, memory_seen};
 ghost use Rattle.fed_home.specs.Home.{IsOpen};
 
-use crate::{MAX_LINE_BYTES, ServeFault, line_of_words, serve, take_line};
+use crate::{MAX_LINE_BYTES, ServeFault, heard, line_of_words, serve, take_line};
 use fed_home::{Home, HomeFault};
 use fed_journal::{JournalFault, Memory, Tear};
 use std::alloc::Global;
@@ -121,42 +121,11 @@ fn an_input_is_answered_however_it_comes(rt: HostRuntime) -> Result<(), Fail> {
     Ok(())
 }
 
-/// A line of so many bytes, and one behind it.
-#[derive(Drop)]
-struct LongLine {
-    left: usize,
-}
-
-impl Read for LongLine {
-    fn read(&mut self, buf: &mut [u8]) -> io::Result<usize> {
-        let count = self.left.min(buf.len());
-        buf[..count].fill(b' ');
-        if 0 < self.left && self.left <= buf.len() {
-            buf[count - 1] = b'\n';
-        }
-        self.left -= count;
-        Ok(count)
-    }
-}
-
 #[test]
 fn a_line_that_is_too_long_cannot_be_read(rt: HostRuntime) -> Result<(), Fail> {
-    let alloc = rt.alloc();
-    for (length, answer) in [
-        (MAX_LINE_BYTES, b"\n".as_slice()),
-        (MAX_LINE_BYTES + 1, b"cannot be read\n\n".as_slice()),
-        (MAX_LINE_BYTES + 200_000, b"cannot be read\n\n".as_slice()),
-    ] {
-        let mut home = opened(alloc, MADE, usize::MAX)?;
-        let mut output = Vec::new(alloc);
-        serve(
-            alloc,
-            &mut home,
-            &mut LongLine { left: length + 1 },
-            &mut output,
-        )?;
-        assert_eq!(rt; output.as_slice(), answer);
-    }
+    let line = vec![in rt.alloc(); 0u8; MAX_LINE_BYTES + 1]?;
+    assert_eq!(rt; heard(&line[1..]).len(), MAX_LINE_BYTES);
+    assert_eq!(rt; heard(&line), b"\0".as_slice());
     Ok(())
 }
 
