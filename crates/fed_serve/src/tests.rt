@@ -141,6 +141,9 @@ fn faults_are_told(rt: HostRuntime) -> Result<(), Fail> {
         .ok_or("no fault")?;
     assert_eq!(rt; fault.number(), 2);
     assert_eq!(rt; output.as_slice(), b"1.argonne\n\n".as_slice());
+    // behind a fault the home is opened anew
+    let disk = home.into_device().into_disk();
+    let mut home = opened(alloc, &disk, usize::MAX)?;
     let mut room = Room {
         bytes: Vec::new(alloc),
         room: 11,
