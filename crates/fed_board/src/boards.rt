@@ -27,6 +27,7 @@ ghost use Rattle.fed_board.specs.ViewSteps.{add_to_view, join_views, join_record
 
 use crate::counts::{change_at, count_more, count_names};
 use crate::noting::{changed_after, forget_all, none_after, note_at, note_records};
+use crate::records::Records;
 use crate::site_changes::SiteChanges;
 use fed_lattice::{Causal, Entries, ExactEq, NoMemory, Table, join_entries};
 use fed_record::{JobRecord, Operation, Reservation};
@@ -308,11 +309,10 @@ impl Board {
         Ok(())
     }
 
-    /// Joins the records that the other board has to those of this one, each job and each reservation by itself, and
-    /// leaves all others as they are. So the other board may be a part of a board: the records in which this one is
-    /// behind. On an error this board is as before. The time that it takes grows with the records of the other, and
-    /// with the logarithm of those that are here.
-    pub fn join_records(&mut self, other: &Board) -> Result<(), NoMemory>
+    /// Joins the records to those of this board, each job and each reservation by itself, and leaves all others as they
+    /// are. So they may be of a part of a board: those in which this one is behind. On an error this board is as before.
+    /// The time that it takes grows with the records, and with the logarithm of those that are here.
+    pub fn join_records(&mut self, other: &Records) -> Result<(), NoMemory>
         ensures value { OnOk result (self.new ≡ with_records ⟦<JobRecord as Causal>⟧.joined self.old other.now) }
         ensures joined { OnOk result (reads self.new ≡ join_records (reads self.old) (reads other.now)) }
         ensures unchanged { OnErr result (self.new ≡ self.old) }
@@ -342,7 +342,7 @@ impl Board {
 }
 
 // Whether two values are identical. It stands apart for what its clauses say, from which `==` of boards is proved.
-fn is_same<V: ExactEq>(a: &V, b: &V) -> bool
+pub(crate) fn is_same<V: ExactEq>(a: &V, b: &V) -> bool
     ensures by_parts { result ≡ V.eq a.now b.now }
     ensures same { IsTrue result ↔ (a.now ≡ b.now) }
 {

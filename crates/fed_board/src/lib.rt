@@ -19,6 +19,8 @@ pub mod merging;
 mod noting;
 /// That boards are told apart by what they read as.
 pub mod readings;
+/// The records of a board, or of a part of one.
+pub mod records;
 /// By which changes jobs are behind records of them.
 mod rises;
 /// The changes of jobs that one site made.
@@ -27,4 +29,5 @@ mod site_changes;
 pub use boards::Board;
 pub use limits::{MAX_JOBS, MAX_RESERVATIONS};
 pub use merging::{merging_is_associative, merging_is_commutative, merging_is_idempotent};
-pub use readings::boards_that_read_the_same_are_equal;
+pub use readings::{boards_that_read_the_same_are_equal, records_that_read_the_same_are_equal};
+pub use records::Records;

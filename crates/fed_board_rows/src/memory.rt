@@ -74,3 +74,26 @@ fn refused_growths_of_a_delta(rt: HostRuntime) {
     }
     assert!(rt; has_jobs(&both, [stamp(1, 0), stamp(1, 1)]));
 }
+
+/// A copy of the board, on which another site holds the job and submits another.
+fn gone_on(rt: &(impl Abort + AllocGlobal), board: &Board, job: Stamp, next: Stamp) -> Board {
+    let mut later = copied(rt, board);
+    let kinds = HoldKinds::USER;
+    applied(rt, &mut later, stamp(2, 1), &Operation::Hold { job, kinds });
+    applied(rt, &mut later, next, &submit(rt, false));
+    later
+}
+
+#[test]
+fn refused_growths_of_a_delta_of_a_known_job(rt: HostRuntime) {
+    let (job, next) = (stamp(1, 0), stamp(3, 1));
+    let one = submitted(&rt, job, false);
+    let later = gone_on(&rt, &one, job, next);
+    let news = told(&rt, &later);
+    let mut both = copied(&rt, &one);
+    if let Err(fault) = absorb(&mut both, &news) {
+        assert!(rt; fault.number() == 2 && both == one);
+        absorb(&mut both, &news).expect(&rt, "memory");
+    }
+    assert!(rt; has_jobs(&both, [job, next]) && both == later);
+}

@@ -1,25 +1,22 @@
--- How loops join the entries of one table into another.
+-- How loops take entries out of a table and put values back.
 use Rattle.std.specs.List.{AllByRecursion, list_any}
 use Rattle.std.specs.Ordering.{is_eq, eq_by_cmp}
 use Rattle.std.specs.BTreeMap.{insert_entry, is_at}
 use Rattle.std.specs.Map.{keys_of, lookup, remove_entry}
 use Rattle.std.specs.List.Sorted.{IsStrictlySortedBy}
 use Rattle.std.specs.Cmp.{IsTotalOrder, IsEquivalence, eq_by_cmp_equiv}
-use Rattle.std.proofs.Common.{◌≡◌, ℕ, zero, suc, ◌+◌, ◌<◌, length, get_or, drop, List, [], ◌∷◌, All, Bool, true, false, cond, not, ◌||◌, filter, Option, Some, None, is_some, IsSome, unwrap_or, Ordering, refl, sym, ap, subst, ◌∙◌, inl, inr}
-use Rattle.std.proofs.lemmas.Bool.{cases_Bool}
-use Rattle.std.proofs.lemmas.Cmp.{tied_itself}
+use Rattle.std.proofs.Common.{◌≡◌, ℕ, zero, suc, ◌+◌, ◌<◌, length, get_or, drop, arith, List, [], ◌∷◌, All, Bool, true, false, cond, not, ◌||◌, filter, Option, Some, None, is_some, IsSome, unwrap_or, Ordering, refl, sym, ap, subst, ◌∙◌, inl, inr}
 use Rattle.std.proofs.lemmas.List.{drop_more}
 use Rattle.std.proofs.lemmas.List.Elements.{All-tail, All-head}
 use Rattle.std.proofs.lemmas.Map.{lookup-remove_entry}
 use Rattle.std.proofs.lemmas.Map.Entries.{lookup-filter-keys}
 use Rattle.std.proofs.lemmas.Map.Keys.{IsDistinct-from_sorted}
 use Rattle.std.proofs.lemmas.Map.Lookups.{CmpEqualImpliesEq}
-use Rattle.std.proofs.lemmas.Map.Views.{tells_apart}
+use Rattle.std.proofs.lemmas.Map.Views.{tells_apart, lookup-from_Contains}
 use Rattle.fed_lattice.specs.Sets.{Has}
-use Rattle.fed_lattice.specs.SetLaws.{found, any_from}
 use Rattle.fed_lattice.specs.Table.{value_at, filled}
 use Rattle.fed_lattice.specs.JoinedEntries.{without}
-use Rattle.fed_lattice.specs.TableEntryLaws.{same_tables, sorted_insert, lookup-insert_entry}
+use Rattle.fed_lattice.specs.TableEntryLaws.{same_tables, lookup-insert_entry}
 
 -- ---- entries that are left out
 module _ {K X : Type 0} (R : K → K → Ordering) where
@@ -67,17 +64,19 @@ module _ {A : Type 0} where
   pub Has-item : (xs : List A) (i : ℕ) (x : A) → i < length xs → x ≡ get_or xs i x → Has xs x
   Has-item xs i x l e = Has-drop i xs x (subst (λ (ys : List A). Has ys x) (sym (drop_item xs i x l e)) (inl refl))
 
--- ---- keys
-module _ {K : Type 0} (R : K → K → Ordering) (o : IsTotalOrder R) (exact : CmpEqualImpliesEq R) where
-  pub any_has : (q : K) (ks : List K) → list_any (is_at (R q)) ks ≡ true → Has ks q
-  any_has q ks e = let f = found (is_at (R q)) ks e in subst (Has ks) (sym (tells_apart exact q f.0 f.2)) f.1
-
-  pub has_any : (q : K) (ks : List K) → Has ks q → list_any (is_at (R q)) ks ≡ true
-  has_any q ks h = any_from (is_at (R q)) ks q h (ap is_eq (tied_itself o q))
+  get_again : (xs : List A) (i : ℕ) (d : A) → i < length xs → get_or xs i (get_or xs i d) ≡ get_or xs i d
+  get_again [] i d l = absurd (omega (arith, l))
+  get_again (x ∷ xs) zero d l = refl
+  get_again (x ∷ xs) (suc i) d l = get_again xs i d (omega (arith, l))
 
 module _ {K X : Type 0} (R : K → K → Ordering) (o : IsTotalOrder R) (exact : CmpEqualImpliesEq R) where
   abbrev at : List (K × X) → K → Option X
   at es q = lookup (is_at (R q)) es
+
+  -- a look-up at the key of an entry finds its value
+  pub found_each : (es : List (K × X)) → IsStrictlySortedBy R (keys_of es) → All (λ e. at es e.0 ≡ Some e.1) es
+  found_each es s i d l = let e : K × X = get_or es i d in
+      lookup-from_Contains (eq_by_cmp_equiv o) e.0 e.1 es (IsDistinct-from_sorted R (keys_of es) s) (i, l, get_again es i d l)
 
   -- ---- the loop that takes keys out
   pub lookup-without : (q : K) (es : List (K × X)) (ks : List K) → at (without R es ks) q ≡ cond (not (list_any (is_at (R q)) ks)) (at es q) None
@@ -122,34 +121,6 @@ module _ {K X : Type 0} (R : K → K → Ordering) (o : IsTotalOrder R) (exact :
 
   pub removing_end : (es all : List (K × X)) (ks : List K) → IsRemoving es ks all → ks ≡ [] → es ≡ all
   removing_end es all ks p n = sym (without_none es) ∙ ap (without R es) (sym n) ∙ p.left
-
-  -- ---- the loop that adds keys
-  -- what is left to add, and that the entries at other keys are as before
-  pub record IsAdding (f : K → X) (es : List (K × X)) (ks keys : List K) (old : List (K × X)) : Type 0 where
-    pub left : filled R f es ks ≡ filled R f old keys
-    pub sorted : IsStrictlySortedBy R (keys_of es)
-    pub kept : (q : K) → list_any (is_at (R q)) keys ≡ false → at es q ≡ at old q
-
-  pub adding_more : (f : K → X) (es new old : List (K × X)) (ks rest keys : List K) (k : K) (w : X) → IsAdding f es ks keys old → ks ≡ k ∷ rest → Has keys k → w ≡ f k → new ≡ insert_entry R es k w → IsAdding f new rest keys old
-  adding_more f es new old ks rest keys k w p first has same e =
-      let h : new ≡ insert_entry R es k (f k) = e ∙ ap (insert_entry R es k) same in
-      record {
-        left = ap (λ l. filled R f l rest) h ∙ ap (filled R f es) (sym first) ∙ p.left;
-        sorted = subst (λ (l : List (K × X)). IsStrictlySortedBy R (keys_of l)) (sym h) (sorted_insert R o es k (f k) p.sorted);
-        kept = λ q n. ap (λ l. at l q) h ∙ lookup-insert_entry R o exact q k (f k) es
-            ∙ other (is_eq (R q k)) (λ t. let u : true ≡ false = sym (has_any R o exact q keys (subst (Has keys) (sym (tells_apart exact q k t)) has)) ∙ n in cc) (p.kept q n);
-      } where
-        other : {a : Option X} {b : Option X} (t : Bool) → (t ≡ true → ⊥) → a ≡ b → cond t (Some (f k)) a ≡ b
-        other true f h = absurd (f refl)
-        other false f h = h
-
-  -- the keys taken out again
-  pub taken_back : (f : K → X) (es new old : List (K × X)) (ks keys : List K) → IsStrictlySortedBy R (keys_of old) → ((k : K) → Has keys k → at old k ≡ None) → IsAdding f es ks keys old → new ≡ without R es keys → new ≡ old
-  taken_back f es new old ks keys s absent p e = e ∙ same_tables R o exact _ _ (sorted_without es keys p.sorted) s
-      (λ q. lookup-without q es keys ∙ elim (cases_Bool (list_any (is_at (R q)) keys)) [
-        | inl t ↦ ap (λ b. cond (not b) (at es q) None) t ∙ sym (absent q (any_has R o exact q keys t))
-        | inr n ↦ ap (λ b. cond (not b) (at es q) None) n ∙ p.kept q n
-      ])
 
   -- ---- the loop that replaces values
   -- what is left to replace, that its values are those wanted, and that its keys are there

@@ -9,7 +9,7 @@ use Rattle.std.proofs.lemmas.Map.Steps.{set_value_same}
 use Rattle.std.proofs.lemmas.Map.Keys.{sorted_tail}
 use Rattle.std.proofs.lemmas.Map.Views.{IfSome-lookup_from_All}
 use Rattle.fed_stamp.specs.Stamp.{StampValue}
-use Rattle.fed_lattice.specs.Table.{IsTable, applied_table}
+use Rattle.fed_lattice.specs.Table.{IsTable, value_at, applied_table}
 use Rattle.fed_lattice.specs.TableEntryLaws.{not_none, below_head}
 use Rattle.fed_lattice.specs.TableJoinLaws.{well_formed_insert}
 
@@ -21,6 +21,10 @@ on_ok_then (Err e) f p = p
 pub on_err_then : {A E : Type 0} {P Q : Type 0} (r : Result A E) → (P → Q) → OnErr r P → OnErr r Q
 on_err_then (Ok a) f p = p
 on_err_then (Err e) f p = f p
+
+pub on_err_from : {A E : Type 0} {P : Type 0} (r : Result A E) → P → OnErr r P
+on_err_from (Ok a) p = tt
+on_err_from (Err e) p = p
 
 pub in_either : {A E : Type 0} {P Q G : Type 0} (r : Result A E) → OnOk r P → OnErr r Q → (P → G) → (Q → G) → G
 in_either (Ok a) p q f g = f p
@@ -43,6 +47,11 @@ module _ {K X : Type 0} (R : K → K → Ordering) (o : IsTotalOrder R) where
     applied_present {C} bottom applied s d sorted i =
         inserted_present _ sorted (i ∙ ap (λ x. applied (unwrap_or x bottom) s d) h)
         ∙ ap (λ l. insert_entry R self k (applied (unwrap_or (lookup (is_at (R k)) l) bottom) s d)) same
+
+    pub joined_present : (bottom : X) (f : X → X) → IsStrictlySortedBy R (keys_of es) → w ≡ f v → fs ≡ insert_entry R self k (f (value_at R bottom self k))
+    joined_present bottom f sorted i =
+        inserted_present _ sorted (i ∙ ap (λ x. f (unwrap_or x bottom)) h)
+        ∙ ap (λ l. insert_entry R self k (f (unwrap_or (lookup (is_at (R k)) l) bottom))) same
 
     pub unchanged_present : w ≡ v → fs ≡ self
     unchanged_present i = e ∙ set_value_same (is_at (R k)) es w (sym h ∙ ap Some (sym i)) ∙ same

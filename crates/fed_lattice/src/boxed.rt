@@ -3,7 +3,7 @@ ghost use Rattle.std.specs.Prelude.{◌≡◌, IfOk, OnOk, OnErr, IsOk};
 
 use crate::causals::Causal;
 use crate::memory::NoMemory;
-use fed_stamp::Stamp;
+use fed_stamp::{Stamp, Version};
 use std::alloc::Global;
 use std::marker::Model;
 use std::mem;
@@ -65,6 +65,23 @@ impl<V: Causal + Drop> Boxed<V> {
         ensures inline { V.is_inline → IsOk result }
     {
         self.content.apply(at, change)
+    }
+
+    // Puts the join with another value in its place, and gives back the value that stood there. On an error it stays.
+    pub(crate) fn join(
+        &mut self,
+        alloc: Global,
+        mine: &Version,
+        other: &V,
+        theirs: &Version,
+    ) -> Result<Boxed<V>, NoMemory>
+        ensures former { IfOk result (λ r. r ≡ self.old) }
+        ensures joined { OnOk result (self.new ≡ V.joined self.old mine.now other.now theirs.now) }
+        ensures well_formed { OnOk result (V.well_formed self.old × V.well_formed other.now) }
+        ensures unchanged { OnErr result (self.new ≡ self.old) }
+    {
+        let joined = Boxed::new(alloc, self.get().join(mine, other, theirs)?)?;
+        Ok(mem::replace(self, joined))
     }
 }
 

@@ -29,15 +29,12 @@ pub fn join_entries<K: Exact, V: Causal + Drop, L: Exact, W: Causal + Drop>(
     ensures first_unchanged { OnErr result (first.new ≡ first.old) }
     ensures second_unchanged { OnErr result (second.new ≡ second.old) }
 {
-    let (joined, new_keys) = first.make_ready(mine, other_first, theirs)?;
-    let (other_joined, other_keys) = match second.make_ready(mine, other_second, theirs) {
-        Ok(made) => made,
+    let replaced = first.join_values(mine, other_first, theirs)?;
+    match second.join_values(mine, other_second, theirs) {
+        Ok(others) => Ok((replaced.added, others.added)),
         Err(refused) => {
-            first.remove_keys(&new_keys);
-            return Err(refused);
+            first.put_back(replaced);
+            Err(refused)
         }
-    };
-    first.replace(joined);
-    second.replace(other_joined);
-    Ok((new_keys, other_keys))
+    }
 }

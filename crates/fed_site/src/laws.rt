@@ -4,7 +4,7 @@ ghost use Rattle.fed_replica.specs.State.{State, IsMadeFor};
 ghost use Rattle.fed_site.specs.Journal.{after_lines, kept_lines};
 ghost use Rattle.fed_site.specs.Says.{site_says};
 
-use fed_board::boards_that_read_the_same_are_equal;
+use fed_board::records_that_read_the_same_are_equal;
 use fed_wire::Packet;
 
 /// A line that isn't kept changes nothing.
@@ -25,5 +25,5 @@ pub fn kept_lines_are_enough()
 pub fn one_packet_is_made(x: &Packet, y: &Packet)
     ensures { (s : State) (to : ℕ) → IsMadeFor s to x.now → IsMadeFor s to y.now → x.now ≡ y.now }
 {
-    boards_that_read_the_same_are_equal(x.delta().changes(), y.delta().changes());
+    records_that_read_the_same_are_equal(x.delta().changes(), y.delta().changes());
 }

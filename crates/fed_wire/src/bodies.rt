@@ -101,7 +101,7 @@ pub(crate) fn body(alloc: Global, packet: &Value, format: Format) -> Result<Pack
     }
     let jobs = jobs_member(alloc, packet, format, &reached)?;
     let reservations = reservations_member(alloc, packet, &reached)?;
-    let delta = Delta::from_parts(alloc, need, reached, jobs, reservations);
+    let delta = Delta::from_parts(need, reached, jobs, reservations);
     Ok(Packet::new(sender, delta))
 }
 

@@ -11,7 +11,7 @@ ghost use Rattle.fed_world.specs.Exchange.{IsExchange};
 ghost use Rattle.fed_world.specs.Kept.{IsSentOf};
 ghost use Rattle.fed_world.specs.Run.{run};
 
-use fed_board::{Board, boards_that_read_the_same_are_equal};
+use fed_board::{Board, boards_that_read_the_same_are_equal, records_that_read_the_same_are_equal};
 use fed_wire::Packet;
 
 /// Where two sites hold the same operations, their boards are equal, however the operations came.
@@ -39,7 +39,7 @@ pub fn versions_tell_equal_boards(x: &Board, y: &Board)
 pub fn one_packet_is_sent(x: &Packet, y: &Packet)
     ensures { (p : RunPacket) → IsSentOf p x.now → IsSentOf p y.now → x.now ≡ y.now }
 {
-    boards_that_read_the_same_are_equal(x.delta().changes(), y.delta().changes());
+    records_that_read_the_same_are_equal(x.delta().changes(), y.delta().changes());
 }
 
 /// Once no command is done any more and each site has made a packet for each other, which took it, all sites hold the

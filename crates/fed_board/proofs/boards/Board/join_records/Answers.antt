@@ -28,7 +28,7 @@ pub invariant_of-self-2 : goal.invariant_of-self-2
 invariant_of-self-2 c =
     let b : BoardValue = record { version = c.self.inside.version; jobs = c.self.inside.jobs; reservations = c.self.inside.reservations } in
     let d : BoardValue = record { version = c.other.inside.version; jobs = c.other.inside.jobs; reservations = c.other.inside.reservations } in
-    let keeps = with_records_keeps joined_record joined_jobs_read b d c.self.invariant.0 c.other.invariant.0 in
+    let keeps = with_records_keeps joined_record joined_jobs_read b d c.self.invariant.0 c.other.invariant in
     let version = sym c.join-reached.ensures in
     let jobs = sym c.in_ok-jobs.ensures.first in
     let reservations = sym c.in_ok-jobs.ensures.second in (
@@ -52,6 +52,6 @@ returns-clause-value c =
 
 pub returns-clause-joined : goal.returns-clause-joined
 returns-clause-joined c =
-    let whole = subst IsBoard c.other.view_is c.other.invariant.0 in
+    let whole = subst IsBoard c.other.view_is c.other.invariant in
     ap reads (returns-clause-value c)
     ∙ with_records_reads joined_record joined_jobs_read c.args.self.now c.args.other.now whole

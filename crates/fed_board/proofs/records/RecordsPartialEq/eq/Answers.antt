@@ -1,0 +1,35 @@
+use Rattle.std.proofs.Common.{◌≡◌, Bool, true, false, ◌&&◌, refl, sym, ap, ap₂, ◌∙◌}
+use Rattle.fed_board.specs.Board.{BoardValue}
+use Rattle.fed_board.specs.BoardLaws.{same_board}
+use Rattle.fed_board.proofs.records.RecordsPartialEq.eq.Goals as goal
+use Rattle.fed_board.proofs.records.RecordsPartialEq.eq.Goals.{then-eq, else-eq}
+
+third_alone : (v j r : Bool) → v ≡ true → j ≡ true → r ≡ (v && (j && r))
+third_alone v j r p q = ap₂ (λ x y. x && (y && r)) (sym p) (sym q)
+
+not_second : (v j r : Bool) → j ≡ false → false ≡ (v && (j && r))
+not_second true j r e = ap (λ x. x && r) (sym e)
+not_second false j r e = refl
+
+not_first : (v r : Bool) → v ≡ false → false ≡ (v && r)
+not_first v r e = ap (λ x. x && r) (sym e)
+
+pub returns-then-is_same-clause-by_parts : goal.returns-then-is_same-clause-by_parts
+returns-then-is_same-clause-by_parts c =
+    let b : BoardValue = record { version = c.self.inside.version; jobs = c.self.inside.jobs; reservations = c.self.inside.reservations } in
+    let d : BoardValue = record { version = c.other.inside.version; jobs = c.other.inside.jobs; reservations = c.other.inside.reservations } in
+    let inner : c.is_same-then-is_same.result ≡ same_board b d = elim c.if-eq.branch [
+      | then-eq w ↦ c.is_same-then-is_same.ensures.by_parts ∙ third_alone _ _ _ (sym c.eq.ensures ∙ w.if-eq.true) (sym w.is_same.ensures.by_parts ∙ sym w.value-is ∙ c.if-is_same.true)
+      | else-eq w ↦ absurd (let f : false ≡ true = sym w.if-eq.false ∙ sym w.value-is ∙ c.if-is_same.true in cc)
+    ] in
+    inner ∙ ap₂ same_board c.self.view_is c.other.view_is
+
+pub returns-else-is_same-clause-by_parts : goal.returns-else-is_same-clause-by_parts
+returns-else-is_same-clause-by_parts c =
+    let b : BoardValue = record { version = c.self.inside.version; jobs = c.self.inside.jobs; reservations = c.self.inside.reservations } in
+    let d : BoardValue = record { version = c.other.inside.version; jobs = c.other.inside.jobs; reservations = c.other.inside.reservations } in
+    let inner : c.if-eq.value ≡ same_board b d = elim c.if-eq.branch [
+      | then-eq w ↦ c.if-is_same.false ∙ not_second _ _ _ (sym w.is_same.ensures.by_parts ∙ sym w.value-is ∙ c.if-is_same.false)
+      | else-eq w ↦ c.if-is_same.false ∙ not_first _ _ (sym c.eq.ensures ∙ w.if-eq.false)
+    ] in
+    inner ∙ ap₂ same_board c.self.view_is c.other.view_is

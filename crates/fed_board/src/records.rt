@@ -1,0 +1,115 @@
+//! The records of a board, or of a part of one.
+ghost use Rattle.std.specs.Prelude.{◌≡◌, ◌↔◌, ◌&&◌, All, IsTrue, IsSome};
+ghost use Rattle.std.specs.List.Sorted.{IsStrictlySortedBy};
+ghost use Rattle.std.specs.Map.{keys_of, values_of};
+ghost use Rattle.std.specs.Map.Iter.{ShowsInOrder, deref_pair};
+ghost use Rattle.fed_stamp.specs.Stamp.{StampValue};
+ghost use Rattle.fed_lattice.specs.Latest.{stamp_cmp};
+ghost use Rattle.fed_lattice.specs.Table.{IsTable};
+ghost use Rattle.fed_record.specs.JobRecord.{JobRecordValue, reads as reads_job};
+ghost use Rattle.fed_record.specs.Letter.{is_submitted};
+ghost use Rattle.fed_record.specs.Reservation.{ReservationView};
+ghost use Rattle.fed_board.specs.Board.{IsBoard, reads};
+ghost use Rattle.fed_board.specs.Names.{jobs_in, reservations_in};
+
+use crate::boards::is_same;
+use fed_lattice::{Causal, Entries, Table};
+use fed_record::{JobRecord, Reservation};
+use fed_stamp::{JobId, Stamp, Version};
+use std::marker::Model;
+
+/// Records that a board of the version may have: some of its jobs and reservations, or all. They are seen as that board,
+/// and can be joined into another; what a board keeps besides, counts of names and lists of changes, they have not.
+#[derive(Drop)]
+pub struct Records {
+    pub(crate) version: Version,
+    pub(crate) jobs: Table<JobId, JobRecord>,
+    pub(crate) reservations: Table<Stamp, Reservation>,
+}
+
+impl Model for Records {
+    ghost use Rattle.fed_board.specs.Board.{BoardValue, IsBoard};
+
+    ghost Value = { BoardValue };
+
+    ghost view = { λ r. record { version = r.version; jobs = r.jobs; reservations = r.reservations } };
+
+    ghost invariant = { λ r. IsBoard (record { version = r.version; jobs = r.jobs; reservations = r.reservations }) };
+}
+
+impl Records {
+    /// These records beside the version. It asks for what holds of every board.
+    pub fn new(
+        version: Version,
+        jobs: Table<JobId, JobRecord>,
+        reservations: Table<Stamp, Reservation>,
+    ) -> Records
+        requires { IsBoard (record { version = version; jobs = jobs; reservations = reservations }) }
+        ensures { result ≡ record { version = version; jobs = jobs; reservations = reservations } }
+    {
+        Records {
+            version,
+            jobs,
+            reservations,
+        }
+    }
+
+    /// The version of the board that may have them.
+    pub fn version(&self) -> Version
+        ensures value { result ≡ self.now.version }
+        ensures board { IsBoard self.now }
+    {
+        let version = self.version;
+        version
+    }
+
+    /// The jobs with their records, in ascending order of the stamps of their Submits. Each is submitted.
+    pub fn jobs(&self) -> Entries<'_, JobId, JobRecord>
+        ensures entries { result ≡ self.now.jobs }
+        ensures runs { ShowsInOrder (deref_pair {K = StampValue} {X = JobRecordValue}) }
+        ensures ascending { IsStrictlySortedBy stamp_cmp (keys_of self.now.jobs) }
+        ensures submitted { All (λ r. IsTrue (is_submitted (reads_job r))) (values_of self.now.jobs) }
+        ensures names { keys_of self.now.jobs ≡ jobs_in (reads self.now) }
+        ensures well_formed { All ⟦<JobRecord as Causal>⟧.well_formed (values_of self.now.jobs) }
+    {
+        self.jobs.iter()
+    }
+
+    /// The reservations, in ascending order of the stamps of their Reserves. Each is made.
+    pub fn reservations(&self) -> Entries<'_, Stamp, Reservation>
+        ensures entries { result ≡ self.now.reservations }
+        ensures runs { ShowsInOrder (deref_pair {K = StampValue} {X = ReservationView}) }
+        ensures ascending { IsStrictlySortedBy stamp_cmp (keys_of self.now.reservations) }
+        ensures made { All IsSome (values_of self.now.reservations) }
+        ensures names { keys_of self.now.reservations ≡ reservations_in (reads self.now) }
+    {
+        self.reservations.iter()
+    }
+
+    // That the tables are well formed.
+    pub(crate) fn see_tables(&self)
+        ensures jobs { IsTable stamp_cmp ⟦<JobRecord as Causal>⟧.well_formed self.now.jobs }
+        ensures reservations { IsTable stamp_cmp ⟦<Reservation as Causal>⟧.well_formed self.now.reservations }
+    {
+        let _jobs = self.jobs.iter();
+        let _reservations = self.reservations.iter();
+    }
+}
+
+/// Records are equal exactly where they are identical: where their versions, their jobs and their reservations are.
+impl PartialEq for Records {
+    ghost use Rattle.fed_board.specs.BoardLaws.{same_board, board_laws};
+
+    ghost eq = { same_board };
+
+    ghost laws = { board_laws };
+
+    fn eq(&self, other: &Self) -> bool
+        ensures by_parts { result ≡ same_board self.now other.now }
+        ensures same { IsTrue result ↔ (self.now ≡ other.now) }
+    {
+        self.version == other.version
+            && is_same(&self.jobs, &other.jobs)
+            && is_same(&self.reservations, &other.reservations)
+    }
+}
