@@ -5,10 +5,10 @@ use Rattle.fed_script.specs.Line.{words_in}
 use Rattle.fed_looks.specs.Look.{Look, charts, look_in}
 
 -- the look, if it is one that is answered: a chart isn't yet
-abbrev pub answered : Look → Option Look
-answered (charts moment) = None
-answered look = Some look
+abbrev pub answered : Option Look → Option Look
+answered (Some (charts moment)) = None
+answered look = look
 
 -- the look that the words of a line ask for, which are parted as those of a script
 abbrev pub look_in_line : List (List ℕ × ℕ) → ℕ → List ℕ → Option Look
-look_in_line roster here line = words_in line >>= look_in roster here >>= answered
+look_in_line roster here line = answered (words_in line >>= look_in roster here)

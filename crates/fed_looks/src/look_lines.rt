@@ -1,6 +1,5 @@
 //! The looks that lines ask for.
 ghost use Rattle.std.specs.Prelude.{◌≡◌, ℕ, List, ◌∷◌, false, IfOk, None, option_map};
-ghost use Rattle.fed_script.specs.Forms.{◌>>=◌};
 ghost use Rattle.fed_looks.specs.Look.{look_in};
 ghost use Rattle.fed_looks.specs.LookLine.{answered as answered_look, look_in_line};
 ghost use Rattle.fed_looks.specs.LookView.{asked_by};
@@ -34,7 +33,7 @@ fn may_ask(line: &[u8]) -> bool
 
 /// The look, if it is one that is answered: a chart isn't yet.
 fn answered(look: Option<Look>) -> Option<Look>
-    ensures { option_map asked_by result ≡ (option_map asked_by look >>= answered_look) }
+    ensures { option_map asked_by result ≡ answered_look (option_map asked_by look) }
 {
     match look {
         Some(Look::Chart { .. }) => None,
