@@ -245,7 +245,12 @@ impl Site {
     }
 
     /// Answers the look that a line asks for, or does what the line says where it asks for none.
-    fn do_own(&mut self, alloc: Global, line: &[u8], look: Option<Look>) -> Result<Answered, NoMemory>
+    fn do_own(
+        &mut self,
+        alloc: Global,
+        line: &[u8],
+        look: Option<Look>,
+    ) -> Result<Answered, NoMemory>
         ensures said { IfOk result (λ a. SaidAs self.old self.new a
             (after_look self.old.roster (state_of self.old.replica) line.now (option_map asked_by look))) }
         ensures unchanged { OnErr result (self.new ≡ self.old) }
