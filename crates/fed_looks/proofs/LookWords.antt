@@ -1,10 +1,10 @@
 -- A line whose first word asks for nothing asks for no look.
-use Rattle.std.specs.Prelude.{Option, Some, None, if◌then◌else◌, slice_get}
+use Rattle.std.specs.Prelude.{Some, None, if◌then◌else◌, slice_get}
 use Rattle.std.proofs.Common.{◌≡◌, ℕ, Bool, true, false, List, [], ◌∷◌, refl, sym, subst, ap}
 use Rattle.fed_script.specs.Forms.{◌>>=◌}
 use Rattle.fed_script.specs.Line.{is_comment, told}
 use Rattle.fed_script.specs.Lines.{is_readable, words_of}
-use Rattle.fed_looks.specs.Look.{Look, look_in}
+use Rattle.fed_looks.specs.Look.{look_in}
 use Rattle.fed_looks.specs.LookLine.{answered, look_in_line}
 
 module _ (roster : List (List ℕ × ℕ)) (here : ℕ) where

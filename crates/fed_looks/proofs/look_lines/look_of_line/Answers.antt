@@ -1,4 +1,4 @@
-use Rattle.std.proofs.Common.{◌≡◌, sym}
+use Rattle.std.proofs.Common.{sym}
 use Rattle.fed_looks.proofs.look_lines.look_of_line.Goals as goal
 
 pub returns-then-not-may_ask : goal.returns-then-not-may_ask

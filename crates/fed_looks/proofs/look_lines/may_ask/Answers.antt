@@ -1,4 +1,3 @@
-use Rattle.std.proofs.Common.{◌≡◌, List, ℕ}
 use Rattle.fed_looks.proofs.LookWords.{asks_none, no_word_asks}
 use Rattle.fed_looks.proofs.look_lines.may_ask.Goals as goal
 
