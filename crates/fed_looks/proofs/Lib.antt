@@ -1,5 +1,7 @@
--- Lemmas on the entries of a board, on jobs as JSON objects, on sites and on words.
+-- Lemmas on the entries of a board, on jobs as JSON objects, on looks, on sites and on words.
 pub mod EachWord
 pub mod Entries
 pub mod JobLaws
+pub mod LookCases
+pub mod LookWords
 pub mod Sites

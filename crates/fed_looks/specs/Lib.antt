@@ -2,6 +2,8 @@
 pub mod JobMembers
 pub mod JobObject
 pub mod Look
+pub mod LookLine
+pub mod LookText
 pub mod LookView
 pub mod Machine
 pub mod Planned

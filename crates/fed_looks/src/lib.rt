@@ -5,7 +5,11 @@
 mod job_lines;
 /// The values of the parts of a job.
 mod job_values;
-/// The lines that ask for a look.
+/// The looks that lines ask for.
+mod look_lines;
+/// The texts of looks.
+mod look_texts;
+/// What words ask for a look.
 pub mod looks;
 /// What is said of a site's machine.
 mod machines;
@@ -15,13 +19,12 @@ mod plans;
 mod reserved;
 /// What a site has seen of the others.
 mod seen;
-/// Worked looks.
-#[cfg(test)]
-mod tests;
 /// Why a job stands where it does.
 mod whys;
 
 pub use job_lines::jobs_json;
+pub use look_lines::look_of_line;
+pub use look_texts::look_text;
 pub use looks::{Look, read_look};
 pub use machines::machine_lines;
 pub use reserved::reservation_lines;

@@ -1,4 +1,4 @@
-//! The lines that ask for a look.
+//! What words ask for a look.
 ghost use Rattle.std.specs.Prelude.{◌≡◌, IfOk, option_map};
 ghost use Rattle.fed_words.specs.Item.{words_of as texts_of};
 ghost use Rattle.fed_script.specs.Forms.{one, one_word as one_of, two, two_words as two_of};

@@ -20,6 +20,6 @@ mod values;
 /// Verbs.
 mod verbs;
 
-pub use lines::split_line;
+pub use lines::{Words, first_word, split_line};
 pub use rosters::HeldRoster;
-pub use script_lines::{Line, read_first_line, read_later_line, read_own_line};
+pub use script_lines::{Line, read_first_line, read_later_line, read_own_line, told_words};

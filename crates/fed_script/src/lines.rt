@@ -1,5 +1,5 @@
 //! Cutting a script into lines, and a line into words.
-ghost use Rattle.std.specs.Prelude.{◌≡◌, ◌<◌, [], ◌∷◌, true, not, IfOk, IfNone, IfSome, Some, None, length, map, option_map, position, ◌==◌, if◌then◌else◌};
+ghost use Rattle.std.specs.Prelude.{◌≡◌, ◌<◌, [], ◌∷◌, true, not, IfOk, IfNone, IfSome, Some, None, length, map, option_map, position, slice_get, ◌==◌, if◌then◌else◌};
 ghost use Rattle.std.specs.Char.{is_ascii_whitespace};
 ghost use Rattle.std.specs.Str.Lines.{lines, strip_carriage_return};
 ghost use Rattle.fed_script.specs.Lines.{is_readable, words_of};
@@ -89,6 +89,17 @@ fn word_end(text: &[u8]) -> Option<usize>
     ensures { result ≡ position is_ascii_whitespace text.now }
 {
     text.iter().position(|byte| byte.is_ascii_whitespace())
+}
+
+/// The first word of a line, where words are parted by white space. `None` where it has no word.
+pub fn first_word(line: &[u8]) -> Option<&[u8]>
+    ensures { option_map (λ word. word.now) result ≡ slice_get (words_of line.now) 0 }
+{
+    let text = &line[word_start(line)?..];
+    match word_end(text) {
+        Some(end) => Some(&text[..end]),
+        None => Some(text),
+    }
 }
 
 /// How many words take no allocation: few lines have more.

@@ -280,8 +280,9 @@ fn read_first_words(alloc: Global, words: &[&str]) -> Result<Option<Line>, NoMem
     }
 }
 
-/// The words of a line, without those of a comment, or `None` where it has a byte that no line may have.
-fn told_words(alloc: Global, line: &[u8]) -> Result<Option<Words<'_>>, NoMemory>
+/// The words of a line, which are parted by spaces and tabs, without those of a comment. `None` where the line has a byte
+/// that no line may have: another than a printable ASCII character, a space or a tab.
+pub fn told_words(alloc: Global, line: &[u8]) -> Result<Option<Words<'_>>, NoMemory>
     ensures { IfOk result (λ words. option_map (λ w. texts_of w.items) words ≡ words_in line.now) }
 {
     let Some(words) = line_words(alloc, line)? else {

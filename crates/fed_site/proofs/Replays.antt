@@ -11,11 +11,13 @@ use Rattle.fed_replica.specs.State.{State, after_answer, after_packet_unless, la
 use Rattle.fed_script.specs.Line.{Line, skips, begins, acts, lists, misuses, ships, takes, plans, compares, own_line_in}
 use Rattle.fed_answers.specs.Outcome.{answer_line}
 use Rattle.fed_answers.specs.Planned.{plan_if_any}
+use Rattle.fed_looks.specs.Look.{Look}
+use Rattle.fed_looks.specs.LookLine.{look_in_line}
 use Rattle.fed_site.specs.declared.complaints.Complaint.{Complaint}
 use Rattle.fed_site.specs.Journal.{after_lines, kept_line, kept_lines}
 use Rattle.fed_site.specs.Line.{packet_text}
 use Rattle.fed_site.specs.Packets.{is_foreign, is_forgotten}
-use Rattle.fed_site.specs.Says.{adds, after_command, after_commands, after_plan, after_reading, after_receipt, after_text, after_told, site_says, undone}
+use Rattle.fed_site.specs.Says.{adds, after_command, after_commands, after_look, after_plan, after_reading, after_receipt, after_text, after_told, site_says, undone}
 
 -- ---- commands
 answer_unkept : (s : State) (a : Answer) → adds a ≡ false → after_answer s a ≡ s
@@ -68,8 +70,12 @@ module _ (roster : List (List ℕ × ℕ)) where
   told_unkept s (Some (plans site moment)) e = plan_unkept s (plan_if_any roster s.view s.site moment)
   told_unkept s (Some (compares site other)) e = refl
 
+  look_unkept : (s : State) (line : List ℕ) (look : Option Look) → (after_look roster s line look).kept ≡ false → (after_look roster s line look).after ≡ s
+  look_unkept s line None e = told_unkept s (own_line_in roster s.site line) e
+  look_unkept s line (Some look) e = refl
+
   text_unkept : (s : State) (line : List ℕ) (text : Option (List ℕ)) → (after_text roster s line text).kept ≡ false → (after_text roster s line text).after ≡ s
-  text_unkept s line None e = told_unkept s (own_line_in roster s.site line) e
+  text_unkept s line None e = look_unkept s line (look_in_line roster s.site line) e
   text_unkept s line (Some text) e = reading_unkept s (packet_in text) e
 
   pub unkept : (s : State) (line : List ℕ) → (site_says roster s line).kept ≡ false → (site_says roster s line).after ≡ s

@@ -13,6 +13,9 @@ use Rattle.fed_script.specs.Line.{Line, skips, acts, lists, misuses, ships, plan
 use Rattle.fed_answers.specs.Outcome.{answer_line, outcome_text, usage_line}
 use Rattle.fed_answers.specs.Planned.{plan_if_any, plan_or_none}
 use Rattle.fed_answers.specs.Listed.{listed}
+use Rattle.fed_looks.specs.Look.{Look}
+use Rattle.fed_looks.specs.LookLine.{look_in_line}
+use Rattle.fed_looks.specs.LookText.{look_text}
 use Rattle.fed_site.specs.declared.complaints.Complaint.{Complaint}
 use Rattle.fed_site.specs.Line.{packet_text}
 use Rattle.fed_site.specs.Packets.{is_foreign, is_forgotten, unread_text, IsPacketText}
@@ -133,8 +136,13 @@ module _ (roster : List (List ℕ × ℕ)) where
   after_told s None = unreadable s
   after_told s (Some line) = after_line s line
 
+  -- a line that asks for a look is answered by it, and one that asks for none says what it says behind the site's name
+  abbrev pub after_look : State → List ℕ → Option Look → Said
+  after_look s line None = after_told s (own_line_in roster s.site line)
+  after_look s line (Some look) = said_of (only s (look_text roster s look))
+
   abbrev pub after_text : State → List ℕ → Option (List ℕ) → Said
-  after_text s line None = after_told s (own_line_in roster s.site line)
+  after_text s line None = after_look s line (look_in_line roster s.site line)
   after_text s line (Some text) = said_of (after_reading s (packet_in text))
 
   -- what a site says to a line

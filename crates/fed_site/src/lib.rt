@@ -14,7 +14,3 @@ pub mod site;
 
 pub use complaints::Complaint;
 pub use site::{Answered, Site};
-
-/// Lines with their answers.
-#[cfg(test)]
-mod tests;

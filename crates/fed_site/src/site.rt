@@ -3,6 +3,7 @@ ghost use Rattle.std.specs.Prelude.{◌≡◌, ◌<◌, false, Some, None, IfOk,
 ghost use Rattle.std.specs.List.{list_any};
 ghost use Rattle.std.specs.Cow.{cow_str_bytes};
 ghost use Rattle.fed_board.specs.Board.{reads};
+ghost use Rattle.fed_looks.specs.LookView.{asked_by};
 ghost use Rattle.fed_script.specs.LineView.{said_by};
 ghost use Rattle.fed_replica.specs.State.{empty_at, state_of};
 ghost use Rattle.fed_answers.specs.Outcome.{answer_line};
@@ -11,7 +12,7 @@ ghost use Rattle.fed_site.specs.declared.complaints.Complaint.{Complaint};
 ghost use Rattle.fed_site.specs.Answered.{bytes_of, kept_of, complaint_of};
 ghost use Rattle.fed_site.specs.Journal.{SaidAs, after_lines};
 ghost use Rattle.fed_site.specs.Line.{packet_text as packet_text_in};
-ghost use Rattle.fed_site.specs.Says.{after_line, after_told, site_says};
+ghost use Rattle.fed_site.specs.Says.{after_line, after_look, after_told, site_says};
 
 use crate::acts::{Done, act, undone};
 use crate::complaints::Complaint;
@@ -19,6 +20,7 @@ use crate::packets::{ship, take};
 use fed_answers::{Answer, listing_text, plan_lines, usage_line};
 use fed_board::Board;
 use fed_lattice::NoMemory;
+use fed_looks::{Look, look_of_line, look_text};
 use fed_replica::Replica;
 use fed_script::{HeldRoster, Line, read_own_line};
 use fed_stamp::{Roster, SiteId, Version};
@@ -242,6 +244,29 @@ impl Site {
         }
     }
 
+    /// Answers the look that a line asks for, or does what the line says where it asks for none.
+    fn do_own(
+        &mut self,
+        alloc: Global,
+        line: &[u8],
+        look: Option<Look>,
+    ) -> Result<Answered, NoMemory>
+        ensures said { IfOk result (λ a. SaidAs self.old self.new a
+            (after_look self.old.roster (state_of self.old.replica) line.now (option_map asked_by look))) }
+        ensures unchanged { OnErr result (self.new ≡ self.old) }
+    {
+        match look {
+            Some(look) => {
+                let seen = look_text(alloc, self.roster.get(), &self.replica, &look)?;
+                Ok(told(CowStr::Owned(seen)))
+            }
+            None => {
+                let told = read_own_line(alloc, self.roster.get(), self.here, line)?;
+                self.do_told(alloc, told)
+            }
+        }
+    }
+
     /// Answers a line. Where memory is refused, the site holds what it held.
     pub fn answer(&mut self, alloc: Global, line: &[u8]) -> Result<Answered, NoMemory>
         ensures said { IfOk result (λ a. SaidAs self.old self.new a
@@ -254,8 +279,8 @@ impl Site {
                 Ok(done_answer(done))
             }
             None => {
-                let told = read_own_line(alloc, self.roster.get(), self.here, line)?;
-                self.do_told(alloc, told)
+                let look = look_of_line(alloc, self.roster.get(), self.here, line)?;
+                self.do_own(alloc, line, look)
             }
         }
     }

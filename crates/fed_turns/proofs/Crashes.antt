@@ -11,10 +11,12 @@ use Rattle.fed_script.specs.Line.{Line, skips, begins, acts, lists, misuses, shi
 use Rattle.fed_world.proofs.KeptLaws.{put_other}
 use Rattle.fed_world.proofs.Runs.{put_same}
 use Rattle.fed_answers.specs.Outcome.{answer_line}
+use Rattle.fed_looks.specs.Look.{Look}
+use Rattle.fed_looks.specs.LookLine.{look_in_line}
 use Rattle.fed_site.specs.Journal.{after_lines, kept_line, kept_lines}
 use Rattle.fed_site.specs.Line.{packet_text}
 use Rattle.fed_answers.specs.Planned.{plan_if_any}
-use Rattle.fed_site.specs.Says.{IsReply, Reply, Text, PacketFor, after_plan, after_text, after_told, site_says}
+use Rattle.fed_site.specs.Says.{IsReply, Reply, Text, PacketFor, after_look, after_plan, after_text, after_told, site_says}
 use Rattle.fed_turns.specs.Crash.{Happening, answered, cut, MayAllHappen, MayHappen, journal_of, lines_all, lines_at, lines_if, turn_unseen, turns_from, turns_of, turns_unseen, unseen}
 use Rattle.fed_turns.specs.Turn.{Course, MayTurns, Turn, after_turn, after_turns, beginning, shipped_by}
 
@@ -98,8 +100,12 @@ module _ (roster : List (List ℕ × ℕ)) where
       told (Some (plans site moment)) f = plan_stays (plan_if_any roster s.view s.site moment)
       told (Some (compares site other)) f = refl
 
+      looked : (o : Option Look) → (after_look roster s line o).reply ≡ PacketFor to → (after_look roster s line o).after ≡ s
+      looked None f = told (own_line_in roster s.site line) f
+      looked (Some look) f = refl
+
       go : (o : Option (List ℕ)) → (after_text roster s line o).reply ≡ PacketFor to → (after_text roster s line o).after ≡ s
-      go None f = told (own_line_in roster s.site line) f
+      go None f = looked (look_in_line roster s.site line) f
       go (Some text) f = cc
 
   module _ (i : ℕ) where

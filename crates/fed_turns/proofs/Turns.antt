@@ -25,10 +25,13 @@ use Rattle.fed_world.proofs.SentLaws.{ship_here, take_here}
 use Rattle.fed_answers.specs.Listed.{listed}
 use Rattle.fed_answers.specs.Outcome.{answer_line, outcome_text, usage_line}
 use Rattle.fed_answers.specs.Planned.{plan_if_any, plan_or_none}
+use Rattle.fed_looks.specs.Look.{Look}
+use Rattle.fed_looks.specs.LookLine.{look_in_line}
+use Rattle.fed_looks.specs.LookText.{look_text}
 use Rattle.fed_site.specs.Line.{packet_text}
-use Rattle.fed_site.specs.Says.{IsReply, Said, after_commands, after_line, after_plan, after_reading, after_text, after_told, only, said_of, site_says}
+use Rattle.fed_site.specs.Says.{IsReply, Said, after_commands, after_line, after_look, after_plan, after_reading, after_text, after_told, only, said_of, site_says}
 use Rattle.fed_turns.specs.Turn.{Course, MayTurn, MayTurns, Turn, after_said, after_turn, after_turns, said_to}
-use Rattle.fed_turns.specs.Run.{AreAnswered, AreShipments, IsToldAnswer, StandsFor, events_at, events_from, events_told, line_of, number_of, numbered, state_at}
+use Rattle.fed_turns.specs.Run.{AreAnswered, AreShipments, Deed, IsDeedAnswer, StandsFor, deed_of, does, events_at, events_done, events_from, looked, number_of, numbered, state_at}
 use Rattle.fed_turns.proofs.Acts.{IsStepped, acted}
 use Rattle.fed_turns.proofs.OwnLines.{own_line_is}
 use Rattle.fed_turns.proofs.Packets.{found, shipment, shipments_push}
@@ -47,11 +50,11 @@ unshipped : (c : Course) (w v : World) → StandsFor c w → v.packets ≡ w.pac
 unshipped c w v stands e =
     subst (AreShipments v.packets) (sym (append-nil c.shipped)) (subst (λ ps. AreShipments ps c.shipped) (sym e) stands.shipped)
 
--- the turn says this, and the line does the same
-pub record IsPlayed (roster : List (List ℕ × ℕ)) (c : Course) (w : World) (t : Turn) (said : Said) (line : Option Line) : Type 0 where
-  pub answered : IsToldAnswer roster w line (outcomes_from (length roster) w (events_told line)) t.answer
-  pub stands : StandsFor (after_said c t.site said t.answer) (run_from (length roster) w (events_told line))
-  pub ranged : AreRanged (events_told line)
+-- the turn says this, and does the same in the run
+pub record IsPlayed (roster : List (List ℕ × ℕ)) (c : Course) (w : World) (t : Turn) (said : Said) (deed : Deed) : Type 0 where
+  pub answered : IsDeedAnswer roster w t.site deed (outcomes_from (length roster) w (events_done deed)) t.answer
+  pub stands : StandsFor (after_said c t.site said t.answer) (run_from (length roster) w (events_done deed))
+  pub ranged : AreRanged (events_done deed)
 
 module _ (roster : List (List ℕ × ℕ)) (few : length roster ≤ 16) (c : Course) (w : World) (t : Turn) (stands : StandsFor c w) (r : Reached (length roster) w) (small : t.site < length roster) where
   abbrev n : ℕ
@@ -66,7 +69,7 @@ module _ (roster : List (List ℕ × ℕ)) (few : length roster ≤ 16) (c : Cou
 
   -- what is played of a line that can be read
   abbrev Plays : Line → Type 0
-  Plays line = IsReply here (after_line roster here line).reply t.answer → IsPlayed roster c w t (after_line roster here line) (Some line)
+  Plays line = IsReply here (after_line roster here line).reply t.answer → IsPlayed roster c w t (after_line roster here line) (does (Some line))
 
   skip_played : Plays skips
   skip_played e = record { answered = e; stands = quiet []; ranged = All-nil IsRangedEvent }
@@ -115,7 +118,7 @@ module _ (roster : List (List ℕ × ℕ)) (few : length roster ≤ 16) (c : Cou
 
   -- the text of a packet
   take_played : (text : List ℕ) → Has c.shipped (answer_line text) → t.answer ≡ (after_reading roster here (packet_in text)).text
-      → IsPlayed roster c w t (said_of (after_reading roster here (packet_in text))) (Some (takes_line t.site (number_of c.shipped text)))
+      → IsPlayed roster c w t (said_of (after_reading roster here (packet_in text))) (does (Some (takes_line t.site (number_of c.shipped text))))
   take_played text carried e =
       let k = position_or_len (bytes_eq (answer_line text)) c.shipped in
       let it = found w.packets c.shipped text stands.shipped carried in
@@ -132,21 +135,26 @@ module _ (roster : List (List ℕ × ℕ)) (few : length roster ≤ 16) (c : Cou
       }
 
   -- a line that can be read, or can't
-  line_played : (o : Option Line) → own_line_in roster t.site t.line ≡ o → IsReply here (after_told roster here o).reply t.answer → IsPlayed roster c w t (after_told roster here o) o
+  line_played : (o : Option Line) → own_line_in roster t.site t.line ≡ o → IsReply here (after_told roster here o).reply t.answer → IsPlayed roster c w t (after_told roster here o) (does o)
   line_played None is e = record { answered = e; stands = quiet (answer_line (codes "cannot be read")); ranged = All-nil IsRangedEvent }
   line_played (Some line) is reply =
       own_line_is roster few t.site Plays skip_played act_played list_played misuse_played ship_played plan_played line t.line is reply
 
+  -- a look, or none
+  look_played : (o : Option Look) → IsReply here (after_look roster here t.line o).reply t.answer → IsPlayed roster c w t (after_look roster here t.line o) (looked roster t o)
+  look_played None reply = line_played (own_line_in roster t.site t.line) refl reply
+  look_played (Some look) reply = record { answered = reply; stands = quiet (look_text roster here look); ranged = All-nil IsRangedEvent }
+
   text_played : (o : Option (List ℕ)) → IfSome o (λ text. Has c.shipped (answer_line text)) → IsReply here (after_text roster here t.line o).reply t.answer
       → IsPlayed roster c w t (after_text roster here t.line o) (numbered roster c t o)
-  text_played None carried reply = line_played (own_line_in roster t.site t.line) refl reply
+  text_played None carried reply = look_played (look_in_line roster t.site t.line) reply
   text_played (Some text) carried reply = take_played text carried reply
 
 -- ---- turns
 module _ (roster : List (List ℕ × ℕ)) (few : length roster ≤ 16) where
-  pub turn_played : (c : Course) (w : World) (t : Turn) → StandsFor c w → Reached (length roster) w → MayTurn roster c t → IsPlayed roster c w t (said_to roster c t) (line_of roster c t)
+  pub turn_played : (c : Course) (w : World) (t : Turn) → StandsFor c w → Reached (length roster) w → MayTurn roster c t → IsPlayed roster c w t (said_to roster c t) (deed_of roster c t)
   turn_played c w t stands r may =
-      subst (λ (s : State). IsReply s (site_says roster s t.line).reply t.answer → IsPlayed roster c w t (site_says roster s t.line) (line_of roster c t)) (sym (stands.sites t.site))
+      subst (λ (s : State). IsReply s (site_says roster s t.line).reply t.answer → IsPlayed roster c w t (site_says roster s t.line) (deed_of roster c t)) (sym (stands.sites t.site))
       (text_played roster few c w t stands r may.site (packet_text t.line) may.carried) may.said
 
   pub record ArePlayed (c : Course) (w : World) (ts : List Turn) : Type 0 where

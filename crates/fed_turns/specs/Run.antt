@@ -14,22 +14,36 @@ use Rattle.fed_world.specs.Run.{World, run_from, outcomes_from}
 use Rattle.fed_answers.specs.Listed.{listed}
 use Rattle.fed_answers.specs.Outcome.{answer_line, outcome_text, usage_line}
 use Rattle.fed_answers.specs.Planned.{plan_text}
+use Rattle.fed_looks.specs.Look.{Look}
+use Rattle.fed_looks.specs.LookLine.{look_in_line}
+use Rattle.fed_looks.specs.LookText.{look_text}
 use Rattle.fed_site.specs.Line.{packet_text}
 use Rattle.fed_turns.specs.Turn.{Turn, Course, after_turn}
 
 -- ---- what a turn does in a run
+pub data Deed : Type 0 where
+  -- a look at the site, which changes nothing: no line of a script asks for one
+  looks : (look : Look) → Deed
+  -- what the line of a script does that says the same, if it can be read
+  does : (line : Option Line) → Deed
+
 -- The number of the first packet that was shipped by this text: packets are counted from 1. Where none was, no packet has
 -- the number
 abbrev pub number_of : List (List ℕ) → List ℕ → ℕ
 number_of answers text = suc (position_or_len (bytes_eq (answer_line text)) answers)
 
--- the line of a script that does the same, if it can be read: a packet has a number there
-abbrev pub numbered : List (List ℕ × ℕ) → Course → Turn → Option (List ℕ) → Option Line
-numbered roster c t None = own_line_in roster t.site t.line
-numbered roster c t (Some text) = Some (takes t.site (number_of c.shipped text))
+-- a line that asks for no look says what it says behind the site's name
+abbrev pub looked : List (List ℕ × ℕ) → Turn → Option Look → Deed
+looked roster t (Some look) = looks look
+looked roster t None = does (own_line_in roster t.site t.line)
 
-abbrev pub line_of : List (List ℕ × ℕ) → Course → Turn → Option Line
-line_of roster c t = numbered roster c t (packet_text t.line)
+-- in a script a packet has a number
+abbrev pub numbered : List (List ℕ × ℕ) → Course → Turn → Option (List ℕ) → Deed
+numbered roster c t None = looked roster t (look_in_line roster t.site t.line)
+numbered roster c t (Some text) = does (Some (takes t.site (number_of c.shipped text)))
+
+abbrev pub deed_of : List (List ℕ × ℕ) → Course → Turn → Deed
+deed_of roster c t = numbered roster c t (packet_text t.line)
 
 -- the events of a line: its commands in order, a packet that is made, or one that is taken
 abbrev pub events_of : Line → List Event
@@ -42,9 +56,13 @@ abbrev pub events_told : Option Line → List Event
 events_told None = []
 events_told (Some line) = events_of line
 
+abbrev pub events_done : Deed → List Event
+events_done (looks look) = []
+events_done (does line) = events_told line
+
 module _ (roster : List (List ℕ × ℕ)) where
   abbrev pub events_at : Course → Turn → List Event
-  events_at c t = events_told (line_of roster c t)
+  events_at c t = events_done (deed_of roster c t)
 
   -- the events of turns, in their order
   abbrev pub events_from : Course → List Turn → List Event
@@ -93,10 +111,15 @@ abbrev pub IsToldAnswer : List (List ℕ × ℕ) → World → Option Line → L
 IsToldAnswer roster w None outcomes bytes = bytes ≡ answer_line (codes "cannot be read")
 IsToldAnswer roster w (Some line) outcomes bytes = IsAnswer roster w line outcomes bytes
 
+-- a look at a site is answered by what the site holds in the world
+abbrev pub IsDeedAnswer : List (List ℕ × ℕ) → World → ℕ → Deed → List Outcome → List ℕ → Type 0
+IsDeedAnswer roster w site (looks look) outcomes bytes = bytes ≡ look_text roster (state_at site (w.site site)) look
+IsDeedAnswer roster w site (does line) outcomes bytes = IsToldAnswer roster w line outcomes bytes
+
 module _ (roster : List (List ℕ × ℕ)) where
   abbrev pub IsAnswered : Course → World → Turn → Type 0
   IsAnswered c w t =
-      IsToldAnswer roster w (line_of roster c t) (outcomes_from (length roster) w (events_at roster c t)) t.answer
+      IsDeedAnswer roster w t.site (deed_of roster c t) (outcomes_from (length roster) w (events_at roster c t)) t.answer
 
   -- each turn is answered as in the run
   abbrev pub AreAnswered : Course → World → List Turn → Type 0

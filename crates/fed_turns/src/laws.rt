@@ -18,8 +18,8 @@ ghost use Rattle.fed_turns.specs.Turn.{MayTurns, Turn, after_turns, beginning};
 
 /// Texts make a run. The lines of sites of one roster, among which each packet that is taken is a text that a ship
 /// answered before, do what the same commands, ships and takes in the same order do in a run: each site reads as what
-/// it holds there, what was shipped are texts of the packets made there, in order, and each line is answered as there. The
-/// values of the commands are in range.
+/// it holds there, what was shipped are texts of the packets made there, in order, and each line is answered as there: a
+/// look, which does nothing, by what its site holds there. The values of the commands are in range.
 pub fn texts_make_a_run()
     ensures states { (roster : List (List ℕ × ℕ)) (turns : List Turn) → IsRoster roster →
         MayTurns roster beginning turns →

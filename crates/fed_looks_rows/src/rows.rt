@@ -1,11 +1,11 @@
 //! Worked looks.
-use crate::{Look, jobs_json, machine_lines, read_look, reservation_lines, seen_lines, why_line};
 use fed_board::Board;
+use fed_looks::{Look, jobs_json, machine_lines, read_look, reservation_lines, why_line};
 use fed_record::{
     Account, Beginning, Ending, HoldKinds, JobValues, Limit, Moment, Nodes, Operation, Priority,
     Term, Window,
 };
-use fed_stamp::{JobId, Roster, SiteId, SiteSet, Stamp, Version, Word};
+use fed_stamp::{JobId, Roster, SiteId, SiteSet, Stamp, Word};
 use std::process::Abort;
 
 fn site(number: u8) -> SiteId {
@@ -233,16 +233,6 @@ fn jobs_are_told_as_objects(rt: HostRuntime) {
     let gone =
         "{\"account\":\"\",\"begun\":null,\"deleted\":true,\"finished\":null,\"grant\":null,\"holds\":[\"u\",\"o\"],\"id\":\"4.argonne\",\"letter\":null,\"limit\":3600,\"name\":\"STDIN\",\"nodes\":7,\"owner\":\"ann\",\"priority\":0,\"sites\":[\"argonne\"]}\n";
     assert!(rt; is_json(&rt, &board, 4, gone));
-}
-
-#[test]
-fn what_is_seen_is_told(rt: HostRuntime) {
-    let roster = Roster::new(&[("argonne", 8), ("lemont", 4)]).expect(&rt, "a roster");
-    let mine = Version::default().with(stamp(3));
-    let theirs = Version::default().with(stamp(1));
-    let heard = [Version::default(), theirs];
-    let lines = seen_lines(rt.alloc(), &roster, site(0), &mine, &heard).expect(&rt, "memory");
-    assert!(rt; lines.as_str() == "argonne 3 3\nlemont 0 1\n");
 }
 
 #[test]

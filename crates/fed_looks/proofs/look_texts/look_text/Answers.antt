@@ -1,0 +1,12 @@
+use Rattle.std.proofs.Common.{string_bytes}
+use Rattle.fed_looks.proofs.LookCases.{machine_told, reservations_told, why_told}
+use Rattle.fed_looks.proofs.look_texts.look_text.Goals as goal
+
+pub returns-in-Why : goal.returns-in-Why
+returns-in-Why c = why_told string_bytes c.why_line.result c.args.roster.now c.args.replica.now c.args.look.now c.board-board.result.now c.board-board.ensures c.site-here.result c.in-Why.moment c.in-Why.job c.site-here.ensures c.in-Why.is c.why_line.ensures
+
+pub returns-in-Machine : goal.returns-in-Machine
+returns-in-Machine c = machine_told string_bytes c.machine_lines.result c.args.roster.now c.args.replica.now c.args.look.now c.board-board.result.now c.board-board.ensures c.site-here.result c.in-Machine.moment c.site-here.ensures c.in-Machine.is c.machine_lines.ensures
+
+pub returns-in-Reservations : goal.returns-in-Reservations
+returns-in-Reservations c = reservations_told string_bytes c.reservation_lines.result c.args.roster.now c.args.replica.now c.args.look.now c.board-board.result.now c.board-board.ensures c.in-Reservations.is c.reservation_lines.ensures

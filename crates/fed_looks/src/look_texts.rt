@@ -1,0 +1,39 @@
+//! The texts of looks.
+ghost use Rattle.std.specs.Prelude.{◌≡◌, ◌<◌, IfOk, length, string_bytes};
+ghost use Rattle.fed_replica.specs.State.{state_of};
+ghost use Rattle.fed_looks.specs.LookText.{look_text as text_of_look};
+ghost use Rattle.fed_looks.specs.LookView.{asked_by};
+
+use crate::job_lines::jobs_json;
+use crate::looks::Look;
+use crate::machines::machine_lines;
+use crate::reserved::reservation_lines;
+use crate::seen::seen_lines;
+use crate::whys::why_line;
+use fed_lattice::NoMemory;
+use fed_replica::Replica;
+use fed_stamp::Roster;
+use std::alloc::Global;
+
+/// The text of a look at a site of the roster, by its replica.
+pub fn look_text(
+    alloc: Global,
+    roster: &Roster,
+    replica: &Replica,
+    look: &Look,
+) -> Result<String, NoMemory>
+    requires { replica.now.site < length roster.now }
+    ensures { IfOk result (λ text. string_bytes text ≡ text_of_look roster.now (state_of replica.now) (asked_by look.now)) }
+{
+    let board = replica.board();
+    let here = replica.site();
+    match look {
+        Look::Why { job, moment } => why_line(alloc, roster, board, here, *job, *moment),
+        Look::Machine { moment } => machine_lines(alloc, roster, board, here, *moment),
+        Look::Reservations => reservation_lines(alloc, roster, board),
+        Look::Jobs { jobs } => jobs_json(alloc, roster, board, jobs),
+        Look::Seen => seen_lines(alloc, roster, replica),
+        // no line asks for one yet
+        Look::Chart { .. } => Ok(String::new(alloc)),
+    }
+}

@@ -1,0 +1,6 @@
+//! Worked looks at boards, over public calls alone. The crate has tests and nothing else.
+#![tactic(auto)]
+
+/// Worked looks.
+#[cfg(test)]
+mod rows;

@@ -1,0 +1,63 @@
+//! Commands and lines that can't be read.
+use crate::sites::{says, site_of};
+use std::process::Abort;
+
+#[test]
+fn commands_are_answered(rt: HostRuntime) {
+    let mut argonne = site_of(&rt, 0);
+    assert!(rt; says(&rt, &mut argonne, b"ann qsub", b"1.argonne\n", true));
+    assert!(rt;
+        says(
+            &rt,
+            &mut argonne,
+            b"ann qalter -p 5 9",
+            b"refused 1\n",
+            false
+        )
+    );
+    assert!(rt; says(&rt, &mut argonne, b"ann qsub -h", b"2.argonne\n", true));
+    assert!(rt; says(&rt, &mut argonne, b"ann qrls 2", b"done\n", true));
+    assert!(rt; says(&rt, &mut argonne, b"ann qrls 2", b"done\n", false));
+    assert!(rt; says(&rt, &mut argonne, b"grant 1 lemont", b"granted\n", true));
+    assert!(rt; says(&rt, &mut argonne, b"grant 1 lemont", b"yours\n", false));
+    assert!(rt;
+        says(
+            &rt,
+            &mut argonne,
+            b"ann qdel 7 2 1",
+            b"refused 1\ndone\ndone\n",
+            true
+        )
+    );
+    assert!(rt;
+        says(
+            &rt,
+            &mut argonne,
+            b"oz/operator reserve lemont 50 60 8",
+            b"7.argonne\n",
+            true
+        )
+    );
+    assert!(rt; says(&rt, &mut argonne, b"plan 0", b"", false));
+    assert!(rt; says(&rt, &mut argonne, b"take 1", b"unread 3 whole 0\n", false));
+    assert!(rt; says(&rt, &mut argonne, b"take", b"cannot be read\n", false));
+    assert!(rt; says(&rt, &mut argonne, b"", b"", false));
+    assert!(rt; says(&rt, &mut argonne, b"# a comment", b"", false));
+    assert!(rt; says(&rt, &mut argonne, b"roster a:1", b"usage 1\n", false));
+    assert!(rt;
+        says(
+            &rt,
+            &mut argonne,
+            b"equal argonne lemont",
+            b"usage 1\n",
+            false
+        )
+    );
+}
+
+#[test]
+fn lines_with_a_line_feed_are_not_read(rt: HostRuntime) {
+    let mut argonne = site_of(&rt, 0);
+    assert!(rt; says(&rt, &mut argonne, b"take {\n}", b"cannot be read\n", false));
+    assert!(rt; says(&rt, &mut argonne, b"ann qsub\n", b"cannot be read\n", false));
+}
