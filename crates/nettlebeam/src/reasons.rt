@@ -5,11 +5,25 @@ use crate::refused::refused_text;
 use fed_board::Board;
 use fed_lattice::NoMemory;
 use fed_qstat::{identifier_text, site_text};
-use fed_record::{Command, Moment};
+use fed_record::{Command, JobRecord, Moment, Reservation};
 use fed_script::{Line, read_own_line};
 use fed_site::{Complaint, Site};
 use fed_stamp::SiteId;
 use std::alloc::Global;
+
+/// That a packet needs what this site lacks of another.
+fn gap_text(alloc: Global, site: &Site, lacking: SiteId) -> Result<String, NoMemory> {
+    let name = site_text(alloc, site.roster(), lacking)?;
+    Ok(
+        format!(in alloc; "gap {name}: the packet rests on operations of {name} that this site has not seen: \
+        take a newer packet of its sender, or one from {name}")?,
+    )
+}
+
+/// What is said of the cause alone.
+fn cause_text(alloc: Global, complaint: &Complaint) -> Result<String, NoMemory> {
+    Ok(format!(in alloc; "{complaint}")?)
+}
 
 /// Why a line of these words isn't done as it asks, with what was asked of what.
 pub fn reason_text(
@@ -17,60 +31,58 @@ pub fn reason_text(
     site: &Site,
     words: &[&str],
     line: &[u8],
-    complaint: Complaint,
+    complaint: &Complaint,
 ) -> Result<String, NoMemory> {
-    match complaint {
-        Complaint::Refused { index, refusal } => {
-            if let Some(text) = refused_text(alloc, site, line, index, refusal)? {
-                return Ok(text);
-            }
-        }
-        Complaint::Misused(fault) => {
-            if let Some(text) = misused_text(alloc, site, words, fault)? {
-                return Ok(text);
-            }
-        }
-        Complaint::Gap(lacking) => {
-            let name = site_text(alloc, site.roster(), lacking)?;
-            return Ok(
-                format!(in alloc; "gap {name}: the packet rests on operations of {name} that this site has not seen: \
-                take a newer packet of its sender, or one from {name}")?,
-            );
-        }
-        _ => (),
+    let told = match complaint {
+        Complaint::Refused { index, refusal } => refused_text(alloc, site, line, *index, *refusal)?,
+        Complaint::Misused(fault) => misused_text(alloc, site, words, *fault)?,
+        Complaint::Gap(lacking) => Some(gap_text(alloc, site, *lacking)?),
+        _ => None,
+    };
+    match told {
+        Some(text) => Ok(text),
+        None => cause_text(alloc, complaint),
     }
-    Ok(format!(in alloc; "{complaint}")?)
+}
+
+/// The nodes that a job has, if the site has begun it and it is not finished.
+fn running_nodes(here: SiteId, held: &JobRecord) -> u64 {
+    let progress = held.progress();
+    match (progress.begun, progress.finished) {
+        (Some((stamp, beginning)), None) if stamp.site() == here => beginning.nodes.get(),
+        _ => 0,
+    }
+}
+
+/// The nodes of the site that a reservation keeps free at the moment.
+fn reserved_nodes(here: SiteId, moment: u64, reservation: &Reservation) -> u64 {
+    if !reservation.is_made() {
+        return 0;
+    }
+    match reservation.window() {
+        Some(window) if window.site == here && window.start <= moment && moment < window.end => {
+            window.nodes
+        }
+        _ => 0,
+    }
+}
+
+/// The nodes of a site that running jobs have.
+fn run_nodes(board: &Board, here: SiteId) -> u64 {
+    let mut used = 0u64;
+    for (_job, held) in board.jobs() {
+        used = used.saturating_add(running_nodes(here, held));
+    }
+    used
 }
 
 /// The nodes of a site that running jobs have, and those that reservations keep free at the moment.
 fn used_nodes(board: &Board, here: SiteId, moment: u64) -> u64 {
-    let mut used = 0u64;
-    for (_, held) in board.jobs() {
-        let progress = held.progress();
-        if let Some((stamp, beginning)) = progress.begun
-            && stamp.site() == here
-            && progress.finished.is_none()
-        {
-            used = used.saturating_add(beginning.nodes.get());
-        }
+    let mut used = run_nodes(board, here);
+    for (_name, reservation) in board.reservations() {
+        used = used.saturating_add(reserved_nodes(here, moment, reservation));
     }
-    used.saturating_add(reserved_nodes(board, here, moment))
-}
-
-/// The nodes of a site that reservations keep free at the moment.
-fn reserved_nodes(board: &Board, here: SiteId, moment: u64) -> u64 {
-    let mut reserved = 0u64;
-    for (_, reservation) in board.reservations() {
-        if let Some(window) = reservation.window()
-            && reservation.is_made()
-            && window.site == here
-            && window.start <= moment
-            && moment < window.end
-        {
-            reserved = reserved.saturating_add(window.nodes);
-        }
-    }
-    reserved
+    used
 }
 
 /// That the site is beyond its nodes at the moment, where it is.

@@ -132,7 +132,7 @@ fn begun_text(
 }
 
 /// A command that names a job of the board.
-#[derive(Clone, Copy, Drop)]
+#[derive(Drop)]
 struct Asked<'a> {
     who: &'a Who,
     command: &'a Command,
@@ -141,28 +141,34 @@ struct Asked<'a> {
     held: &'a JobRecord,
 }
 
+/// That the asker's role forbids it.
+fn not_permitted_text(alloc: Global, asked: &Asked<'_>) -> Result<String, AllocError> {
+    let asker = asker_text(alloc, asked.who)?;
+    let deed = deed_text(alloc, asked.command, asked.id)?;
+    if !asked.held.is_submitted() {
+        return format!(in alloc; "{asker} may not {deed}");
+    }
+    let owner = asked.held.owner().1;
+    let owner = owner.as_str();
+    format!(in alloc; "{asker} may not {deed}, whose owner is {owner}")
+}
+
 /// Why the command that somebody asks of a job that the site knows isn't done.
 fn why_of_job(
     alloc: Global,
     site: &Site,
-    asked: Asked<'_>,
+    asked: &Asked<'_>,
     refusal: Refusal,
 ) -> Result<String, AllocError> {
     let roster = site.roster();
-    let Asked { id, held, job, .. } = asked;
+    let (id, held) = (asked.id, asked.held);
     match refusal {
-        Refusal::NotPermitted => {
-            let asker = asker_text(alloc, asked.who)?;
-            let deed = deed_text(alloc, asked.command, id)?;
-            let owner = held.owner().1;
-            let owner = owner.as_str();
-            format!(in alloc; "{asker} may not {deed}, whose owner is {owner}")
-        }
+        Refusal::NotPermitted => not_permitted_text(alloc, asked),
         Refusal::Gone => gone_text(alloc, id, held),
         Refusal::Granted => granted_text(alloc, roster, id, held.holder()),
         Refusal::TakenBy(holder) => granted_text(alloc, roster, id, Some(holder)),
         Refusal::NotOrigin => {
-            let origin = site_text(alloc, roster, job.site())?;
+            let origin = site_text(alloc, roster, asked.job.site())?;
             format!(in alloc; "{id} was submitted at {origin}, which alone grants it")
         }
         Refusal::Held => {
@@ -254,7 +260,7 @@ fn why_refused(
                 job,
                 held,
             };
-            why_of_job(alloc, site, asked, refusal)
+            why_of_job(alloc, site, &asked, refusal)
         }
         _ => {
             let here = site_text(alloc, site.roster(), site.here())?;

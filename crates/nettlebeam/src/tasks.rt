@@ -53,7 +53,7 @@ fn tell_user(
     site: &Site,
     words: &[&str],
     line: &[u8],
-    complaint: Option<Complaint>,
+    complaint: &Option<Complaint>,
 ) {
     let alloc = streams.alloc();
     match complaint {
@@ -83,7 +83,7 @@ fn write_answer(
     writer.write_all(answer.bytes()).map_err(Fault::Output)?;
     writer.flush().map_err(Fault::Output)?;
     let complaint = answer.complaint();
-    tell_user(streams, site, words, line, complaint);
+    tell_user(streams, site, words, line, &complaint);
     Ok(answered_status(&complaint))
 }
 
