@@ -185,6 +185,13 @@ impl Site {
         self.roster.get()
     }
 
+    /// The site's number in the roster.
+    pub fn here(&self) -> SiteId
+        ensures { result ≡ (state_of self.now.replica).site }
+    {
+        self.here
+    }
+
     /// For each site the greatest counter that was seen of it.
     pub fn version(&self) -> Version
         ensures { result ≡ (state_of self.now.replica).view.version }

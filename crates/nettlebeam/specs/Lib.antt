@@ -1,2 +1,4 @@
 -- What the contracts of this crate cite.
+pub mod CommandLine
+pub mod CommandLineView
 pub mod Status

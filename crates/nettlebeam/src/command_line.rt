@@ -1,5 +1,10 @@
 //! The program's own words.
+ghost use Rattle.std.specs.Prelude.{◌≡◌, ◌∷◌, [], ℕ, List, Some, IfErr, IfOk, OnOk, false, codes, map, string_bytes, true};
+ghost use Rattle.clap.specs.Words.{app_of, fault_of, found_of, kind_of, rows_of, rule_of, takes};
+ghost use Rattle.nettlebeam.specs.CommandLine.{Answers, Asks, Checks, Makes, Serves, asked_by as asked_by_words, asked_in, at as at_app, init as init_app, program, rest as rest_rule, task_in, value_in, values_in, with_directory as app_with_directory};
+ghost use Rattle.nettlebeam.specs.CommandLineView.{asked_of, task_of};
 
+use clap::error::ErrorKind;
 use clap::{Arg, ArgAction, ArgMatches, Command, Error};
 use std::alloc::{AllocError, Global};
 
@@ -39,7 +44,9 @@ fn with_directory<'a>(
     alloc: Global,
     name: &'a str,
     about: &'a str,
-) -> Result<Command<'a>, AllocError> {
+) -> Result<Command<'a>, AllocError>
+    ensures { IfOk result (λ command. app_of command ≡ app_with_directory name.now) }
+{
     let directory = Arg::new(alloc, "DIR")
         .required(true)
         .help("The site's directory");
@@ -47,7 +54,10 @@ fn with_directory<'a>(
 }
 
 /// The last argument of a command, with one value or more.
-fn rest<'a>(alloc: Global, id: &'a str, help: &'a str) -> Arg<'a> {
+fn rest<'a>(alloc: Global, id: &'a str, help: &'a str) -> Arg<'a>
+    ensures rule { rule_of result ≡ rest_rule id.now }
+    ensures local { result.global ≡ false }
+{
     Arg::new(alloc, id)
         .required(true)
         .num_args(1..)
@@ -55,7 +65,9 @@ fn rest<'a>(alloc: Global, id: &'a str, help: &'a str) -> Arg<'a> {
         .help(help)
 }
 
-fn init<'a>(alloc: Global) -> Result<Command<'a>, AllocError> {
+fn init<'a>(alloc: Global) -> Result<Command<'a>, AllocError>
+    ensures { IfOk result (λ command. app_of command ≡ init_app) }
+{
     let site = Arg::new(alloc, "SITE")
         .required(true)
         .help("The site's name");
@@ -67,19 +79,22 @@ fn init<'a>(alloc: Global) -> Result<Command<'a>, AllocError> {
     with_directory(alloc, "init", INIT)?.arg(site)?.arg(sites)
 }
 
-fn at<'a>(alloc: Global) -> Result<Command<'a>, AllocError> {
+fn at<'a>(alloc: Global) -> Result<Command<'a>, AllocError>
+    ensures { IfOk result (λ command. app_of command ≡ at_app) }
+{
     let words = rest(
         alloc,
         "WORD",
         "The words of the line, as ann qsub -l nodes=2",
     )
-    .trailing_var_arg(true)
-    .allow_hyphen_values(true);
+    .trailing_var_arg(true);
     with_directory(alloc, "at", AT)?.arg(words)
 }
 
 /// The program's command line.
-fn command<'a>(alloc: Global) -> Result<Command<'a>, AllocError> {
+fn command<'a>(alloc: Global) -> Result<Command<'a>, AllocError>
+    ensures { IfOk result (λ command. app_of command ≡ program) }
+{
     Command::new(alloc, "nettlebeam")
         .about(ABOUT)
         .version("1.0.0")
@@ -95,8 +110,40 @@ fn values<'a>(
     alloc: Global,
     matches: &ArgMatches<'a>,
     id: &str,
-) -> Result<Vec<&'a str>, AllocError> {
-    matches.get_strs(id).unwrap_or(&[]).to_vec(alloc)
+) -> Result<Vec<&'a str>, AllocError>
+    ensures { IfOk result (λ found. map (λ w. w.now) found.items ≡ values_in id.now (rows_of (found_of matches.now))) }
+{
+    match matches.get_strs(id) {
+        Some(found) => Vec::from_slice(alloc, found),
+        None => Ok(Vec::new(alloc)),
+    }
+}
+
+/// The value of an argument.
+fn value<'a>(matches: &ArgMatches<'a>, id: &str) -> &'a str
+    ensures { result.now ≡ value_in id.now (rows_of (found_of matches.now)) }
+{
+    match matches.get_str(id) {
+        Some(text) => text,
+        None => "",
+    }
+}
+
+/// What a command of this name is to do.
+fn task_by<'a>(alloc: Global, name: &str, found: &ArgMatches<'a>) -> Result<Task<'a>, AllocError>
+    ensures { IfOk result (λ task. task_of task ≡ task_in name.now (rows_of (found_of found.now))) }
+{
+    match name {
+        "init" => Ok(Task::Init {
+            site: value(found, "SITE"),
+            sites: values(alloc, found, "NAME:NODES")?,
+        }),
+        "at" => Ok(Task::At {
+            words: values(alloc, found, "WORD")?,
+        }),
+        "serve" => Ok(Task::Serve),
+        _ => Ok(Task::Check),
+    }
 }
 
 /// What a command of this name is asked.
@@ -104,28 +151,40 @@ fn asked_by<'a>(
     alloc: Global,
     name: &str,
     found: &ArgMatches<'a>,
-) -> Result<Asked<'a>, AllocError> {
-    let directory = found.get_str("DIR").unwrap_or("");
-    let task = match name {
-        "init" => Task::Init {
-            site: found.get_str("SITE").unwrap_or(""),
-            sites: values(alloc, found, "NAME:NODES")?,
-        },
-        "at" => Task::At {
-            words: values(alloc, found, "WORD")?,
-        },
-        "serve" => Task::Serve,
-        _ => Task::Check,
-    };
-    Ok(Asked { directory, task })
+) -> Result<Asked<'a>, AllocError>
+    ensures { IfOk result (λ asked. asked_of asked ≡ asked_in (name.now, rows_of (found_of found.now))) }
+{
+    Ok(Asked {
+        directory: value(found, "DIR"),
+        task: task_by(alloc, name, found)?,
+    })
 }
 
 /// Reads the program's words: its name, and then `init`, `at`, `serve` or `check` with its arguments. The error has the
 /// text to print, also where help or the version is asked for.
-pub fn read_command_line<'a>(alloc: Global, words: &'a [String]) -> Result<Asked<'a>, Error> {
-    let matches = command(alloc)?.try_get_matches_from(words)?;
+pub fn read_command_line<'a>(alloc: Global, words: &'a [String]) -> Result<Asked<'a>, Error>
+    ensures asked { IfOk result (λ asked. asked_by_words (map string_bytes words.now) ≡ Some (asked_of asked)) }
+    ensures whole { OnOk result (fault_of program (map string_bytes words.now) ≡ []) }
+    ensures passes { IfErr result (λ error. takes program (map string_bytes words.now) ≡ true → kind_of error ≡ ErrorKind.OutOfMemory) }
+{
+    let command = command(alloc)?;
+    let matches = match command.try_get_matches_from(words) {
+        Ok(matches) => matches,
+        Err(error) => return Err(error),
+    };
     match matches.subcommand() {
         Some((name, found)) => Ok(asked_by(alloc, name, found)?),
-        None => Ok(asked_by(alloc, "", &matches)?),
+        None => unreachable!(),
     }
 }
+
+/// The words of each command are taken, whatever the program is called, and ask what they say. The words of a line are
+/// taken as they stand.
+pub fn commands_are_taken()
+    ensures init { (name : List ℕ) → Asks name (codes "init" ∷ codes "d" ∷ codes "a" ∷ codes "a:8" ∷ codes "b:4" ∷ [])
+        (record { directory = codes "d"; task = Makes (codes "a") (codes "a:8" ∷ codes "b:4" ∷ []) }) }
+    ensures at { (name : List ℕ) → Asks name (codes "at" ∷ codes "d" ∷ codes "ann" ∷ codes "qdel" ∷ codes "-h" ∷ codes "--" ∷ codes "-1" ∷ [])
+        (record { directory = codes "d"; task = Answers (codes "ann" ∷ codes "qdel" ∷ codes "-h" ∷ codes "--" ∷ codes "-1" ∷ []) }) }
+    ensures serve { (name : List ℕ) → Asks name (codes "serve" ∷ codes "d" ∷ []) (record { directory = codes "d"; task = Serves }) }
+    ensures check { (name : List ℕ) → Asks name (codes "check" ∷ codes "d" ∷ []) (record { directory = codes "d"; task = Checks }) }
+{}

@@ -2,7 +2,7 @@
 
 use crate::directories::JOURNAL;
 use crate::faults::Fault;
-use fed_home::{Home, read_header};
+use fed_home::{Home, HomeFault, read_header};
 use fed_journal::FileDevice;
 use fed_serve::line_of_words;
 use std::alloc::{AllocError, Global};
@@ -24,19 +24,23 @@ fn header<'x>(alloc: Global, site: &'x str, sites: &[&'x str]) -> Result<Vec<u8>
     line_of_words(alloc, &words)
 }
 
-/// Whether a directory has no file but a journal that is no longer than what an `init` leaves that is cut short.
-fn is_free<R: Files + AllocGlobal + Clone + Drop>(
+/// Why no site may be made in a directory, if so: its journal is longer than what an `init` leaves that is cut short, or
+/// it has other files.
+fn taken_by<R: Files + AllocGlobal + Clone + Drop>(
     rt: &R,
     directory: &str,
     longest: u64,
-) -> io::Result<bool> {
+) -> io::Result<Option<Fault>> {
+    let mut taken = None;
     for entry in fs::read_dir(rt, directory)? {
         let entry = entry?;
-        if entry.file_name() != JOURNAL || entry.metadata()?.len() > longest {
-            return Ok(false);
+        if entry.file_name() != JOURNAL {
+            taken = Some(Fault::NotEmpty);
+        } else if entry.metadata()?.len() > longest {
+            return Ok(Some(Fault::Home(HomeFault::HasEntries)));
         }
     }
-    Ok(true)
+    Ok(taken)
 }
 
 /// Makes the directory, where it isn't there.
@@ -48,9 +52,9 @@ fn make_directory<R: Files + AllocGlobal + Clone + Drop>(
     match DirBuilder::new().mode(OWNER_ALONE).create(rt, directory) {
         Ok(()) => Ok(()),
         Err(error) if error.kind() == ErrorKind::AlreadyExists => {
-            match is_free(rt, directory, longest) {
-                Ok(true) => Ok(()),
-                Ok(false) => Err(Fault::NotEmpty),
+            match taken_by(rt, directory, longest) {
+                Ok(None) => Ok(()),
+                Ok(Some(fault)) => Err(fault),
                 Err(error) => Err(Fault::Directory(error)),
             }
         }

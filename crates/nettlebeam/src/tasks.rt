@@ -6,6 +6,7 @@ use crate::command_line::{Asked, Task};
 use crate::directories::{open_device, open_home};
 use crate::faults::Fault;
 use crate::making::make_home;
+use crate::reasons::{reason_text, warning_text};
 use fed_home::replay;
 use fed_journal::Journal;
 use fed_serve::{MAX_LINE_BYTES, heard, line_of_words, serve, take_line};
@@ -45,20 +46,44 @@ fn answered_status(complaint: &Option<Complaint>) -> u8
     }
 }
 
-/// Tells on standard error why a line isn't done as it asks. The status tells it also where standard error takes nothing.
-fn tell_complaint(streams: &impl Eprint, complaint: &Option<Complaint>) {
-    if let Some(complaint) = complaint {
-        let _ = eprintln!(streams; "nettlebeam: {complaint}");
+/// Tells on standard error why a line isn't done as it asks, or what else there is to say of it. The status tells the
+/// first also where standard error takes nothing, or where there is no memory for the words.
+fn tell_user(
+    streams: &(impl Eprint + AllocGlobal),
+    site: &Site,
+    words: &[&str],
+    line: &[u8],
+    complaint: &Option<Complaint>,
+) {
+    let alloc = streams.alloc();
+    match complaint {
+        Some(complaint) => {
+            let _ = match reason_text(alloc, site, words, line, complaint) {
+                Ok(text) => eprintln!(streams; "nettlebeam: {text}"),
+                Err(_) => eprintln!(streams; "nettlebeam: {complaint}"),
+            };
+        }
+        None => {
+            if let Ok(Some(text)) = warning_text(alloc, site, words, line) {
+                let _ = eprintln!(streams; "nettlebeam: {text}");
+            }
+        }
     }
 }
 
 /// Writes an answer, and tells on standard error why the line isn't done as it asks. Gives the status.
-fn write_answer(streams: &(impl Print + Eprint), answer: &Answered) -> Result<u8, Fault> {
+fn write_answer(
+    streams: &(impl Print + Eprint + AllocGlobal),
+    site: &Site,
+    words: &[&str],
+    line: &[u8],
+    answer: &Answered,
+) -> Result<u8, Fault> {
     let mut writer = io::writer(streams);
     writer.write_all(answer.bytes()).map_err(Fault::Output)?;
     writer.flush().map_err(Fault::Output)?;
     let complaint = answer.complaint();
-    tell_complaint(streams, &complaint);
+    tell_user(streams, site, words, line, &complaint);
     Ok(answered_status(&complaint))
 }
 
@@ -72,9 +97,10 @@ fn answer_at(
     // before the directory is locked, since standard input may be waited for
     let line = read_line(streams, words)?;
     let mut home = open_home(streams, rt, directory)?;
-    let answers = home.answer(&[heard(&line)])?;
+    let given = heard(&line);
+    let answers = home.answer(&[given])?;
     match answers.first() {
-        Some(answer) => write_answer(streams, answer),
+        Some(answer) => write_answer(streams, home.site(), words, given, answer),
         None => Ok(0),
     }
 }

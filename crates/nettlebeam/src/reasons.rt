@@ -1,0 +1,133 @@
+//! What the user is told of a line: why it isn't done as it asks, and what else there is to say.
+
+use crate::misused::misused_text;
+use crate::refused::refused_text;
+use fed_board::Board;
+use fed_lattice::NoMemory;
+use fed_qstat::{identifier_text, site_text};
+use fed_record::{Command, JobRecord, Moment, Reservation};
+use fed_script::{Line, read_own_line};
+use fed_site::{Complaint, Site};
+use fed_stamp::SiteId;
+use std::alloc::Global;
+
+/// That a packet needs what this site lacks of another.
+fn gap_text(alloc: Global, site: &Site, lacking: SiteId) -> Result<String, NoMemory> {
+    let name = site_text(alloc, site.roster(), lacking)?;
+    Ok(
+        format!(in alloc; "gap {name}: the packet rests on operations of {name} that this site has not seen: \
+        take a newer packet of its sender, or one from {name}")?,
+    )
+}
+
+/// What is said of the cause alone.
+fn cause_text(alloc: Global, complaint: &Complaint) -> Result<String, NoMemory> {
+    Ok(format!(in alloc; "{complaint}")?)
+}
+
+/// Why a line of these words isn't done as it asks, with what was asked of what.
+pub fn reason_text(
+    alloc: Global,
+    site: &Site,
+    words: &[&str],
+    line: &[u8],
+    complaint: &Complaint,
+) -> Result<String, NoMemory> {
+    let told = match complaint {
+        Complaint::Refused { index, refusal } => refused_text(alloc, site, line, *index, *refusal)?,
+        Complaint::Misused(fault) => misused_text(alloc, site, words, *fault)?,
+        Complaint::Gap(lacking) => Some(gap_text(alloc, site, *lacking)?),
+        _ => None,
+    };
+    match told {
+        Some(text) => Ok(text),
+        None => cause_text(alloc, complaint),
+    }
+}
+
+/// The nodes that a job has, if the site has begun it and it is not finished.
+fn running_nodes(here: SiteId, held: &JobRecord) -> u64 {
+    let progress = held.progress();
+    match (progress.begun, progress.finished) {
+        (Some((stamp, beginning)), None) if stamp.site() == here => beginning.nodes.get(),
+        _ => 0,
+    }
+}
+
+/// The nodes of the site that a reservation keeps free at the moment.
+fn reserved_nodes(here: SiteId, moment: u64, reservation: &Reservation) -> u64 {
+    if !reservation.is_made() {
+        return 0;
+    }
+    match reservation.window() {
+        Some(window) if window.site == here && window.start <= moment && moment < window.end => {
+            window.nodes
+        }
+        _ => 0,
+    }
+}
+
+/// The nodes of a site that running jobs have.
+fn run_nodes(board: &Board, here: SiteId) -> u64 {
+    let mut used = 0u64;
+    for (_job, held) in board.jobs() {
+        used = used.saturating_add(running_nodes(here, held));
+    }
+    used
+}
+
+/// The nodes of a site that running jobs have, and those that reservations keep free at the moment.
+fn used_nodes(board: &Board, here: SiteId, moment: u64) -> u64 {
+    let mut used = run_nodes(board, here);
+    for (_name, reservation) in board.reservations() {
+        used = used.saturating_add(reserved_nodes(here, moment, reservation));
+    }
+    used
+}
+
+/// That the site is beyond its nodes at the moment, where it is.
+fn beyond_text(
+    alloc: Global,
+    site: &Site,
+    command: &Command,
+    moment: Moment,
+) -> Result<Option<String>, NoMemory> {
+    let roster = site.roster();
+    let here = site.here();
+    let Command::Begin { job, .. } = command else {
+        return Ok(None);
+    };
+    let nodes = roster.nodes(here).unwrap_or(0);
+    let used = used_nodes(site.board(), here, moment.get());
+    if used <= nodes {
+        return Ok(None);
+    }
+    let id = identifier_text(alloc, roster, *job)?;
+    let name = site_text(alloc, roster, here)?;
+    Ok(Some(
+        format!(in alloc; "{id} has begun, and {name} is beyond its nodes: running jobs and reservations use {used} of {nodes}")?,
+    ))
+}
+
+/// What is said of a line that was done: where it began a job, that the site is beyond its nodes, if so. A job begins
+/// whatever the use of the machine is.
+pub fn warning_text(
+    alloc: Global,
+    site: &Site,
+    words: &[&str],
+    line: &[u8],
+) -> Result<Option<String>, NoMemory> {
+    if words.first() != Some(&"begin") {
+        return Ok(None);
+    }
+    match read_own_line(alloc, site.roster(), site.here(), line)? {
+        Some(Line::Act { commands, .. }) => match commands.first() {
+            Some(command) => match command {
+                Command::Begin { moment, .. } => beyond_text(alloc, site, command, *moment),
+                _ => Ok(None),
+            },
+            None => Ok(None),
+        },
+        _ => Ok(None),
+    }
+}
