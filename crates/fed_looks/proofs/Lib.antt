@@ -1,4 +1,5 @@
--- Lemmas on the entries of a board, on jobs as JSON objects, on looks, on sites and on words.
+-- Lemmas on the bars of a chart, on the entries of a board, on jobs as JSON objects, on looks, on sites and on words.
+pub mod ChartApart
 pub mod EachWord
 pub mod Entries
 pub mod JobLaws

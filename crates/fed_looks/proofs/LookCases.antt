@@ -6,7 +6,8 @@ use Rattle.fed_board.specs.Board.{BoardValue, reads}
 use Rattle.fed_replica.specs.Replica.{ReplicaValue}
 use Rattle.fed_replica.specs.State.{state_of}
 use Rattle.fed_looks.specs.declared.looks.Look.{Look}
-use Rattle.fed_looks.specs.declared.looks.Look.TheVariants.{Why, Machine, Reservations}
+use Rattle.fed_looks.specs.declared.looks.Look.TheVariants.{Why, Machine, Reservations, Chart}
+use Rattle.fed_looks.specs.Chart.{chart_svg}
 use Rattle.fed_looks.specs.LookText.{look_text}
 use Rattle.fed_looks.specs.LookView.{asked_by}
 use Rattle.fed_looks.specs.Machine.{machine_lines}
@@ -28,6 +29,10 @@ module _ {S F : Type 0} (bytes : S → List ℕ) (result : Result S F) (roster :
   pub machine_told : (here moment : ℕ) → here ≡ r.site → look ≡ Machine moment → Tells (machine_lines roster (reads board) here moment) → Tells (look_text roster (state_of r) (asked_by look))
   machine_told here moment site is told =
       of_look (Machine moment) is (subst (λ (k : ℕ). Tells (machine_lines roster (reads r.board) k moment)) site (subst (λ (b : BoardValue). Tells (machine_lines roster (reads b) here moment)) at told))
+
+  pub chart_told : (here moment : ℕ) → here ≡ r.site → look ≡ Chart moment → Tells (chart_svg roster (reads board) here moment) → Tells (look_text roster (state_of r) (asked_by look))
+  chart_told here moment site is told =
+      of_look (Chart moment) is (subst (λ (k : ℕ). Tells (chart_svg roster (reads r.board) k moment)) site (subst (λ (b : BoardValue). Tells (chart_svg roster (reads b) here moment)) at told))
 
   pub reservations_told : look ≡ Reservations → Tells (reservation_lines roster (reads board)) → Tells (look_text roster (state_of r) (asked_by look))
   reservations_told is told = of_look Reservations is (subst (λ (b : BoardValue). Tells (reservation_lines roster (reads b))) at told)

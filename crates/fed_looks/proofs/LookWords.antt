@@ -1,11 +1,11 @@
 -- A line whose first word asks for nothing asks for no look.
 use Rattle.std.specs.Prelude.{Some, None, if◌then◌else◌, slice_get}
-use Rattle.std.proofs.Common.{◌≡◌, ℕ, Bool, true, false, List, [], ◌∷◌, refl, sym, subst, ap}
+use Rattle.std.proofs.Common.{◌≡◌, ℕ, Bool, true, false, List, [], ◌∷◌, refl, sym, subst}
 use Rattle.fed_script.specs.Forms.{◌>>=◌}
 use Rattle.fed_script.specs.Line.{is_comment, told}
 use Rattle.fed_script.specs.Lines.{is_readable, words_of}
 use Rattle.fed_looks.specs.Look.{look_in}
-use Rattle.fed_looks.specs.LookLine.{answered, look_in_line}
+use Rattle.fed_looks.specs.LookLine.{look_in_line}
 
 module _ (roster : List (List ℕ × ℕ)) (here : ℕ) where
   of_words : (words : List (List ℕ)) (word : List ℕ) (comment : Bool) → slice_get words 0 ≡ Some word → ((others : List (List ℕ)) → look_in roster here (word ∷ others) ≡ None)
@@ -18,8 +18,8 @@ module _ (roster : List (List ℕ × ℕ)) (here : ℕ) where
   of_no_words [] e = refl
   of_no_words (w ∷ ws) e = cc
 
-  of_line : (readable : Bool) (words : List (List ℕ)) → look_in roster here (told words) ≡ None → answered ((if readable then Some (told words) else None) >>= look_in roster here) ≡ None
-  of_line true words e = ap answered e
+  of_line : (readable : Bool) (words : List (List ℕ)) → look_in roster here (told words) ≡ None → ((if readable then Some (told words) else None) >>= look_in roster here) ≡ None
+  of_line true words e = e
   of_line false words e = refl
 
   pub asks_none : (line word : List ℕ) → Some word ≡ slice_get (words_of line) 0 → ((others : List (List ℕ)) → look_in roster here (word ∷ others) ≡ None) → look_in_line roster here line ≡ None

@@ -1,4 +1,7 @@
 -- What the contracts of this crate cite.
+pub mod Chart
+pub mod ChartBars
+pub mod ChartMarks
 pub mod JobMembers
 pub mod JobObject
 pub mod Look

@@ -1,14 +1,9 @@
 -- The look that the bytes of a line ask a site for.
-use Rattle.std.specs.Prelude.{ℕ, List, Option, Some, None}
+use Rattle.std.specs.Prelude.{ℕ, List, Option}
 use Rattle.fed_script.specs.Forms.{◌>>=◌}
 use Rattle.fed_script.specs.Line.{words_in}
-use Rattle.fed_looks.specs.Look.{Look, charts, look_in}
-
--- the look, if it is one that is answered: a chart isn't yet
-abbrev pub answered : Option Look → Option Look
-answered (Some (charts moment)) = None
-answered look = look
+use Rattle.fed_looks.specs.Look.{Look, look_in}
 
 -- the look that the words of a line ask for, which are parted as those of a script
 abbrev pub look_in_line : List (List ℕ × ℕ) → ℕ → List ℕ → Option Look
-look_in_line roster here line = answered (words_in line >>= look_in roster here)
+look_in_line roster here line = words_in line >>= look_in roster here

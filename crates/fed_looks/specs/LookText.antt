@@ -1,6 +1,7 @@
 -- The text of a look, by what is read of a site.
-use Rattle.std.specs.Prelude.{ℕ, List, []}
+use Rattle.std.specs.Prelude.{ℕ, List}
 use Rattle.fed_replica.specs.State.{State}
+use Rattle.fed_looks.specs.Chart.{chart_svg}
 use Rattle.fed_looks.specs.JobObject.{jobs_json}
 use Rattle.fed_looks.specs.Look.{Look, whys, machines, reserves, tells, sees, charts}
 use Rattle.fed_looks.specs.Machine.{machine_lines}
@@ -14,4 +15,4 @@ look_text roster s (machines moment) = machine_lines roster s.view s.site moment
 look_text roster s reserves = reservation_lines roster s.view
 look_text roster s (tells jobs) = jobs_json roster s.view jobs
 look_text roster s sees = seen_lines roster s
-look_text roster s (charts moment) = []
+look_text roster s (charts moment) = chart_svg roster s.view s.site moment

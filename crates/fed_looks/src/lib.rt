@@ -1,6 +1,15 @@
 //! Looks: what an operator asks a site. Each is a text that is a function of what the board reads as, and changes nothing.
 #![tactic(auto)]
 
+/// A picture of a site's machine.
+mod chart;
+/// What a chart shows.
+mod chart_bars;
+/// How the bars of a chart are drawn.
+mod chart_marks;
+/// Worked charts.
+#[cfg(test)]
+mod chart_tests;
 /// Jobs as JSON objects.
 mod job_lines;
 /// The values of the parts of a job.
@@ -22,6 +31,7 @@ mod seen;
 /// Why a job stands where it does.
 mod whys;
 
+pub use chart::chart_svg;
 pub use job_lines::jobs_json;
 pub use look_lines::look_of_line;
 pub use look_texts::look_text;

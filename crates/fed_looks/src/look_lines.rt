@@ -1,7 +1,7 @@
 //! The looks that lines ask for.
 ghost use Rattle.std.specs.Prelude.{◌≡◌, ℕ, List, ◌∷◌, false, IfOk, None, option_map};
 ghost use Rattle.fed_looks.specs.Look.{look_in};
-ghost use Rattle.fed_looks.specs.LookLine.{answered as answered_look, look_in_line};
+ghost use Rattle.fed_looks.specs.LookLine.{look_in_line};
 ghost use Rattle.fed_looks.specs.LookView.{asked_by};
 
 use crate::looks::{Look, read_look};
@@ -31,16 +31,6 @@ fn may_ask(line: &[u8]) -> bool
     }
 }
 
-/// The look, if it is one that is answered: a chart isn't yet.
-fn answered(look: Option<Look>) -> Option<Look>
-    ensures { option_map asked_by result ≡ answered_look (option_map asked_by look) }
-{
-    match look {
-        Some(Look::Chart { .. }) => None,
-        look => look,
-    }
-}
-
 /// The look that a line asks the site for, or `None` where it asks for none. Its words are parted, and its jobs and moments
 /// read, as in a script; a comment asks for none, nor does a line that has a byte which no line may have.
 pub fn look_of_line(
@@ -56,10 +46,7 @@ pub fn look_of_line(
         return Ok(None);
     }
     match told_words(alloc, line)? {
-        Some(words) => {
-            let look = read_look(alloc, roster, here, words.as_slice())?;
-            Ok(answered(look))
-        }
+        Some(words) => read_look(alloc, roster, here, words.as_slice()),
         None => Ok(None),
     }
 }

@@ -4,6 +4,7 @@ ghost use Rattle.fed_replica.specs.State.{state_of};
 ghost use Rattle.fed_looks.specs.LookText.{look_text as text_of_look};
 ghost use Rattle.fed_looks.specs.LookView.{asked_by};
 
+use crate::chart::chart_svg;
 use crate::job_lines::jobs_json;
 use crate::looks::Look;
 use crate::machines::machine_lines;
@@ -33,7 +34,6 @@ pub fn look_text(
         Look::Reservations => reservation_lines(alloc, roster, board),
         Look::Jobs { jobs } => jobs_json(alloc, roster, board, jobs),
         Look::Seen => seen_lines(alloc, roster, replica),
-        // no line asks for one yet
-        Look::Chart { .. } => Ok(String::new(alloc)),
+        Look::Chart { moment } => chart_svg(alloc, roster, board, here, *moment),
     }
 }

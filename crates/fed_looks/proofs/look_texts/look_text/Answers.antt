@@ -1,5 +1,5 @@
 use Rattle.std.proofs.Common.{string_bytes}
-use Rattle.fed_looks.proofs.LookCases.{machine_told, reservations_told, why_told}
+use Rattle.fed_looks.proofs.LookCases.{chart_told, machine_told, reservations_told, why_told}
 use Rattle.fed_looks.proofs.look_texts.look_text.Goals as goal
 
 pub returns-in-Why : goal.returns-in-Why
@@ -10,3 +10,6 @@ returns-in-Machine c = machine_told string_bytes c.machine_lines.result c.args.r
 
 pub returns-in-Reservations : goal.returns-in-Reservations
 returns-in-Reservations c = reservations_told string_bytes c.reservation_lines.result c.args.roster.now c.args.replica.now c.args.look.now c.board-board.result.now c.board-board.ensures c.in-Reservations.is c.reservation_lines.ensures
+
+pub returns-in-Chart : goal.returns-in-Chart
+returns-in-Chart c = chart_told string_bytes c.chart_svg.result c.args.roster.now c.args.replica.now c.args.look.now c.board-board.result.now c.board-board.ensures c.site-here.result c.in-Chart.moment c.site-here.ensures c.in-Chart.is c.chart_svg.ensures.picture
