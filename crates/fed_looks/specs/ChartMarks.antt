@@ -1,6 +1,6 @@
 -- How the bars of a chart are drawn. The seconds and nodes that are shown take 900 and 400 pixels, from 60 to the right
 -- and from 440 upwards.
-use Rattle.std.specs.Prelude.{ℕ, ◌+◌, ◌-◌, ◌*◌, ◌/◌, List, [], ◌∷◌, ◌++◌, codes, length, max, min, nat_lt, if◌then◌else◌}
+use Rattle.std.specs.Prelude.{ℕ, ◌+◌, ◌-◌, ◌*◌, ◌/◌, List, ◌++◌, codes, length, max, min, nat_lt, if◌then◌else◌}
 use Rattle.std.specs.Fmt.{decimal}
 use Rattle.std.specs.List.{fold}
 use Rattle.fed_qstat.specs.Identifier.{identifier_text}

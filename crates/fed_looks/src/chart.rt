@@ -155,9 +155,10 @@ fn picture(
 /// and for each job that the plan starts, of which those that end later lie below, for the head of the plan from its
 /// second on, and for each reservation of the site that stands and isn't over, with their identifiers; below it the
 /// same in words. A job that runs beyond its end is drawn for a second, as it counts in the plan. The head and the
-/// reservations lie above all that they share a second with, so that boxes never lie over each other; what doesn't
-/// fit beside the rest lies above the line of the machine's nodes. Where no machine may be as the board has it, which
-/// no board of a run has, there is no plan, and the heading says so.
+/// reservations lie above all that they share a second with, so that no two boxes share a node and a second; what
+/// doesn't fit beside the rest lies above the line of the machine's nodes. A box is drawn 2 pixels wide and 1 high at
+/// least, so that it can be seen. Where no machine may be as the board has it, which no board of a run has, there is no
+/// plan, and the heading says so.
 pub fn chart_svg(
     alloc: Global,
     roster: &Roster,
