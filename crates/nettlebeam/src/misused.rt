@@ -90,10 +90,10 @@ fn value_text(
 ) -> Result<String, AllocError> {
     match choice {
         Choice::Account => {
-            format!(in alloc; "{argument} is no account: a letter and up to 14 letters, digits, - and _")
+            format!(in alloc; "{argument} is no account: a letter and up to 14 letters, digits, ., - and _")
         }
         Choice::Name => {
-            format!(in alloc; "{argument} is no name: a letter and up to 14 letters, digits, - and _")
+            format!(in alloc; "{argument} is no name: a letter and up to 14 letters, digits, ., - and _")
         }
         Choice::Kinds => {
             format!(in alloc; "{argument} is no list of holds: there are u, o and s")
