@@ -106,11 +106,7 @@ fn command<'a>(alloc: Global) -> Result<Command<'a>, AllocError>
 }
 
 /// The values of an argument.
-fn values<'a>(
-    alloc: Global,
-    matches: &ArgMatches<'a>,
-    id: &str,
-) -> Result<Vec<&'a str>, AllocError>
+fn values<'a>(alloc: Global, matches: &ArgMatches<'a>, id: &str) -> Result<Vec<&'a str>, AllocError>
     ensures { IfOk result (λ found. map (λ w. w.now) found.items ≡ values_in id.now (rows_of (found_of matches.now))) }
 {
     match matches.get_strs(id) {
@@ -147,11 +143,7 @@ fn task_by<'a>(alloc: Global, name: &str, found: &ArgMatches<'a>) -> Result<Task
 }
 
 /// What a command of this name is asked.
-fn asked_by<'a>(
-    alloc: Global,
-    name: &str,
-    found: &ArgMatches<'a>,
-) -> Result<Asked<'a>, AllocError>
+fn asked_by<'a>(alloc: Global, name: &str, found: &ArgMatches<'a>) -> Result<Asked<'a>, AllocError>
     ensures { IfOk result (λ asked. asked_of asked ≡ asked_in (name.now, rows_of (found_of found.now))) }
 {
     Ok(Asked {
@@ -178,8 +170,8 @@ pub fn read_command_line<'a>(alloc: Global, words: &'a [String]) -> Result<Asked
     }
 }
 
-/// The words of each command are taken, whatever the program is called, and ask what they say. The words of a line are
-/// taken as they stand.
+/// One line of words for each command: it is taken, whatever the program is called, and asks what it says. The words of
+/// `at` that begin with a hyphen are taken as they stand.
 pub fn commands_are_taken()
     ensures init { (name : List ℕ) → Asks name (codes "init" ∷ codes "d" ∷ codes "a" ∷ codes "a:8" ∷ codes "b:4" ∷ [])
         (record { directory = codes "d"; task = Makes (codes "a") (codes "a:8" ∷ codes "b:4" ∷ []) }) }

@@ -90,10 +90,14 @@ fn value_text(
 ) -> Result<String, AllocError> {
     match choice {
         Choice::Account => {
-            format!(in alloc; "{argument} is no account: a letter and up to 14 letters, digits, ., - and _")
+            format!(in alloc;
+                "{argument} is no account: a letter and up to 14 letters, digits, ., - and _"
+            )
         }
         Choice::Name => {
-            format!(in alloc; "{argument} is no name: a letter and up to 14 letters, digits, ., - and _")
+            format!(in alloc;
+                "{argument} is no name: a letter and up to 14 letters, digits, ., - and _"
+            )
         }
         Choice::Kinds => {
             format!(in alloc; "{argument} is no list of holds: there are u, o and s")
@@ -118,7 +122,9 @@ fn word_text(
     let word = words.get(place).copied().unwrap_or("");
     match fault {
         UsageFault::UnknownUtility => {
-            format!(in alloc; "{word} is no utility: there are qsub, qalter, qhold, qrls, qdel and qstat")
+            format!(in alloc;
+                "{word} is no utility: there are qsub, qalter, qhold, qrls, qdel and qstat"
+            )
         }
         UsageFault::UnknownOption => format!(in alloc; "{name} has no option {word}"),
         UsageFault::MissingArgument => format!(in alloc; "{word} lacks its argument"),

@@ -14,10 +14,10 @@ use std::alloc::Global;
 /// That a packet needs what this site lacks of another.
 fn gap_text(alloc: Global, site: &Site, lacking: SiteId) -> Result<String, NoMemory> {
     let name = site_text(alloc, site.roster(), lacking)?;
-    Ok(
-        format!(in alloc; "gap {name}: the packet rests on operations of {name} that this site has not seen: \
-        take a newer packet of its sender, or one from {name}")?,
-    )
+    Ok(format!(in alloc;
+        "gap {name}: the packet rests on operations of {name} that this site has not seen: \
+        take a newer packet of its sender, or one from {name}"
+    )?)
 }
 
 /// What is said of the cause alone.
@@ -104,9 +104,9 @@ fn beyond_text(
     }
     let id = identifier_text(alloc, roster, *job)?;
     let name = site_text(alloc, roster, here)?;
-    Ok(Some(
-        format!(in alloc; "{id} has begun, and {name} is beyond its nodes: running jobs and reservations use {used} of {nodes}")?,
-    ))
+    Ok(Some(format!(in alloc;
+        "{id} has begun, and {name} is beyond its nodes: running jobs and reservations use {used} of {nodes}"
+    )?))
 }
 
 /// What is said of a line that was done: where it began a job, that the site is beyond its nodes, if so. A job begins

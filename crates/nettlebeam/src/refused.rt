@@ -195,7 +195,10 @@ fn why_of_job(
 /// Why a reservation isn't made.
 fn why_no_window(alloc: Global, window: &Window) -> Result<String, AllocError> {
     let Window {
-        start, end, nodes, ..
+        start,
+        end,
+        nodes,
+        ..
     } = *window;
     if nodes == 0 || nodes > MAX_NODES {
         format!(in alloc; "{nodes} is no number of nodes from 1 to {MAX_NODES}")
