@@ -20,7 +20,7 @@ from plain_words import READABLE
 
 LONGEST_WAIT = 120
 PIPE_BYTES = 65_536
-DISK_BYTES = 67_108_864
+DISK_BYTES = 268_435_456
 FIRST_DIGEST = b"0" * 16
 FAULTS = ("refused", "usage", "gap", "unread", "foreign", "forgotten", "cannot be read")
 
@@ -85,6 +85,11 @@ class SmallDisk:
         room = state.f_bavail * state.f_frsize
         with open(f"{self.folder}/filler", "wb") as file:
             os.posix_fallocate(file.fileno(), 0, max(1, room - free))
+
+    def is_used(self):
+        """Whether a quarter of it is used, so that the lines of a few more steps, and a last exchange, still fit."""
+        state = os.statvfs(self.folder)
+        return state.f_bavail * 4 < state.f_blocks * 3
 
     def empty(self):
         """Gives the room back."""
