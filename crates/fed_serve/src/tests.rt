@@ -216,6 +216,10 @@ fn refused_growths_of_an_input(rt: HostRuntime) -> Result<(), Fail> {
                 assert_eq!(rt; output.as_slice(), OUTPUT);
                 return Ok(());
             }
+            // the output is in memory too
+            Err(ServeFault::Write(error)) => {
+                assert!(rt; error.kind() == ErrorKind::OutOfMemory);
+            }
             Err(fault) => assert!(rt; matches!(fault, ServeFault::Home(HomeFault::NoMemory))),
         }
     }
