@@ -1,8 +1,8 @@
 -- What is said to a line that asks a site for a listing.
 use Rattle.std.specs.Prelude.{ℕ, Bool, List, if◌then◌else◌}
 use Rattle.fed_stamp.specs.Stamp.{StampValue}
-use Rattle.fed_record.specs.JobView.{JobView}
-use Rattle.fed_board.specs.View.{View}
+use Rattle.fed_model.specs.JobView.{JobView}
+use Rattle.fed_model.specs.View.{View}
 use Rattle.fed_qstat.specs.Full.{full_lines}
 use Rattle.fed_qstat.specs.Listing.{listing}
 use Rattle.fed_qstat.specs.Short.{short_line}

@@ -1,10 +1,10 @@
 -- The texts that answer events and misused words.
 use Rattle.std.specs.Prelude.{ℕ, List, [], ◌∷◌, ◌++◌, codes, if◌then◌else◌}
 use Rattle.std.specs.Fmt.{decimal}
-use Rattle.fed_record.specs.declared.replies.Reply.{Reply}
-use Rattle.fed_record.specs.declared.replies.Reply.TheVariants.{Submitted, Done, Granted, Yours, Reserved}
-use Rattle.fed_record.specs.Refusal.{number_of}
-use Rattle.fed_world.specs.declared.outcomes.Outcome.{Outcome}
+use Rattle.fed_model.specs.declared.replies.Reply.{Reply}
+use Rattle.fed_model.specs.declared.replies.Reply.TheVariants.{Submitted, Done, Granted, Yours, Reserved}
+use Rattle.fed_model.specs.Refusal.{number_of}
+use Rattle.fed_model.specs.declared.outcomes.Outcome.{Outcome}
 use Rattle.fed_words.specs.declared.faults.UsageFault.{UsageFault}
 use Rattle.fed_words.specs.Fault.{fault_number}
 use Rattle.fed_qstat.specs.Identifier.{identifier_text, site_text}

@@ -1,7 +1,7 @@
 -- What is said to a line that asks a site for its plan.
 use Rattle.std.specs.Prelude.{ℕ, List, codes, Option, Some, None, is_none, if◌then◌else◌}
 use Rattle.fed_stamp.specs.Roster.{nodes_at}
-use Rattle.fed_board.specs.View.{View}
+use Rattle.fed_model.specs.View.{View}
 use Rattle.fed_easy.specs.Machine.{MachineValue, first_fault, running_in}
 use Rattle.fed_easy.specs.SitePlan.{site_plan}
 use Rattle.fed_qstat.specs.PlanText.{plan_lines}

@@ -6,8 +6,8 @@ mod listings;
 /// The texts that answer events and misused words.
 mod outcomes;
 /// The texts of plans.
-mod plans;
+mod plan_texts;
 
 pub use listings::listing_text;
-pub use outcomes::{Answer, outcome_line, usage_line};
-pub use plans::{plan_line, plan_lines};
+pub use outcomes::{AnswerText, outcome_line, usage_line};
+pub use plan_texts::{plan_line, plan_lines};

@@ -1,6 +1,6 @@
 //! The texts of listings.
 ghost use Rattle.std.specs.Prelude.{◌≡◌, IfOk, string_bytes};
-ghost use Rattle.fed_board.specs.Board.{reads};
+ghost use Rattle.fed_board.specs.Board.{board_reads};
 ghost use Rattle.fed_answers.specs.Listed.{listed};
 
 use fed_board::Board;
@@ -18,7 +18,7 @@ pub fn listing_text(
     is_full: bool,
     jobs: &[JobId],
 ) -> Result<String, NoMemory>
-    ensures { IfOk result (λ text. string_bytes text ≡ listed is_full roster.now (reads board.now) jobs.now) }
+    ensures { IfOk result (λ text. string_bytes text ≡ listed is_full roster.now (board_reads board.now) jobs.now) }
 {
     if is_full {
         list_in_full(alloc, board, roster, jobs)

@@ -1,7 +1,7 @@
 //! The texts that answer events and misused words.
 ghost use Rattle.std.specs.Prelude.{◌≡◌, IfOk, string_bytes};
 ghost use Rattle.std.specs.Cow.{cow_str_bytes};
-ghost use Rattle.fed_world.specs.declared.outcomes.Outcome.TheVariants.{Gap};
+ghost use Rattle.fed_model.specs.declared.outcomes.Outcome.TheVariants.{Gap};
 ghost use Rattle.fed_answers.specs.Outcome.{answer_line, outcome_text as text_of_outcome, reply_text as text_of_reply, usage_line as line_of_usage};
 
 use fed_qstat::{identifier_text, site_text};
@@ -13,10 +13,10 @@ use std::alloc::{AllocError, Global};
 use std::borrow::CowStr;
 
 /// The text that answers a line.
-pub type Answer = CowStr<'static>;
+pub type AnswerText = CowStr<'static>;
 
 /// A text, and the end of the line behind it.
-fn ended(text: String) -> Result<Answer, AllocError>
+fn ended(text: String) -> Result<AnswerText, AllocError>
     ensures { IfOk result (λ line. cow_str_bytes line ≡ answer_line (string_bytes text)) }
 {
     let mut line = text;
@@ -25,7 +25,7 @@ fn ended(text: String) -> Result<Answer, AllocError>
 }
 
 /// The line of what a site replies to a command that it doesn't refuse.
-fn reply_line(alloc: Global, roster: &Roster, reply: Reply) -> Result<Answer, AllocError>
+fn reply_line(alloc: Global, roster: &Roster, reply: Reply) -> Result<AnswerText, AllocError>
     ensures { IfOk result (λ line. cow_str_bytes line ≡ answer_line (text_of_reply roster.now reply)) }
 {
     match reply {
@@ -38,7 +38,7 @@ fn reply_line(alloc: Global, roster: &Roster, reply: Reply) -> Result<Answer, Al
 }
 
 /// The line that names the site that lacks something, behind the word that says so.
-fn gap_line(alloc: Global, roster: &Roster, site: SiteId) -> Result<Answer, AllocError>
+fn gap_line(alloc: Global, roster: &Roster, site: SiteId) -> Result<AnswerText, AllocError>
     ensures { IfOk result (λ line. cow_str_bytes line ≡ answer_line (text_of_outcome roster.now (Gap site))) }
 {
     let name = site_text(alloc, roster, site)?;
@@ -46,7 +46,11 @@ fn gap_line(alloc: Global, roster: &Roster, site: SiteId) -> Result<Answer, Allo
 }
 
 /// The line that answers an event. One that is the same for all events of its kind takes no memory.
-pub fn outcome_line(alloc: Global, roster: &Roster, outcome: Outcome) -> Result<Answer, AllocError>
+pub fn outcome_line(
+    alloc: Global,
+    roster: &Roster,
+    outcome: Outcome,
+) -> Result<AnswerText, AllocError>
     ensures { IfOk result (λ line. cow_str_bytes line ≡ answer_line (text_of_outcome roster.now outcome)) }
 {
     match outcome {

@@ -15,21 +15,21 @@ use Rattle.fed_lattice.specs.Stamped.{with_stamp}
 use Rattle.fed_lattice.specs.Table.{IsAtEach}
 use Rattle.fed_lattice.proofs.TableValues.{each_insert_entry, each_joined_tables, values_each}
 use Rattle.fed_record.specs.declared.operations.Operation.{Operation}
-use Rattle.fed_record.specs.declared.windows.Window.{Window}
-use Rattle.fed_record.specs.Body.{Body, Body.Submit, Body.Set, Body.Hold, Body.Release, Body.Delete, Body.Grant, Body.HandBack, Body.Begin, Body.Finish, Body.Reserve, Body.Cancel, job_of, reservation_of}
-use Rattle.fed_record.specs.Field.{window_in}
-use Rattle.fed_record.specs.JobRecord.{JobRecordValue, reads as reads_job}
-use Rattle.fed_record.specs.JobSteps.{add_to_job, join_jobs}
-use Rattle.fed_record.specs.JobView.{JobView}
-use Rattle.fed_record.specs.Letter.{is_submitted}
+use Rattle.fed_model.specs.declared.windows.Window.{Window}
+use Rattle.fed_model.specs.Body.{Body, Body.Submit, Body.Set, Body.Hold, Body.Release, Body.Delete, Body.Grant, Body.HandBack, Body.Begin, Body.Finish, Body.Reserve, Body.Cancel, job_of, reservation_of}
+use Rattle.fed_model.specs.Field.{window_in}
+use Rattle.fed_record.specs.JobRecord.{JobRecordValue, job_reads}
+use Rattle.fed_theory.specs.JobSteps.{add_to_job, join_jobs}
+use Rattle.fed_model.specs.JobView.{JobView}
+use Rattle.fed_model.specs.Letter.{is_submitted}
 use Rattle.fed_record.specs.Operation.{body_of}
-use Rattle.fed_record.specs.Reservation.{ReservationView}
-use Rattle.fed_record.specs.ValueOrders.{option_window_cmp}
+use Rattle.fed_model.specs.Reservation.{ReservationView}
+use Rattle.fed_theory.specs.ValueOrders.{option_window_cmp}
 use Rattle.fed_board.specs.Board.{BoardValue, IsBoard, IsKnownJob, IsKnownReservation, HasJob, HasNamed, no_operation, merged, changed_job, changed_reservation}
 use Rattle.fed_board.specs.CoveredJob.{IsCoveredRegister, IsCoveredJob}
 use Rattle.fed_board.proofs.CoveredJobs.{covered_added, covered_joined, covered_nothing, later_covered, own_register, register_covered}
 use Rattle.fed_board.proofs.SubmittedJobs.{set_left, set_right, submitted_added, submitted_by, submitted_left, submitted_right}
-use Rattle.fed_board.proofs.VersionGrowth.{below_raised, covers_raised, raised_below, zeros_below, joined_below}
+use Rattle.fed_theory.proofs.VersionGrowth.{below_raised, covers_raised, raised_below, zeros_below, joined_below}
 
 from_some : {X : Type 0} (x y : X) → Some x ≡ Some y → x ≡ y
 from_some x y e = cc
@@ -40,7 +40,7 @@ touched_below : (v : List ℕ) (job : StampValue) (a : Option JobRecordValue) �
 touched_below v job None p = zeros_below 16 v
 touched_below v job (Some r) p = p.touched
 
-stamps_covered : (v : List ℕ) (job : StampValue) (a : Option JobRecordValue) → IfSome a (IsKnownJob v job) → IsCoveredJob (reads_job (unwrap_or a no_operation))
+stamps_covered : (v : List ℕ) (job : StampValue) (a : Option JobRecordValue) → IfSome a (IsKnownJob v job) → IsCoveredJob (job_reads (unwrap_or a no_operation))
 stamps_covered v job None p = covered_nothing
 stamps_covered v job (Some r) p = p.stamps
 
@@ -100,7 +100,7 @@ present_reservation v name (Some r) p i = p
 
 -- ---- a change
 module _ (applied : JobRecordValue → StampValue → Operation → JobRecordValue)
-    (law : (r : JobRecordValue) (s : StampValue) (c : Operation) → reads_job (applied r s c) ≡ add_to_job s (body_of c) (reads_job r)) where
+    (law : (r : JobRecordValue) (s : StampValue) (c : Operation) → job_reads (applied r s c) ≡ add_to_job s (body_of c) (job_reads r)) where
   pub applied_touched : (r : JobRecordValue) (s : StampValue) (c : Operation) → (applied r s c).touched ≡ raised r.touched s
   unfolding add_to_job
   applied_touched r s c = ap (λ (j : JobView). j.touched) (law r s c)
@@ -112,19 +112,19 @@ module _ (applied : JobRecordValue → StampValue → Operation → JobRecordVal
       let a = lookup (is_at (stamp_cmp job)) b.jobs in
       let r : JobRecordValue = unwrap_or a no_operation in
       let below = subst (λ t. is_below t (raised v at) ≡ true) (sym (applied_touched r at op)) (raised_below r.touched v at seen (touched_below v job a (i.jobs job))) in
-      let stamps = subst IsCoveredJob (sym (law r at op)) (covered_added at (body_of op) (reads_job r) small (stamps_covered v job a (i.jobs job))) in
+      let stamps = subst IsCoveredJob (sym (law r at op)) (covered_added at (body_of op) (job_reads r) small (stamps_covered v job a (i.jobs job))) in
       elim (named_job b at job (body_of op) of n) [
         | inl here ↦ let k = present_known v job a (i.jobs job) here in record {
           placed = k.placed;
           named = covers_raised v at job k.named;
-          submitted = ap is_submitted (law r at op) ∙ submitted_added at (body_of op) (reads_job r) k.submitted;
+          submitted = ap is_submitted (law r at op) ∙ submitted_added at (body_of op) (job_reads r) k.submitted;
           touched = below;
           stamps = stamps;
         }
         | inr new ↦ record {
           placed = subst (λ (s : StampValue). s.site < 16) (sym new.0) small;
           named = subst (λ s. covers (raised v at) s ≡ true) (sym new.0) seen;
-          submitted = ap is_submitted (law r at op) ∙ new.1 at (reads_job r);
+          submitted = ap is_submitted (law r at op) ∙ new.1 at (job_reads r);
           touched = below;
           stamps = stamps;
         }
@@ -180,7 +180,7 @@ module _ (b : BoardValue) (at name : StampValue) (op : Operation) (i : IsBoard b
 
 -- ---- two boards merged
 module _ (join : JobRecordValue → List ℕ → JobRecordValue → List ℕ → JobRecordValue)
-    (law : (r q : JobRecordValue) (v w : List ℕ) → reads_job (join r v q w) ≡ join_jobs v (reads_job r) w (reads_job q)) where
+    (law : (r q : JobRecordValue) (v w : List ℕ) → job_reads (join r v q w) ≡ join_jobs v (job_reads r) w (job_reads q)) where
   pub join_touched : (r q : JobRecordValue) (v w : List ℕ) → (join r v q w).touched ≡ joined r.touched q.touched
   unfolding join_jobs
   join_touched r q v w = ap (λ (j : JobView). j.touched) (law r q v w)
@@ -191,24 +191,24 @@ module _ (join : JobRecordValue → List ℕ → JobRecordValue → List ℕ →
       let r : JobRecordValue = unwrap_or x no_operation in
       let s : JobRecordValue = unwrap_or y no_operation in
       let below = subst (λ t. is_below t (joined v w) ≡ true) (sym (join_touched r s v w)) (joined_below r.touched s.touched v w (touched_below v job x p) (touched_below w job y q)) in
-      let stamps = subst IsCoveredJob (sym (law r s v w)) (covered_joined v w (reads_job r) (reads_job s) (stamps_covered v job x p) (stamps_covered w job y q)) in
+      let stamps = subst IsCoveredJob (sym (law r s v w)) (covered_joined v w (job_reads r) (job_reads s) (stamps_covered v job x p) (stamps_covered w job y q)) in
       either x y p q e below stamps where
         either : (x y : Option JobRecordValue) → IfSome x (IsKnownJob v job) → IfSome y (IsKnownJob w job) → (is_some x || is_some y) ≡ true
             → is_below (join (unwrap_or x no_operation) v (unwrap_or y no_operation) w).touched (joined v w) ≡ true
-            → IsCoveredJob (reads_job (join (unwrap_or x no_operation) v (unwrap_or y no_operation) w))
+            → IsCoveredJob (job_reads (join (unwrap_or x no_operation) v (unwrap_or y no_operation) w))
             → IsKnownJob (joined v w) job (join (unwrap_or x no_operation) v (unwrap_or y no_operation) w)
         either None None p q e below stamps = cc
         either None (Some s) p q e below stamps = record {
           placed = q.placed;
           named = covers_more w (joined v w) job (below_joined_right v w) q.named;
-          submitted = ap is_submitted (law no_operation s v w) ∙ submitted_right v w (reads_job no_operation) (reads_job s) q.submitted;
+          submitted = ap is_submitted (law no_operation s v w) ∙ submitted_right v w (job_reads no_operation) (job_reads s) q.submitted;
           touched = below;
           stamps = stamps;
         }
         either (Some r) y p q e below stamps = record {
           placed = p.placed;
           named = covers_more v (joined v w) job (below_joined_left v w) p.named;
-          submitted = ap is_submitted (law r (unwrap_or y no_operation) v w) ∙ submitted_left v w (reads_job r) (reads_job (unwrap_or y no_operation)) p.submitted;
+          submitted = ap is_submitted (law r (unwrap_or y no_operation) v w) ∙ submitted_left v w (job_reads r) (job_reads (unwrap_or y no_operation)) p.submitted;
           touched = below;
           stamps = stamps;
         }
@@ -245,8 +245,8 @@ module _ (join : JobRecordValue → List ℕ → JobRecordValue → List ℕ →
   }
 
 -- ---- every job on a board is submitted, and every reservation is made
-pub submitted_values : (v : List ℕ) (es : List (StampValue × JobRecordValue)) → IsStrictlySortedBy stamp_cmp (keys_of es) → IsAtEach stamp_cmp (IsKnownJob v) es → All (λ r. is_submitted (reads_job r) ≡ true) (values_of es)
-submitted_values v es s p = values_each stamp_cmp stamp_total exact_stamp (λ r. is_submitted (reads_job r) ≡ true) es s (λ k. IfSome_then _ (p k) (λ (r : JobRecordValue) (i : IsKnownJob v k r). i.submitted))
+pub submitted_values : (v : List ℕ) (es : List (StampValue × JobRecordValue)) → IsStrictlySortedBy stamp_cmp (keys_of es) → IsAtEach stamp_cmp (IsKnownJob v) es → All (λ r. is_submitted (job_reads r) ≡ true) (values_of es)
+submitted_values v es s p = values_each stamp_cmp stamp_total exact_stamp (λ r. is_submitted (job_reads r) ≡ true) es s (λ k. IfSome_then _ (p k) (λ (r : JobRecordValue) (i : IsKnownJob v k r). i.submitted))
 
 pub made_values : (v : List ℕ) (es : List (StampValue × ReservationView)) → IsStrictlySortedBy stamp_cmp (keys_of es) → IsAtEach stamp_cmp (IsKnownReservation v) es → All IsSome (values_of es)
 made_values v es s p = values_each stamp_cmp stamp_total exact_stamp IsSome es s (λ k. IfSome_then _ (p k) (λ (r : ReservationView) (i : IsKnownReservation v k r). i.made))

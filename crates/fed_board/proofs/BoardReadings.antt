@@ -10,22 +10,22 @@ use Rattle.fed_lattice.specs.Latest.{stamp_cmp}
 use Rattle.fed_lattice.specs.LatestLaws.{stamp_total}
 use Rattle.fed_lattice.specs.Table.{IsTable}
 use Rattle.fed_lattice.specs.TableEntryLaws.{same_tables}
+use Rattle.fed_lattice.specs.KeySetLaws.{same_sets}
 use Rattle.fed_tags.specs.Tags.{pair_cmp}
-use Rattle.fed_tags.specs.TagLaws.{same_sets}
-use Rattle.fed_record.specs.Hold.{kind_cmp}
-use Rattle.fed_record.specs.JobRecord.{JobRecordValue, reads as reads_job}
-use Rattle.fed_record.specs.JobView.{JobView}
-use Rattle.fed_record.specs.Letter.{is_submitted}
+use Rattle.fed_model.specs.Hold.{kind_cmp}
+use Rattle.fed_record.specs.JobRecord.{JobRecordValue, job_reads}
+use Rattle.fed_model.specs.JobView.{JobView}
+use Rattle.fed_model.specs.Letter.{is_submitted}
 use Rattle.fed_record.specs.RecordLaws.{hold_order, hold_exact, site_order, site_exact}
-use Rattle.fed_record.specs.Reservation.{ReservationView}
-use Rattle.fed_board.specs.Board.{BoardValue, IsBoard, IsKnownJob, IsKnownReservation, no_operation, reads}
-use Rattle.fed_board.specs.View.{View}
+use Rattle.fed_model.specs.Reservation.{ReservationView}
+use Rattle.fed_board.specs.Board.{BoardValue, IsBoard, IsKnownJob, IsKnownReservation, no_operation, board_reads}
+use Rattle.fed_model.specs.View.{View}
 
 -- the pairs stand in their order
 abbrev pub HasSortedTags : JobRecordValue → Type 0
 HasSortedTags r = IsStrictlySortedBy (pair_cmp kind_cmp) r.holds × IsStrictlySortedBy (pair_cmp nat_cmp) r.sites
 
-same_records : (r s : JobRecordValue) → HasSortedTags r → HasSortedTags s → reads_job r ≡ reads_job s → r ≡ s
+same_records : (r s : JobRecordValue) → HasSortedTags r → HasSortedTags s → job_reads r ≡ job_reads s → r ≡ s
 same_records r s p q e =
     let holds = same_sets (pair_cmp kind_cmp) hold_order hold_exact r.holds s.holds p.0 q.0 (λ k. ap (λ (j : JobView). j.holds k.0 k.1) e) in
     let sites = same_sets (pair_cmp nat_cmp) site_order site_exact r.sites s.sites p.1 q.1 (λ k. ap (λ (j : JobView). j.sites k.0 k.1) e) in
@@ -39,7 +39,7 @@ same_records r s p q e =
 
 -- what two boards have at a name
 same_jobs_at : (v w : List ℕ) (name : StampValue) (x y : Option JobRecordValue) → IfSome x (IsKnownJob v name) → IfSome y (IsKnownJob w name) → IfSome x HasSortedTags → IfSome y HasSortedTags
-    → reads_job (unwrap_or x no_operation) ≡ reads_job (unwrap_or y no_operation) → x ≡ y
+    → job_reads (unwrap_or x no_operation) ≡ job_reads (unwrap_or y no_operation) → x ≡ y
 same_jobs_at v w name None None p q s t e = refl
 same_jobs_at v w name None (Some y) p q s t e = absurd (let f : false ≡ true = ap is_submitted e ∙ q.submitted in cc)
 same_jobs_at v w name (Some x) None p q s t e = absurd (let f : false ≡ true = sym (ap is_submitted e) ∙ p.submitted in cc)
@@ -54,7 +54,7 @@ same_reservations_at v w name (Some (Some x)) None p q e = cc
 same_reservations_at v w name (Some x) (Some y) p q e = ap Some e
 
 pub same_where_read : (a b : BoardValue) → IsBoard a → IsBoard b → IsTable stamp_cmp HasSortedTags a.jobs → IsTable stamp_cmp HasSortedTags b.jobs
-    → IsTable {X = ReservationView} stamp_cmp (λ _. Unit {0}) a.reservations → IsTable {X = ReservationView} stamp_cmp (λ _. Unit {0}) b.reservations → reads a ≡ reads b → a ≡ b
+    → IsTable {X = ReservationView} stamp_cmp (λ _. Unit {0}) a.reservations → IsTable {X = ReservationView} stamp_cmp (λ _. Unit {0}) b.reservations → board_reads a ≡ board_reads b → a ≡ b
 same_where_read a b i k s t u v e =
     let version : a.version ≡ b.version = ap (λ (x : View). x.version) e in
     let jobs = same_tables stamp_cmp stamp_total exact_stamp a.jobs b.jobs s.0 t.0

@@ -16,16 +16,16 @@ use Rattle.fed_lattice.specs.Stamped.{with_stamp}
 use Rattle.fed_lattice.specs.Table.{value_at}
 use Rattle.fed_lattice.proofs.TableValues.{value_at-insert_entry, value_at-joined_tables}
 use Rattle.fed_record.specs.declared.operations.Operation.{Operation}
-use Rattle.fed_record.specs.Body.{Body, Body.Submit, Body.Set, Body.Hold, Body.Release, Body.Delete, Body.Grant, Body.HandBack, Body.Begin, Body.Finish, Body.Reserve, Body.Cancel, job_of, reservation_of, is_named, is_of_job, is_of_reservation}
-use Rattle.fed_record.specs.Field.{window_in}
-use Rattle.fed_record.specs.JobRecord.{JobRecordValue, reads as reads_job}
-use Rattle.fed_record.specs.JobSteps.{add_to_job, join_jobs}
-use Rattle.fed_record.specs.JobView.{JobView}
+use Rattle.fed_model.specs.Body.{Body, Body.Submit, Body.Set, Body.Hold, Body.Release, Body.Delete, Body.Grant, Body.HandBack, Body.Begin, Body.Finish, Body.Reserve, Body.Cancel, job_of, reservation_of, is_named, is_of_job, is_of_reservation}
+use Rattle.fed_model.specs.Field.{window_in}
+use Rattle.fed_record.specs.JobRecord.{JobRecordValue, job_reads}
+use Rattle.fed_theory.specs.JobSteps.{add_to_job, join_jobs}
+use Rattle.fed_model.specs.JobView.{JobView}
 use Rattle.fed_record.specs.Operation.{body_of}
-use Rattle.fed_record.specs.Reservation.{ReservationView}
-use Rattle.fed_record.specs.ValueOrders.{option_window_cmp}
-use Rattle.fed_board.specs.Board.{BoardValue, no_operation, reads, merged, changed_job, changed_reservation}
-use Rattle.fed_board.specs.ViewSteps.{add_to_view, join_views}
+use Rattle.fed_model.specs.Reservation.{ReservationView}
+use Rattle.fed_theory.specs.ValueOrders.{option_window_cmp}
+use Rattle.fed_board.specs.Board.{BoardValue, no_operation, board_reads, merged, changed_job, changed_reservation}
+use Rattle.fed_theory.specs.ViewSteps.{add_to_view, join_views}
 
 -- ---- names
 stamp_at_name : (name s : StampValue) → is_eq (stamp_cmp name s) ≡ same_stamp s name
@@ -61,7 +61,7 @@ not_job at (Cancel other) name e = refl
 
 -- ---- a change of one job
 module _ (applied : JobRecordValue → StampValue → Operation → JobRecordValue)
-    (law : (r : JobRecordValue) (s : StampValue) (c : Operation) → reads_job (applied r s c) ≡ add_to_job s (body_of c) (reads_job r))
+    (law : (r : JobRecordValue) (s : StampValue) (c : Operation) → job_reads (applied r s c) ≡ add_to_job s (body_of c) (job_reads r))
     (b : BoardValue) (at : StampValue) (op : Operation) (job : StampValue) where
   abbrev old_job : StampValue → JobRecordValue
   old_job name = value_at stamp_cmp no_operation b.jobs name
@@ -71,28 +71,28 @@ module _ (applied : JobRecordValue → StampValue → Operation → JobRecordVal
 
   module _ (of : job_of at (body_of op) ≡ Some job) where
     abbrev added : Bool → StampValue → JobView
-    added t name = if t then add_to_job at (body_of op) (reads_job (old_job name)) else reads_job (old_job name)
+    added t name = if t then add_to_job at (body_of op) (job_reads (old_job name)) else job_reads (old_job name)
 
-    job_reads : (name : StampValue) → reads_job (value_at stamp_cmp no_operation (changed_job applied b at op job).jobs name) ≡ added (is_of_job name (at, body_of op)) name
-    job_reads name =
-        ap reads_job (value_at-insert_entry stamp_cmp stamp_total exact_stamp no_operation name job (applied (old_job job) at op) b.jobs)
+    changed_job_read : (name : StampValue) → job_reads (value_at stamp_cmp no_operation (changed_job applied b at op job).jobs name) ≡ added (is_of_job name (at, body_of op)) name
+    changed_job_read name =
+        ap job_reads (value_at-insert_entry stamp_cmp stamp_total exact_stamp no_operation name job (applied (old_job job) at op) b.jobs)
         ∙ go (is_eq (stamp_cmp name job)) refl
         ∙ ap (λ t. added t name) (stamp_at_name name job ∙ ap (is_named name) (sym of))
       where
-        go : (t : Bool) → is_eq (stamp_cmp name job) ≡ t → reads_job (cond t (applied (old_job job) at op) (old_job name)) ≡ added t name
-        go true e = law (old_job job) at op ∙ ap (λ (n : StampValue). add_to_job at (body_of op) (reads_job (old_job n))) (sym (tells_apart exact_stamp name job e))
+        go : (t : Bool) → is_eq (stamp_cmp name job) ≡ t → job_reads (cond t (applied (old_job job) at op) (old_job name)) ≡ added t name
+        go true e = law (old_job job) at op ∙ ap (λ (n : StampValue). add_to_job at (body_of op) (job_reads (old_job n))) (sym (tells_apart exact_stamp name job e))
         go false e = refl
 
     abbrev unmade : Option StampValue → StampValue → ReservationView
     unmade r name = if is_named name r then joined_registers option_window_cmp (value_at stamp_cmp None b.reservations name) (with_stamp at (window_in (body_of op))) else value_at stamp_cmp None b.reservations name
 
-    pub changed_job_reads : reads (changed_job applied b at op job) ≡ add_to_view (reads b) (at, body_of op)
+    pub changed_job_reads : board_reads (changed_job applied b at op job) ≡ add_to_view (board_reads b) (at, body_of op)
     unfolding add_to_view
     changed_job_reads =
         let none = sym (not_reservation at (body_of op) job of) in
         λ i. record {
           version = raised b.version at;
-          job = λ name. job_reads name i;
+          job = λ name. changed_job_read name i;
           reservation = λ name. unmade (none i) name;
         }
 
@@ -119,9 +119,9 @@ module _ (b : BoardValue) (at : StampValue) (op : Operation) (name : StampValue)
         go false e = refl
 
     abbrev unnamed : Option StampValue → StampValue → JobView
-    unnamed j job = if is_named job j then add_to_job at (body_of op) (reads_job (value_at stamp_cmp no_operation b.jobs job)) else reads_job (value_at stamp_cmp no_operation b.jobs job)
+    unnamed j job = if is_named job j then add_to_job at (body_of op) (job_reads (value_at stamp_cmp no_operation b.jobs job)) else job_reads (value_at stamp_cmp no_operation b.jobs job)
 
-    pub changed_reservation_reads : reads (changed_reservation b at op name) ≡ add_to_view (reads b) (at, body_of op)
+    pub changed_reservation_reads : board_reads (changed_reservation b at op name) ≡ add_to_view (board_reads b) (at, body_of op)
     unfolding add_to_view
     changed_reservation_reads =
         let none = sym (not_job at (body_of op) name of) in
@@ -133,15 +133,15 @@ module _ (b : BoardValue) (at : StampValue) (op : Operation) (name : StampValue)
 
 -- ---- two boards merged
 module _ (join : JobRecordValue → List ℕ → JobRecordValue → List ℕ → JobRecordValue)
-    (law : (r q : JobRecordValue) (v w : List ℕ) → reads_job (join r v q w) ≡ join_jobs v (reads_job r) w (reads_job q)) where
+    (law : (r q : JobRecordValue) (v w : List ℕ) → job_reads (join r v q w) ≡ join_jobs v (job_reads r) w (job_reads q)) where
   pub merged_same : (b c now other : BoardValue) → b ≡ now → c ≡ other → merged join b c ≡ merged join now other
   merged_same b c now other e f = ap₂ (merged join) e f
 
-  pub merged_reads : BottomsJoin no_operation join → (b c : BoardValue) → reads (merged join b c) ≡ join_views (reads b) (reads c)
+  pub merged_reads : BottomsJoin no_operation join → (b c : BoardValue) → board_reads (merged join b c) ≡ join_views (board_reads b) (board_reads c)
   unfolding join_views
   merged_reads bottoms b c =
-      let job : (name : StampValue) → reads_job (value_at stamp_cmp no_operation (merged join b c).jobs name) ≡ join_jobs b.version (reads_job (value_at stamp_cmp no_operation b.jobs name)) c.version (reads_job (value_at stamp_cmp no_operation c.jobs name)) =
-      λ name. ap reads_job (value_at-joined_tables stamp_cmp stamp_total exact_stamp no_operation join bottoms name b.jobs c.jobs b.version c.version) ∙ law _ _ b.version c.version in
+      let job : (name : StampValue) → job_reads (value_at stamp_cmp no_operation (merged join b c).jobs name) ≡ join_jobs b.version (job_reads (value_at stamp_cmp no_operation b.jobs name)) c.version (job_reads (value_at stamp_cmp no_operation c.jobs name)) =
+      λ name. ap job_reads (value_at-joined_tables stamp_cmp stamp_total exact_stamp no_operation join bottoms name b.jobs c.jobs b.version c.version) ∙ law _ _ b.version c.version in
       let reservation : (name : StampValue) → value_at stamp_cmp None (merged join b c).reservations name ≡ joined_registers option_window_cmp (value_at stamp_cmp None b.reservations name) (value_at stamp_cmp None c.reservations name) =
       λ name. value_at-joined_tables stamp_cmp stamp_total exact_stamp None (λ x v y w. joined_registers option_window_cmp x y) (λ v w. refl) name b.reservations c.reservations b.version c.version in
       λ i. record { version = joined b.version c.version; job = λ name. job name i; reservation = λ name. reservation name i }

@@ -9,20 +9,20 @@ use Rattle.fed_stamp.specs.Version.{covers, joined, raised}
 use Rattle.fed_stamp.proofs.VersionLaws.{covers_more, below_joined_left, below_joined_right, length-joined}
 use Rattle.fed_lattice.specs.Register.{stamped_cmp, joined_registers}
 use Rattle.fed_lattice.specs.Stamped.{with_stamp}
-use Rattle.fed_record.specs.Body.{Body, Body.Submit, Body.Set, Body.Hold, Body.Release, Body.Delete, Body.Grant, Body.HandBack, Body.Begin, Body.Finish, Body.Reserve, Body.Cancel}
+use Rattle.fed_model.specs.Body.{Body, Body.Submit, Body.Set, Body.Hold, Body.Release, Body.Delete, Body.Grant, Body.HandBack, Body.Begin, Body.Finish, Body.Reserve, Body.Cancel}
 use Rattle.fed_record.proofs.CoveredLaws.{either_side, old_or_new}
-use Rattle.fed_record.specs.Field.{owner_in, name_in, priority_in, nodes_in, limit_in, account_in, begin_in, finish_in}
-use Rattle.fed_record.specs.Grant.{grant_cmp, grant_in, stamp_of}
-use Rattle.fed_record.specs.JobRecord.{reads as reads_job}
-use Rattle.fed_record.specs.JobSteps.{add_to_job, join_jobs}
-use Rattle.fed_record.specs.JobView.{JobView}
-use Rattle.fed_record.specs.Pairs.{adds_site, removes_site, adds_hold, removes_hold, adds_pair, add_live}
-use Rattle.fed_tags.specs.Tags.{stays}
-use Rattle.fed_record.specs.ValueOrders.{name_cmp, account_cmp, beginning_cmp, ending_cmp}
+use Rattle.fed_model.specs.Field.{owner_in, name_in, priority_in, nodes_in, limit_in, account_in, begin_in, finish_in}
+use Rattle.fed_model.specs.Grant.{grant_cmp, grant_in, stamp_of}
+use Rattle.fed_record.specs.JobRecord.{job_reads}
+use Rattle.fed_theory.specs.JobSteps.{add_to_job, join_jobs, add_live}
+use Rattle.fed_model.specs.JobView.{JobView}
+use Rattle.fed_model.specs.Pairs.{adds_site, removes_site, adds_hold, removes_hold, adds_pair}
+use Rattle.fed_lattice.specs.Stays.{stays}
+use Rattle.fed_theory.specs.ValueOrders.{name_cmp, account_cmp, beginning_cmp, ending_cmp}
 use Rattle.fed_lattice.specs.ExactLaws.{same_stamp_is}
 use Rattle.fed_board.specs.Board.{no_operation}
 use Rattle.fed_board.specs.CoveredJob.{IsCoveredAt, IsCoveredRegister, AreCoveredPairs, IsCoveredJob}
-use Rattle.fed_board.proofs.VersionGrowth.{covers_raised, own_raised}
+use Rattle.fed_theory.proofs.VersionGrowth.{covers_raised, own_raised}
 
 module _ {T : Type 0} (stamp : T → StampValue) (v : List ℕ) where
   one_of_two : (b : Bool) (p q : T) → covers v (stamp p) ≡ true → covers v (stamp q) ≡ true → IsCoveredAt stamp v (cond b (Some p) (Some q))
@@ -139,7 +139,7 @@ module _ (v w : List ℕ) (x y : JobView) (i : IsCoveredJob x) (k : IsCoveredJob
   }
 
 -- a job without operations has no stamp
-pub covered_nothing : IsCoveredJob (reads_job no_operation)
+pub covered_nothing : IsCoveredJob (job_reads no_operation)
 covered_nothing = record {
   counters = refl;
   owner = tt;

@@ -4,10 +4,10 @@ use Rattle.std.proofs.Common.{◌≡◌, ℕ, ◌<◌, ◌≤◌, refl, ap, ◌�
 use Rattle.fed_stamp.specs.Stamp.{StampValue}
 use Rattle.fed_lattice.specs.Sets.{Has}
 use Rattle.fed_lattice.specs.History.{IsFresh}
-use Rattle.fed_record.specs.declared.progress.Beginning.{Beginning}
-use Rattle.fed_record.specs.Body.{Body, Body.Grant, Body.HandBack, Body.Begin}
-use Rattle.fed_board.specs.Lawful.{IsHolder, IsLawful}
-use Rattle.fed_board.proofs.GrowthLaws.{lawful_push}
+use Rattle.fed_model.specs.declared.beginnings.Beginning.{Beginning}
+use Rattle.fed_model.specs.Body.{Body, Body.Grant, Body.HandBack, Body.Begin}
+use Rattle.fed_model.specs.Lawful.{IsHolder, IsLawful}
+use Rattle.fed_theory.proofs.GrowthLaws.{lawful_push}
 use Rattle.fed_board.proofs.KinScene.{exchange_kin}
 use Rattle.fed_board.proofs.Scenes.{at, job, here, granted, returned, granted_anew, begun}
 

@@ -6,11 +6,11 @@ use Rattle.fed_stamp.specs.Version.{covers}
 use Rattle.fed_lattice.specs.Sets.{Has}
 use Rattle.fed_lattice.specs.History.{History, OneEach}
 use Rattle.fed_lattice.specs.VersionOf.{version_of, HasSites}
-use Rattle.fed_record.specs.Body.{Body, Body.Submit}
-use Rattle.fed_board.specs.View.{view}
-use Rattle.fed_board.specs.ViewSteps.{join_views}
-use Rattle.fed_board.specs.Lawful.{IsGrounded, IsLawful, AreKin}
-use Rattle.fed_board.proofs.ViewLaws.{view_union}
+use Rattle.fed_model.specs.Body.{Body, Body.Submit}
+use Rattle.fed_model.specs.View.{view}
+use Rattle.fed_theory.specs.ViewSteps.{join_views}
+use Rattle.fed_model.specs.Lawful.{IsGrounded, IsLawful, AreKin}
+use Rattle.fed_theory.proofs.ViewLaws.{view_union}
 use Rattle.fed_board.proofs.Scenes.{here, there}
 
 abbrev IsSubmit : Body → Type 0

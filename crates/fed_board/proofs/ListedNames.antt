@@ -17,12 +17,12 @@ use Rattle.fed_lattice.specs.LatestLaws.{stamp_total}
 use Rattle.fed_lattice.specs.Sets.{Has}
 use Rattle.fed_lattice.specs.SetLaws.{found, any_from}
 use Rattle.fed_lattice.specs.TableEntryLaws.{any_lookup}
-use Rattle.fed_record.specs.JobRecord.{JobRecordValue, reads as reads_job}
-use Rattle.fed_record.specs.Letter.{is_submitted}
-use Rattle.fed_record.specs.Reservation.{ReservationView}
-use Rattle.fed_board.specs.Board.{BoardValue, IsBoard, IsKnownJob, IsKnownReservation, no_operation, reads}
-use Rattle.fed_board.specs.Names.{covered_stamps, jobs_in, reservations_in}
-use Rattle.fed_board.proofs.CoveredStamps.{covered_ascend, covered_has, same_stamps}
+use Rattle.fed_record.specs.JobRecord.{JobRecordValue, job_reads}
+use Rattle.fed_model.specs.Letter.{is_submitted}
+use Rattle.fed_model.specs.Reservation.{ReservationView}
+use Rattle.fed_board.specs.Board.{BoardValue, IsBoard, IsKnownJob, IsKnownReservation, no_operation, board_reads}
+use Rattle.fed_model.specs.Names.{covered_stamps, jobs_in, reservations_in}
+use Rattle.fed_theory.proofs.CoveredStamps.{covered_ascend, covered_has, same_stamps}
 
 -- a name is among the keys exactly where a look-up finds a value
 listed : {X : Type 0} (es : List (StampValue × X)) (name : StampValue) → Has (keys_of es) name ↔ (is_some (lookup (is_at (stamp_cmp name)) es) ≡ true)
@@ -34,7 +34,7 @@ listed es name = (
 )
 
 -- a job that is found is submitted, and one that is not reads as one without operations
-pub submitted_found : (v : List ℕ) (job : StampValue) (a : Option JobRecordValue) → IfSome a (IsKnownJob v job) → is_submitted (reads_job (unwrap_or a no_operation)) ≡ is_some a
+pub submitted_found : (v : List ℕ) (job : StampValue) (a : Option JobRecordValue) → IfSome a (IsKnownJob v job) → is_submitted (job_reads (unwrap_or a no_operation)) ≡ is_some a
 submitted_found v job None p = refl
 submitted_found v job (Some r) p = p.submitted
 
@@ -42,13 +42,13 @@ pub made_found : (v : List ℕ) (name : StampValue) (a : Option ReservationView)
 made_found v name None p = refl
 made_found v name (Some r) p = p.made
 
-pub listed_jobs : (b : BoardValue) → IsBoard b → (job : StampValue) → Has (keys_of b.jobs) job ↔ (is_submitted ((reads b).job job) ≡ true)
+pub listed_jobs : (b : BoardValue) → IsBoard b → (job : StampValue) → Has (keys_of b.jobs) job ↔ (is_submitted ((board_reads b).job job) ≡ true)
 listed_jobs b i job =
     let l = listed b.jobs job in
     let e = submitted_found b.version job (lookup (is_at (stamp_cmp job)) b.jobs) (i.jobs job) in
     (λ h. e ∙ l.0 h, λ s. l.1 (sym e ∙ s))
 
-pub listed_reservations : (b : BoardValue) → IsBoard b → (name : StampValue) → Has (keys_of b.reservations) name ↔ IsSome ((reads b).reservation name)
+pub listed_reservations : (b : BoardValue) → IsBoard b → (name : StampValue) → Has (keys_of b.reservations) name ↔ IsSome ((board_reads b).reservation name)
 listed_reservations b i name =
     let l = listed b.reservations name in
     let e = made_found b.version name (lookup (is_at (stamp_cmp name)) b.reservations) (i.reservations name) in
@@ -63,7 +63,7 @@ covered_name : (v : List ℕ) (name : StampValue) (a : Option ReservationView) �
 covered_name v name None p e = cc
 covered_name v name (Some r) p e = (p.placed, p.named)
 
-pub known_job : (v : List ℕ) (job : StampValue) (a : Option JobRecordValue) → IfSome a (IsKnownJob v job) → is_submitted (reads_job (unwrap_or a no_operation)) ≡ true → (job.site < 16) × (covers v job ≡ true)
+pub known_job : (v : List ℕ) (job : StampValue) (a : Option JobRecordValue) → IfSome a (IsKnownJob v job) → is_submitted (job_reads (unwrap_or a no_operation)) ≡ true → (job.site < 16) × (covers v job ≡ true)
 known_job v job None p e = cc
 known_job v job (Some r) p e = (p.placed, p.named)
 
@@ -79,10 +79,10 @@ names_are v p names ascending all covered =
     (λ name h. let c = covered name h in filter-Has p (covered_stamps v) name (covered_has v name c.0 c.1) ((all name).0 h))
     (λ name h. (all name).1 (Has-filter p (covered_stamps v) name h).1)
 
-pub jobs_are : (b : BoardValue) → IsBoard b → IsStrictlySortedBy stamp_cmp (keys_of b.jobs) → keys_of b.jobs ≡ jobs_in (reads b)
-jobs_are b i ascending = names_are b.version (λ job. is_submitted ((reads b).job job)) (keys_of b.jobs) ascending (listed_jobs b i)
+pub jobs_are : (b : BoardValue) → IsBoard b → IsStrictlySortedBy stamp_cmp (keys_of b.jobs) → keys_of b.jobs ≡ jobs_in (board_reads b)
+jobs_are b i ascending = names_are b.version (λ job. is_submitted ((board_reads b).job job)) (keys_of b.jobs) ascending (listed_jobs b i)
     (λ job h. covered_job b.version job (lookup (is_at (stamp_cmp job)) b.jobs) (i.jobs job) ((listed b.jobs job).0 h))
 
-pub reservations_are : (b : BoardValue) → IsBoard b → IsStrictlySortedBy stamp_cmp (keys_of b.reservations) → keys_of b.reservations ≡ reservations_in (reads b)
-reservations_are b i ascending = names_are b.version (λ name. is_some ((reads b).reservation name)) (keys_of b.reservations) ascending (listed_reservations b i)
+pub reservations_are : (b : BoardValue) → IsBoard b → IsStrictlySortedBy stamp_cmp (keys_of b.reservations) → keys_of b.reservations ≡ reservations_in (board_reads b)
+reservations_are b i ascending = names_are b.version (λ name. is_some ((board_reads b).reservation name)) (keys_of b.reservations) ascending (listed_reservations b i)
     (λ name h. covered_name b.version name (lookup (is_at (stamp_cmp name)) b.reservations) (i.reservations name) ((listed b.reservations name).0 h))

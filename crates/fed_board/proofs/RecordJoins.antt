@@ -13,14 +13,14 @@ use Rattle.fed_lattice.specs.LatestLaws.{stamp_total}
 use Rattle.fed_lattice.specs.Register.{joined_registers}
 use Rattle.fed_lattice.specs.Table.{value_at}
 use Rattle.fed_lattice.proofs.EntryValues.{value_at-joined_entries, each_joined_entries}
-use Rattle.fed_record.specs.JobRecord.{JobRecordValue, reads as reads_job}
-use Rattle.fed_record.specs.JobSteps.{join_jobs}
-use Rattle.fed_record.specs.JobView.{JobView}
-use Rattle.fed_record.specs.Letter.{is_submitted}
-use Rattle.fed_record.specs.Reservation.{ReservationView}
-use Rattle.fed_record.specs.ValueOrders.{option_window_cmp}
-use Rattle.fed_board.specs.Board.{BoardValue, IsBoard, IsKnownJob, IsKnownReservation, no_operation, reads, with_records}
-use Rattle.fed_board.specs.ViewSteps.{join_records}
+use Rattle.fed_record.specs.JobRecord.{JobRecordValue, job_reads}
+use Rattle.fed_theory.specs.JobSteps.{join_jobs}
+use Rattle.fed_model.specs.JobView.{JobView}
+use Rattle.fed_model.specs.Letter.{is_submitted}
+use Rattle.fed_model.specs.Reservation.{ReservationView}
+use Rattle.fed_theory.specs.ValueOrders.{option_window_cmp}
+use Rattle.fed_board.specs.Board.{BoardValue, IsBoard, IsKnownJob, IsKnownReservation, no_operation, board_reads, with_records}
+use Rattle.fed_theory.specs.ViewSteps.{join_records}
 use Rattle.fed_board.proofs.BoardKeeps.{joined_known, joined_known_reservation}
 use Rattle.fed_board.proofs.CoveredJobs.{later_covered}
 use Rattle.fed_board.proofs.ListedNames.{submitted_found}
@@ -51,7 +51,7 @@ joined_none false None y None i e = ap (λ r. joined_registers option_window_cmp
 joined_none false (Some p) y None i e = ap (λ r. joined_registers option_window_cmp (Some p) r) (sym e)
 
 module _ (join : JobRecordValue → List ℕ → JobRecordValue → List ℕ → JobRecordValue)
-    (law : (r q : JobRecordValue) (v w : List ℕ) → reads_job (join r v q w) ≡ join_jobs v (reads_job r) w (reads_job q))
+    (law : (r q : JobRecordValue) (v w : List ℕ) → job_reads (join r v q w) ≡ join_jobs v (job_reads r) w (job_reads q))
     (b c : BoardValue) where
   abbrev version : List ℕ
   version = joined b.version c.version
@@ -73,15 +73,15 @@ module _ (join : JobRecordValue → List ℕ → JobRecordValue → List ℕ →
   new_job name = value_at stamp_cmp no_operation c.jobs name
 
   abbrev job_by : Bool → StampValue → JobView
-  job_by t name = cond t (join_jobs b.version (reads_job (old_job name)) c.version (reads_job (new_job name))) (reads_job (old_job name))
+  job_by t name = cond t (join_jobs b.version (job_reads (old_job name)) c.version (job_reads (new_job name))) (job_reads (old_job name))
 
-  job_reads : IsBoard c → (name : StampValue) → reads_job (value_at stamp_cmp no_operation (with_records join b c).jobs name) ≡ job_by (is_submitted (reads_job (new_job name))) name
-  job_reads k name =
-      ap reads_job (value_at-joined_entries stamp_cmp stamp_total exact_stamp no_operation join b.jobs c.jobs b.version c.version name)
+  joined_job_read : IsBoard c → (name : StampValue) → job_reads (value_at stamp_cmp no_operation (with_records join b c).jobs name) ≡ job_by (is_submitted (job_reads (new_job name))) name
+  joined_job_read k name =
+      ap job_reads (value_at-joined_entries stamp_cmp stamp_total exact_stamp no_operation join b.jobs c.jobs b.version c.version name)
       ∙ go (is_some (lookup (is_at (stamp_cmp name)) c.jobs))
       ∙ ap (λ t. job_by t name) (sym (submitted_found c.version name (lookup (is_at (stamp_cmp name)) c.jobs) (k.jobs name)))
     where
-      go : (t : Bool) → reads_job (cond t (join (old_job name) b.version (new_job name) c.version) (old_job name)) ≡ job_by t name
+      go : (t : Bool) → job_reads (cond t (join (old_job name) b.version (new_job name) c.version) (old_job name)) ≡ job_by t name
       go true = law (old_job name) (new_job name) b.version c.version
       go false = refl
 
@@ -90,11 +90,11 @@ module _ (join : JobRecordValue → List ℕ → JobRecordValue → List ℕ →
       value_at-joined_entries stamp_cmp stamp_total exact_stamp None (λ x v y w. joined_registers option_window_cmp x y) b.reservations c.reservations b.version c.version name
       ∙ joined_none (is_some (lookup (is_at (stamp_cmp name)) c.reservations)) (value_at stamp_cmp None b.reservations name) (value_at stamp_cmp None c.reservations name) (lookup (is_at (stamp_cmp name)) c.reservations) refl refl
 
-  pub with_records_reads : IsBoard c → reads (with_records join b c) ≡ join_records (reads b) (reads c)
+  pub with_records_reads : IsBoard c → board_reads (with_records join b c) ≡ join_records (board_reads b) (board_reads c)
   unfolding join_records
   with_records_reads k = λ i. record {
     version = version;
-    job = λ name. job_reads k name i;
+    job = λ name. joined_job_read k name i;
     reservation = λ name. reservation_reads name i;
   }
 

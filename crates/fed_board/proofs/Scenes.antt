@@ -4,19 +4,19 @@ use Rattle.std.specs.Prelude.{pos, Some, None, replicate}
 use Rattle.fed_stamp.specs.Stamp.{StampValue}
 use Rattle.fed_stamp.specs.Version.{joined}
 use Rattle.fed_lattice.specs.History.{History}
-use Rattle.fed_record.specs.declared.grants.GrantStage.TheVariants.{Open, Returned}
-use Rattle.fed_record.specs.declared.holds.HoldKind.TheVariants.{User}
-use Rattle.fed_record.specs.declared.letters.Letter.TheVariants.{Exiting, Running, Held, Granted, Queued}
-use Rattle.fed_record.specs.declared.values.Changes.{Changes}
-use Rattle.fed_record.specs.declared.values.JobValues.{JobValues}
-use Rattle.fed_record.specs.declared.windows.Window.{Window}
-use Rattle.fed_record.specs.Body.{Body, Body.Submit, Body.Set, Body.Hold, Body.Release, Body.Delete, Body.Grant, Body.HandBack, Body.Begin, Body.Finish, Body.Reserve, Body.Cancel}
+use Rattle.fed_model.specs.declared.grants.GrantStage.TheVariants.{Open, Returned}
+use Rattle.fed_model.specs.declared.holds.HoldKind.TheVariants.{User}
+use Rattle.fed_model.specs.declared.letters.Letter.TheVariants.{Exiting, Running, Held, Granted, Queued}
+use Rattle.fed_model.specs.declared.values.Changes.{Changes}
+use Rattle.fed_model.specs.declared.values.JobValues.{JobValues}
+use Rattle.fed_model.specs.declared.windows.Window.{Window}
+use Rattle.fed_model.specs.Body.{Body, Body.Submit, Body.Set, Body.Hold, Body.Release, Body.Delete, Body.Grant, Body.HandBack, Body.Begin, Body.Finish, Body.Reserve, Body.Cancel}
 use Rattle.fed_record.specs.Operation.{has_site_pair, has_hold_pair}
-use Rattle.fed_record.specs.JobSteps.{add_to_job, join_jobs}
-use Rattle.fed_record.specs.Letter.{any_below, has_site, is_submitted, letter}
-use Rattle.fed_board.specs.Names.{jobs_in, reservations_in}
-use Rattle.fed_board.specs.View.{view}
-use Rattle.fed_board.specs.ViewSteps.{add_to_view, join_views}
+use Rattle.fed_theory.specs.JobSteps.{add_to_job, join_jobs}
+use Rattle.fed_model.specs.Letter.{any_below, has_site, is_submitted, letter}
+use Rattle.fed_model.specs.Names.{jobs_in, reservations_in}
+use Rattle.fed_model.specs.View.{view}
+use Rattle.fed_theory.specs.ViewSteps.{add_to_view, join_views}
 
 abbrev pub at : ℕ → ℕ → StampValue
 at counter site = record { counter = counter; site = site }

@@ -3,11 +3,11 @@ use Rattle.std.proofs.Common.{◌≡◌, false, [], ◌∷◌, ◌++◌, sym, ap
 use Rattle.fed_stamp.specs.Stamp.{StampValue}
 use Rattle.fed_stamp.specs.Version.{covers}
 use Rattle.fed_lattice.specs.History.{History}
-use Rattle.fed_record.specs.Body.{Body}
-use Rattle.fed_board.specs.Lawful.{IsLawful, AreKin}
-use Rattle.fed_board.specs.View.{View, view}
-use Rattle.fed_board.specs.ViewSteps.{add_to_view, join_views}
-use Rattle.fed_board.proofs.ViewLaws.{view_push, view_union}
+use Rattle.fed_model.specs.Body.{Body}
+use Rattle.fed_model.specs.Lawful.{IsLawful, AreKin}
+use Rattle.fed_model.specs.View.{View, view}
+use Rattle.fed_theory.specs.ViewSteps.{add_to_view, join_views}
+use Rattle.fed_theory.proofs.ViewLaws.{view_push, view_union}
 
 -- an operation of a stamp that is not covered
 pub stands_added : (v w : View) (e : StampValue × Body) → covers v.version e.0 ≡ false → w ≡ add_to_view v e

@@ -6,13 +6,13 @@ use Rattle.std.proofs.lemmas.Bool.{and_parts, and_from}
 use Rattle.fed_stamp.specs.Stamp.{StampValue}
 use Rattle.fed_lattice.specs.Register.{stamped_cmp, joined_registers}
 use Rattle.fed_lattice.specs.Stamped.{with_stamp}
-use Rattle.fed_record.specs.declared.values.JobValues.{JobValues}
-use Rattle.fed_record.specs.Body.{Body, Body.Submit}
-use Rattle.fed_record.specs.Field.{owner_in, name_in, priority_in, nodes_in, limit_in, account_in}
-use Rattle.fed_record.specs.JobSteps.{add_to_job, join_jobs}
-use Rattle.fed_record.specs.JobView.{JobView}
-use Rattle.fed_record.specs.Letter.{is_submitted}
-use Rattle.fed_record.specs.ValueOrders.{name_cmp, account_cmp}
+use Rattle.fed_model.specs.declared.values.JobValues.{JobValues}
+use Rattle.fed_model.specs.Body.{Body, Body.Submit}
+use Rattle.fed_model.specs.Field.{owner_in, name_in, priority_in, nodes_in, limit_in, account_in}
+use Rattle.fed_theory.specs.JobSteps.{add_to_job, join_jobs}
+use Rattle.fed_model.specs.JobView.{JobView}
+use Rattle.fed_model.specs.Letter.{is_submitted}
+use Rattle.fed_theory.specs.ValueOrders.{name_cmp, account_cmp}
 
 some_of_two : {T : Type 0} (b : Bool) (x y : T) → is_some (cond b (Some x) (Some y)) ≡ true
 some_of_two true x y = refl

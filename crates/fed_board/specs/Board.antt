@@ -11,13 +11,14 @@ use Rattle.fed_lattice.specs.Stamped.{with_stamp}
 use Rattle.fed_lattice.specs.Table.{IsAtEach, value_at, joined_tables, applied_table}
 use Rattle.fed_lattice.specs.JoinedEntries.{joined_entries}
 use Rattle.fed_record.specs.declared.operations.Operation.{Operation}
-use Rattle.fed_record.specs.Body.{Body, Body.Submit, Body.Set, Body.Hold, Body.Release, Body.Delete, Body.Grant, Body.HandBack, Body.Begin, Body.Finish, Body.Reserve, Body.Cancel}
-use Rattle.fed_record.specs.JobRecord.{JobRecordValue, reads as reads_job}
-use Rattle.fed_record.specs.Letter.{is_submitted}
-use Rattle.fed_record.specs.Reservation.{ReservationView, window_change}
-use Rattle.fed_record.specs.ValueOrders.{option_window_cmp}
+use Rattle.fed_model.specs.Body.{Body, Body.Submit, Body.Set, Body.Hold, Body.Release, Body.Delete, Body.Grant, Body.HandBack, Body.Begin, Body.Finish, Body.Reserve, Body.Cancel}
+use Rattle.fed_record.specs.JobRecord.{JobRecordValue, job_reads}
+use Rattle.fed_model.specs.Letter.{is_submitted}
+use Rattle.fed_model.specs.Reservation.{ReservationView}
+use Rattle.fed_record.specs.Reservation.{window_change}
+use Rattle.fed_theory.specs.ValueOrders.{option_window_cmp}
 use Rattle.fed_board.specs.CoveredJob.{IsCoveredRegister, IsCoveredJob}
-use Rattle.fed_board.specs.View.{View}
+use Rattle.fed_model.specs.View.{View}
 
 -- a version, the records of jobs by the stamps of their Submits, and the reservations by the stamps of their Reserves
 pub record BoardValue : Type 0 where
@@ -37,10 +38,10 @@ no_operation = record {
 
 -- a board stands for a set of operations where it reads as the set's view. A job that is not on the board reads as
 -- one without operations, and so does a reservation
-abbrev pub reads : BoardValue → View
-reads b = record {
+abbrev pub board_reads : BoardValue → View
+board_reads b = record {
   version = b.version;
-  job = λ job. reads_job (value_at stamp_cmp no_operation b.jobs job);
+  job = λ job. job_reads (value_at stamp_cmp no_operation b.jobs job);
   reservation = λ name. value_at stamp_cmp None b.reservations name;
 }
 
@@ -49,9 +50,9 @@ reads b = record {
 pub record IsKnownJob (version : List ℕ) (job : StampValue) (r : JobRecordValue) : Type 0 where
   pub placed : job.site < SITES
   pub named : covers version job ≡ true
-  pub submitted : is_submitted (reads_job r) ≡ true
+  pub submitted : is_submitted (job_reads r) ≡ true
   pub touched : is_below r.touched version ≡ true
-  pub stamps : IsCoveredJob (reads_job r)
+  pub stamps : IsCoveredJob (job_reads r)
 
 -- the reservation's name is of one of the 16 sites and is covered, the reservation is made, and its greatest stamp is
 -- covered

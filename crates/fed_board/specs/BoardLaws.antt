@@ -9,7 +9,7 @@ use Rattle.fed_lattice.specs.Exact.{TellsApart}
 use Rattle.fed_lattice.specs.ExactLaws.{tells_numbers, tells_stamps, tells_pairs, tells_lists}
 use Rattle.fed_record.specs.JobRecord.{JobRecordValue}
 use Rattle.fed_record.specs.JobRecordLaws.{same_job_record, tells_job_records}
-use Rattle.fed_record.specs.Reservation.{ReservationView}
+use Rattle.fed_model.specs.Reservation.{ReservationView}
 use Rattle.fed_record.specs.ReservationLaws.{same_reservation, tells_reservations}
 use Rattle.fed_board.specs.Board.{BoardValue}
 

@@ -3,8 +3,8 @@ use Rattle.std.specs.Prelude.{◌≡◌, ℕ, Bool, true, List, length, Option, 
 use Rattle.fed_stamp.specs.declared.sites.TheConstants.{SITES}
 use Rattle.fed_stamp.specs.Stamp.{StampValue}
 use Rattle.fed_stamp.specs.Version.{covers}
-use Rattle.fed_record.specs.Grant.{stamp_of}
-use Rattle.fed_record.specs.JobView.{JobView}
+use Rattle.fed_model.specs.Grant.{stamp_of}
+use Rattle.fed_model.specs.JobView.{JobView}
 
 -- the stamp of what is there, if anything is
 abbrev pub IsCoveredAt : {T : Type 0} → (T → StampValue) → List ℕ → Option T → Type 0

@@ -1,8 +1,4 @@
 -- What the contracts of this crate cite.
-pub mod View
-pub mod Names
-pub mod ViewSteps
-pub mod Lawful
 pub mod CoveredJob
 pub mod Board
 pub mod Counts

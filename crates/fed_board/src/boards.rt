@@ -12,24 +12,24 @@ ghost use Rattle.fed_lattice.specs.Sets.{Has};
 ghost use Rattle.fed_lattice.specs.History.{History};
 ghost use Rattle.fed_lattice.specs.Latest.{stamp_cmp};
 ghost use Rattle.fed_lattice.specs.Table.{IsTable};
-ghost use Rattle.fed_record.specs.Body.{Body, job_of, reservation_of};
-ghost use Rattle.fed_record.specs.JobRecord.{JobRecordValue, reads as reads_job};
-ghost use Rattle.fed_record.specs.Letter.{is_submitted};
+ghost use Rattle.fed_model.specs.Body.{Body, job_of, reservation_of};
+ghost use Rattle.fed_record.specs.JobRecord.{JobRecordValue, job_reads};
+ghost use Rattle.fed_model.specs.Letter.{is_submitted};
 ghost use Rattle.fed_record.specs.Operation.{body_of};
-ghost use Rattle.fed_record.specs.Reservation.{ReservationView};
-ghost use Rattle.fed_board.specs.Board.{IsBoard, HasNamed, reads, merged, with_records, changed_job, changed_reservation};
+ghost use Rattle.fed_model.specs.Reservation.{ReservationView};
+ghost use Rattle.fed_board.specs.Board.{IsBoard, HasNamed, board_reads, merged, with_records, changed_job, changed_reservation};
 ghost use Rattle.fed_board.specs.Changes.{is_later};
 ghost use Rattle.fed_board.specs.Counts.{names_of};
-ghost use Rattle.fed_board.specs.Lawful.{IsLawful, AreKin};
-ghost use Rattle.fed_board.specs.Names.{jobs_in, reservations_in};
-ghost use Rattle.fed_board.specs.View.{view};
-ghost use Rattle.fed_board.specs.ViewSteps.{add_to_view, join_views, join_records};
+ghost use Rattle.fed_model.specs.Lawful.{IsLawful, AreKin};
+ghost use Rattle.fed_model.specs.Names.{jobs_in, reservations_in};
+ghost use Rattle.fed_model.specs.View.{view};
+ghost use Rattle.fed_theory.specs.ViewSteps.{add_to_view, join_views, join_records};
 
 use crate::counts::{change_at, count_more, count_names};
 use crate::noting::{changed_after, forget_all, none_after, note_at, note_records};
 use crate::records::Records;
 use crate::site_changes::SiteChanges;
-use fed_lattice::{Causal, Entries, ExactEq, NoMemory, Table, join_entries};
+use fed_lattice::{Causal, Entries, ExactEq, NoMemory, Table, join_entries, table_is_well_formed};
 use fed_record::{JobRecord, Operation, Reservation};
 use fed_stamp::{JobId, SITES, SiteId, Stamp, Version};
 use std::alloc::Global;
@@ -68,7 +68,7 @@ impl Board {
     /// The board of no operation.
     pub fn new(alloc: Global) -> Board
         ensures value { result ≡ record { version = replicate SITES 0; jobs = []; reservations = [] } }
-        ensures stands { reads result ≡ view [] }
+        ensures stands { board_reads result ≡ view [] }
     {
         let version = Version::default();
         Board {
@@ -116,8 +116,8 @@ impl Board {
     /// submitted.
     pub fn job(&self, job: JobId) -> Option<&JobRecord>
         ensures value { option_copied result ≡ lookup (is_at (stamp_cmp job)) self.now.jobs }
-        ensures reads { MatchOption (option_copied result) (IsTrue (is_submitted ((reads self.now).job job)) → ⊥)
-            (λ r. (reads_job r ≡ (reads self.now).job job) × IsTrue (is_submitted (reads_job r))) }
+        ensures reads { MatchOption (option_copied result) (IsTrue (is_submitted ((board_reads self.now).job job)) → ⊥)
+            (λ r. (job_reads r ≡ (board_reads self.now).job job) × IsTrue (is_submitted (job_reads r))) }
     {
         self.jobs.get(job)
     }
@@ -128,10 +128,10 @@ impl Board {
         ensures entries { result ≡ self.now.jobs }
         ensures runs { ShowsInOrder (deref_pair {K = StampValue} {X = JobRecordValue}) }
         ensures ascending { IsStrictlySortedBy stamp_cmp (keys_of self.now.jobs) }
-        ensures submitted { All (λ r. IsTrue (is_submitted (reads_job r))) (values_of self.now.jobs) }
+        ensures submitted { All (λ r. IsTrue (is_submitted (job_reads r))) (values_of self.now.jobs) }
         ensures all { (job : StampValue) →
-            Has (keys_of self.now.jobs) job ↔ IsTrue (is_submitted ((reads self.now).job job)) }
-        ensures names { keys_of self.now.jobs ≡ jobs_in (reads self.now) }
+            Has (keys_of self.now.jobs) job ↔ IsTrue (is_submitted ((board_reads self.now).job job)) }
+        ensures names { keys_of self.now.jobs ≡ jobs_in (board_reads self.now) }
         ensures well_formed { All ⟦<JobRecord as Causal>⟧.well_formed (values_of self.now.jobs) }
     {
         self.jobs.iter()
@@ -143,8 +143,7 @@ impl Board {
         ensures changed { IfOk result (λ r. r ≡ filter (λ e. is_later need.now e.1) self.now.jobs) }
         ensures ascending { OnOk result (IsStrictlySortedBy stamp_cmp (keys_of self.now.jobs)) }
     {
-        // the call tells that the table is well formed
-        let _jobs = self.jobs.iter();
+        table_is_well_formed(&self.jobs);
         changed_after(self.alloc, &self.changes, &self.jobs, need)
     }
 
@@ -152,8 +151,8 @@ impl Board {
     /// is made.
     pub fn reservation(&self, name: Stamp) -> Option<&Reservation>
         ensures value { option_copied result ≡ lookup (is_at (stamp_cmp name)) self.now.reservations }
-        ensures reads { MatchOption (option_copied result) ((reads self.now).reservation name ≡ None)
-            (λ r. (r ≡ (reads self.now).reservation name) × IsSome r) }
+        ensures reads { MatchOption (option_copied result) ((board_reads self.now).reservation name ≡ None)
+            (λ r. (r ≡ (board_reads self.now).reservation name) × IsSome r) }
     {
         self.reservations.get(name)
     }
@@ -166,8 +165,8 @@ impl Board {
         ensures ascending { IsStrictlySortedBy stamp_cmp (keys_of self.now.reservations) }
         ensures made { All IsSome (values_of self.now.reservations) }
         ensures all { (name : StampValue) →
-            Has (keys_of self.now.reservations) name ↔ IsSome ((reads self.now).reservation name) }
-        ensures names { keys_of self.now.reservations ≡ reservations_in (reads self.now) }
+            Has (keys_of self.now.reservations) name ↔ IsSome ((board_reads self.now).reservation name) }
+        ensures names { keys_of self.now.reservations ≡ reservations_in (board_reads self.now) }
     {
         self.reservations.iter()
     }
@@ -203,12 +202,12 @@ impl Board {
     }
 
     // That the tables are well formed.
-    pub(crate) fn see_tables(&self)
+    pub(crate) fn tables_are_well_formed(&self)
         ensures jobs { IsTable stamp_cmp ⟦<JobRecord as Causal>⟧.well_formed self.now.jobs }
         ensures reservations { IsTable stamp_cmp ⟦<Reservation as Causal>⟧.well_formed self.now.reservations }
     {
-        let _jobs = self.jobs.iter();
-        let _reservations = self.reservations.iter();
+        table_is_well_formed(&self.jobs);
+        table_is_well_formed(&self.reservations);
     }
 
     // Changes the record of the job that the operation is of.
@@ -275,9 +274,9 @@ impl Board {
     pub fn apply(&mut self, at: Stamp, operation: &Operation) -> Result<(), NoMemory>
         requires fresh { covers self.old.version at ≡ false }
         requires named { HasNamed self.old (body_of operation.now) }
-        ensures added { OnOk result (reads self.new ≡ add_to_view (reads self.old) (at, body_of operation.now)) }
-        ensures stands { OnOk result ((ops : History Body) → IsLawful ops → reads self.old ≡ view ops →
-            reads self.new ≡ view (ops ++ (at, body_of operation.now) ∷ [])) }
+        ensures added { OnOk result (board_reads self.new ≡ add_to_view (board_reads self.old) (at, body_of operation.now)) }
+        ensures stands { OnOk result ((ops : History Body) → IsLawful ops → board_reads self.old ≡ view ops →
+            board_reads self.new ≡ view (ops ++ (at, body_of operation.now) ∷ [])) }
         ensures unchanged { OnErr result (self.new ≡ self.old) }
     {
         match operation.job(at) {
@@ -291,9 +290,9 @@ impl Board {
     /// before.
     pub fn merge(&mut self, other: &Board) -> Result<(), NoMemory>
         ensures value { OnOk result (self.new ≡ merged ⟦<JobRecord as Causal>⟧.joined self.old other.now) }
-        ensures joined { OnOk result (reads self.new ≡ join_views (reads self.old) (reads other.now)) }
-        ensures stands { OnOk result ((ops others : History Body) → AreKin ops others → reads self.old ≡ view ops →
-            reads other.now ≡ view others → reads self.new ≡ view (ops ++ others)) }
+        ensures joined { OnOk result (board_reads self.new ≡ join_views (board_reads self.old) (board_reads other.now)) }
+        ensures stands { OnOk result ((ops others : History Body) → AreKin ops others → board_reads self.old ≡ view ops →
+            board_reads other.now ≡ view others → board_reads self.new ≡ view (ops ++ others)) }
         ensures unchanged { OnErr result (self.new ≡ self.old) }
     {
         let jobs = self.jobs.join(&self.version, &other.jobs, &other.version)?;
@@ -314,11 +313,11 @@ impl Board {
     /// The time that it takes grows with the records, and with the logarithm of those that are here.
     pub fn join_records(&mut self, other: &Records) -> Result<(), NoMemory>
         ensures value { OnOk result (self.new ≡ with_records ⟦<JobRecord as Causal>⟧.joined self.old other.now) }
-        ensures joined { OnOk result (reads self.new ≡ join_records (reads self.old) (reads other.now)) }
+        ensures joined { OnOk result (board_reads self.new ≡ join_records (board_reads self.old) (board_reads other.now)) }
         ensures unchanged { OnErr result (self.new ≡ self.old) }
     {
-        self.see_tables();
-        other.see_tables();
+        self.tables_are_well_formed();
+        other.tables_are_well_formed();
         note_records(self.alloc, &mut self.changes, &self.jobs, &other.jobs)?;
         let theirs = &other.version;
         let (jobs, reservations) = join_entries(

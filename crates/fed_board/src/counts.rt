@@ -5,7 +5,7 @@ ghost use Rattle.fed_lattice.specs.Latest.{stamp_cmp};
 ghost use Rattle.fed_lattice.specs.Table.{applied_table};
 ghost use Rattle.fed_board.specs.Counts.{AreCounts, AreCounting};
 
-use fed_lattice::{Causal, NoMemory, Table};
+use fed_lattice::{Causal, NoMemory, Table, table_is_countable};
 use fed_record::Operation;
 use fed_stamp::{SITES, Stamp};
 
@@ -13,8 +13,7 @@ use fed_stamp::{SITES, Stamp};
 pub(crate) fn count_names<V: Causal + Drop>(table: &Table<Stamp, V>) -> [u64; SITES]
     ensures { AreCounts result (keys_of table.now) }
 {
-    // the call tells that the table is well formed, as its type keeps it
-    let _names = table.len();
+    table_is_countable(table);
     let mut counts = [0; SITES];
     for (name, _value) in table.iter() {
         counts[name.site().get() as usize] += 1;
@@ -31,8 +30,7 @@ pub(crate) fn count_more<V: Causal + Drop>(
     requires { AreCounting counts names.now (keys_of table.now) }
     ensures { AreCounts result (keys_of table.now) }
 {
-    // the call tells that the table is well formed, as its type keeps it
-    let _names = table.len();
+    table_is_countable(table);
     let mut more = counts;
     for name in names {
         more[name.site().get() as usize] += 1;

@@ -1,4 +1,4 @@
-//! What a set of operations says as a whole, and the boards that stand for such sets.
+//! Boards, which stand for sets of operations: each reads as the view of its set.
 #![tactic(auto)]
 
 /// Boards, what is read of them, and how they change and merge.
@@ -9,10 +9,8 @@ mod changed_jobs;
 mod changes;
 /// How many names each site gave.
 pub mod counts;
-/// Laws of what is read of sets of operations.
-pub mod laws;
-/// How many jobs and reservations a site may name.
-pub mod limits;
+/// Facts that the types keep.
+pub mod facts;
 /// The laws of merging, on all boards.
 pub mod merging;
 /// How the changes of jobs are listed.
@@ -27,7 +25,8 @@ mod rises;
 mod site_changes;
 
 pub use boards::Board;
-pub use limits::{MAX_JOBS, MAX_RESERVATIONS};
+pub use facts::{board_is_covered, board_is_in_order, records_are_covered, records_are_in_order};
+pub use fed_model::{MAX_JOBS, MAX_RESERVATIONS};
 pub use merging::{merging_is_associative, merging_is_commutative, merging_is_idempotent};
 pub use readings::{boards_that_read_the_same_are_equal, records_that_read_the_same_are_equal};
 pub use records::Records;

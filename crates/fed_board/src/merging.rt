@@ -28,9 +28,9 @@ pub fn merging_is_associative(a: &Board, b: &Board, c: &Board)
 {
     joins_are_associative::<Table<JobId, JobRecord>>();
     joins_are_associative::<Table<Stamp, Reservation>>();
-    a.see_tables();
-    b.see_tables();
-    c.see_tables();
+    a.tables_are_well_formed();
+    b.tables_are_well_formed();
+    c.tables_are_well_formed();
 }
 
 /// Two boards merge to the same from either side.
@@ -39,8 +39,8 @@ pub fn merging_is_commutative(a: &Board, b: &Board)
 {
     joins_are_commutative::<Table<JobId, JobRecord>>();
     joins_are_commutative::<Table<Stamp, Reservation>>();
-    a.see_tables();
-    b.see_tables();
+    a.tables_are_well_formed();
+    b.tables_are_well_formed();
 }
 
 /// A board merges with itself to itself.
@@ -49,5 +49,5 @@ pub fn merging_is_idempotent(a: &Board)
 {
     joins_are_idempotent::<Table<JobId, JobRecord>>();
     joins_are_idempotent::<Table<Stamp, Reservation>>();
-    a.see_tables();
+    a.tables_are_well_formed();
 }

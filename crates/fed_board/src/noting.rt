@@ -12,7 +12,7 @@ ghost use Rattle.fed_board.specs.Changes.{AreAmong, IsListed, AreListed, AreRise
 use crate::changed_jobs::all_changed;
 use crate::rises::Rise;
 use crate::site_changes::SiteChanges;
-use fed_lattice::{Causal, NoMemory, Table};
+use fed_lattice::{Causal, NoMemory, Table, table_is_well_formed};
 use fed_record::JobRecord;
 use fed_stamp::{JobId, SITES, Version};
 use std::alloc::Global;
@@ -151,13 +151,12 @@ fn listed_changed(
     requires after { (s : ℕ) → s < SITES → (site_at changes.now s).floor ≤ slice_index need.now s }
     ensures changed { IfOk result (λ r. r ≡ filter (λ e. is_later need.now e.1) jobs.now) }
 {
-    // the calls tell that the tables are well formed
-    let _jobs = jobs.iter();
+    table_is_well_formed(jobs);
     let mut changed = Table::bottom(alloc);
     for site in 0..SITES {
         changes[site].add_later(&mut changed, jobs, need, u64::from(need.counters()[site]))?;
     }
-    let _changed = changed.iter();
+    table_is_well_formed(&changed);
     Ok(changed)
 }
 

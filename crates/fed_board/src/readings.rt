@@ -1,26 +1,27 @@
 //! That boards are told apart by what they read as.
 ghost use Rattle.std.specs.Prelude.{◌≡◌};
-ghost use Rattle.fed_board.specs.Board.{reads};
+ghost use Rattle.fed_board.specs.Board.{board_reads};
 
 use crate::boards::Board;
+use crate::facts::{board_is_covered, records_are_covered};
 use crate::records::Records;
 
 /// Boards that read the same are equal: all that a board has can be read of it.
 pub fn boards_that_read_the_same_are_equal(a: &Board, b: &Board)
-    ensures { reads a.now ≡ reads b.now → a.now ≡ b.now }
+    ensures { board_reads a.now ≡ board_reads b.now → a.now ≡ b.now }
 {
-    // what `version` ensures is the invariant of a board
-    let _versions = (a.version(), b.version());
-    a.see_tables();
-    b.see_tables();
+    board_is_covered(a);
+    board_is_covered(b);
+    a.tables_are_well_formed();
+    b.tables_are_well_formed();
 }
 
 /// Records that read the same are equal.
 pub fn records_that_read_the_same_are_equal(a: &Records, b: &Records)
-    ensures { reads a.now ≡ reads b.now → a.now ≡ b.now }
+    ensures { board_reads a.now ≡ board_reads b.now → a.now ≡ b.now }
 {
-    // what `version` ensures is the invariant of the records
-    let _versions = (a.version(), b.version());
-    a.see_tables();
-    b.see_tables();
+    records_are_covered(a);
+    records_are_covered(b);
+    a.tables_are_well_formed();
+    b.tables_are_well_formed();
 }

@@ -6,14 +6,14 @@ ghost use Rattle.std.specs.Map.Iter.{ShowsInOrder, deref_pair};
 ghost use Rattle.fed_stamp.specs.Stamp.{StampValue};
 ghost use Rattle.fed_lattice.specs.Latest.{stamp_cmp};
 ghost use Rattle.fed_lattice.specs.Table.{IsTable};
-ghost use Rattle.fed_record.specs.JobRecord.{JobRecordValue, reads as reads_job};
-ghost use Rattle.fed_record.specs.Letter.{is_submitted};
-ghost use Rattle.fed_record.specs.Reservation.{ReservationView};
-ghost use Rattle.fed_board.specs.Board.{IsBoard, reads};
-ghost use Rattle.fed_board.specs.Names.{jobs_in, reservations_in};
+ghost use Rattle.fed_record.specs.JobRecord.{JobRecordValue, job_reads};
+ghost use Rattle.fed_model.specs.Letter.{is_submitted};
+ghost use Rattle.fed_model.specs.Reservation.{ReservationView};
+ghost use Rattle.fed_board.specs.Board.{IsBoard, board_reads};
+ghost use Rattle.fed_model.specs.Names.{jobs_in, reservations_in};
 
 use crate::boards::is_same;
-use fed_lattice::{Causal, Entries, Table};
+use fed_lattice::{Causal, Entries, Table, table_is_well_formed};
 use fed_record::{JobRecord, Reservation};
 use fed_stamp::{JobId, Stamp, Version};
 use std::marker::Model;
@@ -68,8 +68,8 @@ impl Records {
         ensures entries { result ≡ self.now.jobs }
         ensures runs { ShowsInOrder (deref_pair {K = StampValue} {X = JobRecordValue}) }
         ensures ascending { IsStrictlySortedBy stamp_cmp (keys_of self.now.jobs) }
-        ensures submitted { All (λ r. IsTrue (is_submitted (reads_job r))) (values_of self.now.jobs) }
-        ensures names { keys_of self.now.jobs ≡ jobs_in (reads self.now) }
+        ensures submitted { All (λ r. IsTrue (is_submitted (job_reads r))) (values_of self.now.jobs) }
+        ensures names { keys_of self.now.jobs ≡ jobs_in (board_reads self.now) }
         ensures well_formed { All ⟦<JobRecord as Causal>⟧.well_formed (values_of self.now.jobs) }
     {
         self.jobs.iter()
@@ -81,18 +81,18 @@ impl Records {
         ensures runs { ShowsInOrder (deref_pair {K = StampValue} {X = ReservationView}) }
         ensures ascending { IsStrictlySortedBy stamp_cmp (keys_of self.now.reservations) }
         ensures made { All IsSome (values_of self.now.reservations) }
-        ensures names { keys_of self.now.reservations ≡ reservations_in (reads self.now) }
+        ensures names { keys_of self.now.reservations ≡ reservations_in (board_reads self.now) }
     {
         self.reservations.iter()
     }
 
     // That the tables are well formed.
-    pub(crate) fn see_tables(&self)
+    pub(crate) fn tables_are_well_formed(&self)
         ensures jobs { IsTable stamp_cmp ⟦<JobRecord as Causal>⟧.well_formed self.now.jobs }
         ensures reservations { IsTable stamp_cmp ⟦<Reservation as Causal>⟧.well_formed self.now.reservations }
     {
-        let _jobs = self.jobs.iter();
-        let _reservations = self.reservations.iter();
+        table_is_well_formed(&self.jobs);
+        table_is_well_formed(&self.reservations);
     }
 }
 

@@ -7,20 +7,20 @@ use Rattle.fed_stamp.proofs.VersionLaws.{covers_more, below_trans}
 use Rattle.fed_lattice.specs.History.{History}
 use Rattle.fed_lattice.specs.Register.{joined_registers}
 use Rattle.fed_lattice.specs.VersionOf.{version_of}
-use Rattle.fed_record.specs.Body.{Body}
-use Rattle.fed_record.specs.JobSteps.{join_jobs}
-use Rattle.fed_record.specs.JobView.{JobView, job_view}
-use Rattle.fed_record.specs.Letter.{is_submitted}
-use Rattle.fed_record.specs.Reservation.{ReservationView}
-use Rattle.fed_record.specs.ValueOrders.{option_window_cmp}
-use Rattle.fed_board.specs.Lawful.{AreKin}
-use Rattle.fed_board.specs.View.{View, view}
-use Rattle.fed_board.specs.ViewSteps.{join_views, join_records}
+use Rattle.fed_model.specs.Body.{Body}
+use Rattle.fed_theory.specs.JobSteps.{join_jobs}
+use Rattle.fed_model.specs.JobView.{JobView, job_view}
+use Rattle.fed_model.specs.Letter.{is_submitted}
+use Rattle.fed_model.specs.Reservation.{ReservationView}
+use Rattle.fed_theory.specs.ValueOrders.{option_window_cmp}
+use Rattle.fed_model.specs.Lawful.{AreKin}
+use Rattle.fed_model.specs.View.{View, view}
+use Rattle.fed_theory.specs.ViewSteps.{join_views, join_records}
 use Rattle.fed_board.proofs.CoveredJobs.{later_covered}
-use Rattle.fed_board.proofs.KnownLaws.{untouched_job, covered_reservation}
-use Rattle.fed_board.proofs.SubmitLaws.{unknown_view}
-use Rattle.fed_board.proofs.VersionGrowth.{zeros_below}
-use Rattle.fed_board.proofs.ViewLaws.{view_union}
+use Rattle.fed_theory.proofs.KnownLaws.{untouched_job, covered_reservation}
+use Rattle.fed_theory.proofs.SubmitLaws.{unknown_view}
+use Rattle.fed_theory.proofs.VersionGrowth.{zeros_below}
+use Rattle.fed_theory.proofs.ViewLaws.{view_union}
 use Rattle.fed_delta.specs.Cut.{is_changed_job, is_changed_reservation, cut}
 
 -- what is not changed is covered

@@ -9,12 +9,11 @@ use Rattle.std.proofs.lemmas.Map.Keys.{IsDistinct-from_sorted}
 use Rattle.fed_stamp.specs.Stamp.{StampValue}
 use Rattle.fed_lattice.specs.Latest.{stamp_cmp}
 use Rattle.fed_lattice.specs.LatestLaws.{stamp_total}
-use Rattle.fed_lattice.specs.Table.{value_at}
-use Rattle.fed_lattice.specs.Table.{IsAtEach}
-use Rattle.fed_record.specs.JobRecord.{JobRecordValue, reads as reads_job}
-use Rattle.fed_record.specs.JobView.{job_view}
-use Rattle.fed_record.specs.Reservation.{ReservationView}
-use Rattle.fed_board.specs.Board.{BoardValue, IsBoard, IsKnownJob, IsKnownReservation, no_operation, reads}
+use Rattle.fed_lattice.specs.Table.{value_at, IsAtEach}
+use Rattle.fed_record.specs.JobRecord.{JobRecordValue, job_reads}
+use Rattle.fed_model.specs.JobView.{job_view}
+use Rattle.fed_model.specs.Reservation.{ReservationView}
+use Rattle.fed_board.specs.Board.{BoardValue, IsBoard, IsKnownJob, IsKnownReservation, no_operation, board_reads}
 use Rattle.fed_delta.specs.Cut.{is_changed_job, is_changed_reservation, cut}
 
 -- ---- entries whose values pass a test
@@ -37,11 +36,11 @@ same_both : {A : Type 0} (b : Bool) (x : A) → x ≡ cond b x x
 same_both true x = refl
 same_both false x = refl
 
-job_changed : (need : List ℕ) (a : Option JobRecordValue) → reads_job (unwrap_or (option_filter (λ r. is_changed_job need (reads_job r)) a) no_operation)
-    ≡ cond (is_changed_job need (reads_job (unwrap_or a no_operation))) (reads_job (unwrap_or a no_operation)) (job_view [])
-job_changed need None = same_both (is_changed_job need (reads_job no_operation)) (reads_job no_operation)
-job_changed need (Some r) = go (is_changed_job need (reads_job r)) where
-  go : (b : Bool) → reads_job (unwrap_or (cond b (Some r) None) no_operation) ≡ cond b (reads_job r) (job_view [])
+job_changed : (need : List ℕ) (a : Option JobRecordValue) → job_reads (unwrap_or (option_filter (λ r. is_changed_job need (job_reads r)) a) no_operation)
+    ≡ cond (is_changed_job need (job_reads (unwrap_or a no_operation))) (job_reads (unwrap_or a no_operation)) (job_view [])
+job_changed need None = same_both (is_changed_job need (job_reads no_operation)) (job_reads no_operation)
+job_changed need (Some r) = go (is_changed_job need (job_reads r)) where
+  go : (b : Bool) → job_reads (unwrap_or (cond b (Some r) None) no_operation) ≡ cond b (job_reads r) (job_view [])
   go true = refl
   go false = refl
 
@@ -57,20 +56,20 @@ module _ (need : List ℕ) (b : BoardValue) (s : IsStrictlySortedBy stamp_cmp (k
   abbrev changes : BoardValue
   changes = record {
     version = b.version;
-    jobs = filter (λ (e : StampValue × JobRecordValue). is_changed_job need (reads_job e.1)) b.jobs;
+    jobs = filter (λ (e : StampValue × JobRecordValue). is_changed_job need (job_reads e.1)) b.jobs;
     reservations = filter (λ (e : StampValue × ReservationView). is_changed_reservation need e.1) b.reservations;
   }
 
   changes_known : IsBoard b → IsBoard changes
   changes_known i = record {
-    jobs = each_changed (λ r. is_changed_job need (reads_job r)) b.jobs s (IsKnownJob b.version) i.jobs;
+    jobs = each_changed (λ r. is_changed_job need (job_reads r)) b.jobs s (IsKnownJob b.version) i.jobs;
     reservations = each_changed (is_changed_reservation need) b.reservations t (IsKnownReservation b.version) i.reservations;
   }
 
-  job_reads : (name : StampValue) → reads_job (value_at stamp_cmp no_operation changes.jobs name)
-      ≡ cond (is_changed_job need (reads_job (value_at stamp_cmp no_operation b.jobs name))) (reads_job (value_at stamp_cmp no_operation b.jobs name)) (job_view [])
-  job_reads name =
-      ap (λ a. reads_job (unwrap_or a no_operation)) (lookup-changed (λ r. is_changed_job need (reads_job r)) b.jobs s name)
+  changed_job_read : (name : StampValue) → job_reads (value_at stamp_cmp no_operation changes.jobs name)
+      ≡ cond (is_changed_job need (job_reads (value_at stamp_cmp no_operation b.jobs name))) (job_reads (value_at stamp_cmp no_operation b.jobs name)) (job_view [])
+  changed_job_read name =
+      ap (λ a. job_reads (unwrap_or a no_operation)) (lookup-changed (λ r. is_changed_job need (job_reads r)) b.jobs s name)
       ∙ job_changed need (lookup (is_at (stamp_cmp name)) b.jobs)
 
   reservation_reads : (name : StampValue) → value_at stamp_cmp None changes.reservations name
@@ -79,17 +78,17 @@ module _ (need : List ℕ) (b : BoardValue) (s : IsStrictlySortedBy stamp_cmp (k
       ap (λ a. unwrap_or a None) (lookup-changed (is_changed_reservation need) b.reservations t name)
       ∙ reservation_changed need (lookup (is_at (stamp_cmp name)) b.reservations)
 
-  changes_read : reads changes ≡ cut (reads b) need
+  changes_read : board_reads changes ≡ cut (board_reads b) need
   unfolding cut
   changes_read = λ i. record {
     version = b.version;
-    job = λ name. job_reads name i;
+    job = λ name. changed_job_read name i;
     reservation = λ name. reservation_reads name i;
   }
 
   -- the board that is made of them
   module _ (made : BoardValue) (version : made.version ≡ b.version)
-      (jobs : made.jobs ≡ filter (λ (e : StampValue × JobRecordValue). is_changed_job need (reads_job e.1)) b.jobs)
+      (jobs : made.jobs ≡ filter (λ (e : StampValue × JobRecordValue). is_changed_job need (job_reads e.1)) b.jobs)
       (reservations : made.reservations ≡ filter (λ (e : StampValue × ReservationView). is_changed_reservation need e.1) b.reservations) where
     is_changes : made ≡ changes
     is_changes = λ i. record { version = version i; jobs = jobs i; reservations = reservations i }
@@ -97,5 +96,5 @@ module _ (need : List ℕ) (b : BoardValue) (s : IsStrictlySortedBy stamp_cmp (k
     pub made_known : IsBoard b → IsBoard made
     made_known i = subst IsBoard (sym is_changes) (changes_known i)
 
-    pub made_reads : reads made ≡ cut (reads b) need
-    made_reads = ap reads is_changes ∙ changes_read
+    pub made_reads : board_reads made ≡ cut (board_reads b) need
+    made_reads = ap board_reads is_changes ∙ changes_read

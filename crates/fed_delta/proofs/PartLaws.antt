@@ -19,11 +19,11 @@ use Rattle.fed_lattice.specs.LatestLaws.{stamp_total}
 use Rattle.fed_lattice.specs.Table.{IsAtEach}
 use Rattle.fed_tags.specs.Tags.{has, pair_cmp}
 use Rattle.fed_tags.specs.TagLaws.{exact_pair, member, pair_total}
-use Rattle.fed_record.specs.Hold.{kind_cmp}
-use Rattle.fed_record.specs.HoldLaws.{exact_kind, kind_total}
+use Rattle.fed_model.specs.Hold.{kind_cmp}
+use Rattle.fed_model.specs.HoldLaws.{exact_kind, kind_total}
 use Rattle.fed_record.specs.Record.{AreCovered}
-use Rattle.fed_record.specs.JobRecord.{JobRecordValue, reads as reads_job}
-use Rattle.fed_record.specs.Letter.{is_submitted}
+use Rattle.fed_record.specs.JobRecord.{JobRecordValue, job_reads}
+use Rattle.fed_model.specs.Letter.{is_submitted}
 use Rattle.fed_board.specs.Board.{IsKnownJob}
 use Rattle.fed_board.specs.CoveredJob.{AreCoveredPairs, IsCoveredAt}
 use Rattle.fed_delta.specs.Parts.{covers_at, covers_fields, covers_stages}
@@ -92,12 +92,12 @@ live_pairs cmp o exact v ps covered element tag live = (covered (element, tag) (
 
 module _ (version t : List ℕ) (name : StampValue) (r : JobRecordValue) (same : t ≡ r.touched) where
   abbrev covered_fields : List ℕ → Bool
-  covered_fields v = covers_fields v (reads_job r)
+  covered_fields v = covers_fields v (job_reads r)
 
   abbrev covered_stages : List ℕ → Bool
-  covered_stages v = covers_stages v (reads_job r)
+  covered_stages v = covers_stages v (job_reads r)
 
-  pub known_job : name.site < 16 → covers version name ≡ true → is_below t version ≡ true → is_submitted (reads_job r) ≡ true → IsVersion t → AreCovered r.touched r.holds → AreCovered r.touched r.sites
+  pub known_job : name.site < 16 → covers version name ≡ true → is_below t version ≡ true → is_submitted (job_reads r) ≡ true → IsVersion t → AreCovered r.touched r.holds → AreCovered r.touched r.sites
       → covered_fields t ≡ true → covered_stages t ≡ true → IsKnownJob version name r
   known_job placed named below submitted lawful holds sites fields stages =
       let f = subst (λ v. covered_fields v ≡ true) same fields in

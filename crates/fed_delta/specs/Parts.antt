@@ -2,8 +2,8 @@
 use Rattle.std.specs.Prelude.{ℕ, Bool, true, ◌&&◌, List, Option, Some, None}
 use Rattle.fed_stamp.specs.Stamp.{StampValue}
 use Rattle.fed_stamp.specs.Version.{covers}
-use Rattle.fed_record.specs.Grant.{stamp_of}
-use Rattle.fed_record.specs.JobView.{JobView}
+use Rattle.fed_model.specs.Grant.{stamp_of}
+use Rattle.fed_model.specs.JobView.{JobView}
 
 -- the stamp of what is there, if anything is
 abbrev pub covers_at : {T : Type 0} → (T → StampValue) → List ℕ → Option T → Bool

@@ -2,19 +2,19 @@
 ghost use Rattle.std.specs.Prelude.{◌≡◌, ◌↔◌, IsTrue};
 ghost use Rattle.fed_lattice.specs.Latest.{stamp_cmp};
 ghost use Rattle.fed_lattice.specs.Table.{IsAtEach};
-ghost use Rattle.fed_record.specs.JobRecord.{reads};
-ghost use Rattle.fed_record.specs.Letter.{is_submitted};
+ghost use Rattle.fed_record.specs.JobRecord.{job_reads};
+ghost use Rattle.fed_model.specs.Letter.{is_submitted};
 ghost use Rattle.fed_board.specs.Board.{IsBoard, IsKnownJob, IsKnownReservation};
 ghost use Rattle.fed_delta.specs.Parts.{covers_fields as are_fields_covered, covers_stages as are_stages_covered};
 
 use fed_lattice::Table;
-use fed_record::{JobRecord, Reservation};
-use fed_stamp::{JobId, Stamp, Version};
+use fed_record::{JobRecord, Reservation, tags_are_covered};
+use fed_stamp::{JobId, Stamp, Version, site_is_of_sixteen, version_is_of_sixteen};
 
 /// Whether the version covers the stamp of each field.
 fn covers_fields(version: &Version, job: &JobRecord) -> bool
-    requires { IsTrue (is_submitted (reads job.now)) }
-    ensures { result ≡ are_fields_covered version.now (reads job.now) }
+    requires { IsTrue (is_submitted (job_reads job.now)) }
+    ensures { result ≡ are_fields_covered version.now (job_reads job.now) }
 {
     version.covers(job.owner().0)
         && version.covers(job.name().0)
@@ -26,7 +26,7 @@ fn covers_fields(version: &Version, job: &JobRecord) -> bool
 
 /// Whether the version covers the stamps of the grant, the Begin and the Finish.
 fn covers_stages(version: &Version, job: &JobRecord) -> bool
-    ensures { result ≡ are_stages_covered version.now (reads job.now) }
+    ensures { result ≡ are_stages_covered version.now (job_reads job.now) }
 {
     let progress = job.progress();
     let grant = match job.grant() {
@@ -48,13 +48,10 @@ fn covers_stages(version: &Version, job: &JobRecord) -> bool
 fn is_known_job(version: &Version, name: JobId, job: &JobRecord) -> bool
     ensures { IsTrue result ↔ IsKnownJob version.now name job.now }
 {
-    // these are read for what they ensure: the name is of one of the 16 sites, the version has a counter for each, and
-    // what was touched covers each pair
-    let _site = name.site().get();
+    site_is_of_sixteen(name.site());
     let touched = job.touched();
-    let _counters = touched.counters();
-    let _holds = job.hold_tags();
-    let _sites = job.site_tags();
+    version_is_of_sixteen(&touched);
+    tags_are_covered(job);
     if !version.covers(name) || !touched.le(version) {
         return false;
     }
@@ -68,7 +65,7 @@ fn is_known_job(version: &Version, name: JobId, job: &JobRecord) -> bool
 fn is_known_reservation(version: &Version, name: Stamp, reservation: &Reservation) -> bool
     ensures { IsTrue result ↔ IsKnownReservation version.now name reservation.now }
 {
-    let _site = name.site().get();
+    site_is_of_sixteen(name.site());
     version.covers(name) && reservation.is_made() && version.covers(reservation.stamp())
 }
 

@@ -3,7 +3,7 @@ use Rattle.std.specs.Prelude.{Some}
 use Rattle.std.proofs.Common.{◌≡◌, ℕ, ◌+◌, ◌<◌, List, ◌∷◌, true, false, length, drop, get_or, sym, ap, ◌∙◌}
 use Rattle.std.proofs.lemmas.Bool.{cond-true, cond-false}
 use Rattle.std.proofs.lemmas.List.{drop_more}
-use Rattle.fed_desk.specs.Desk.{Case, first_of}
+use Rattle.fed_model.specs.Desk.{Case, first_of}
 
 module _ (cases : List Case) (i : ℕ) (c : Case) (within : i < length cases) (at : c ≡ get_or cases i c)
     (left : first_of (drop i cases) ≡ first_of cases) where

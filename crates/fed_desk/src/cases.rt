@@ -1,6 +1,6 @@
-//! Tables of refusals.
+//! How the first refusal of a table that applies is found.
 ghost use Rattle.std.specs.Prelude.{◌≡◌};
-ghost use Rattle.fed_desk.specs.Desk.{first_of};
+ghost use Rattle.fed_model.specs.Desk.{first_of};
 
 use fed_record::Refusal;
 

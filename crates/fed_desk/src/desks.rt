@@ -1,13 +1,13 @@
 //! The desk of a job's origin.
 ghost use Rattle.std.specs.Prelude.{◌≡◌, IsTrue};
-ghost use Rattle.fed_record.specs.JobRecord.{reads as reads_job};
-ghost use Rattle.fed_record.specs.Letter.{is_submitted};
-ghost use Rattle.fed_board.specs.Board.{reads};
-ghost use Rattle.fed_board.specs.View.{View};
-ghost use Rattle.fed_desk.specs.Desk.{decision, first_of, grant_refusals};
+ghost use Rattle.fed_record.specs.JobRecord.{job_reads};
+ghost use Rattle.fed_model.specs.Letter.{is_submitted};
+ghost use Rattle.fed_board.specs.Board.{board_reads};
+ghost use Rattle.fed_model.specs.View.{View};
+ghost use Rattle.fed_model.specs.Desk.{decision, first_of, grant_refusals};
 
-use crate::decisions::Decision;
 use fed_board::Board;
+use fed_model::Decision;
 use fed_record::{JobRecord, Refusal};
 use fed_stamp::{JobId, SiteId};
 
@@ -15,7 +15,7 @@ use fed_stamp::{JobId, SiteId};
 /// `NotOrigin`, `Held`, `NotEligible` and `TakenBy`. `None` where none applies: the job may be granted to the asker, or
 /// already is.
 pub fn grant_refusal(board: &Board, me: SiteId, job: JobId, asker: SiteId) -> Option<Refusal>
-    ensures { result ≡ first_of (grant_refusals (reads board.now) me job asker) }
+    ensures { result ≡ first_of (grant_refusals (board_reads board.now) me job asker) }
 {
     match decide(board, me, job, asker) {
         Decision::Refused(refusal) => Some(refusal),
@@ -27,7 +27,7 @@ pub fn grant_refusal(board: &Board, me: SiteId, job: JobId, asker: SiteId) -> Op
 /// applies, of the numbers 1, 3, 5, 6, 7 and 8; else `Yours` where the job is granted to the asker; else `Grant`. It
 /// changes nothing and takes no memory.
 pub fn decide(board: &Board, me: SiteId, job: JobId, asker: SiteId) -> Decision
-    ensures { result ≡ decision (reads board.now) me job asker }
+    ensures { result ≡ decision (board_reads board.now) me job asker }
 {
     match board.job(job) {
         Some(record) => decide_on(record, me, job, asker),
@@ -38,8 +38,8 @@ pub fn decide(board: &Board, me: SiteId, job: JobId, asker: SiteId) -> Decision
 /// What `decide` answers on each board that has this record for the job. It asks that the job is submitted, which holds
 /// of every record on a board.
 pub fn decide_on(found: &JobRecord, me: SiteId, job: JobId, asker: SiteId) -> Decision
-    requires { IsTrue (is_submitted (reads_job found.now)) }
-    ensures { (v : View) → v.job job ≡ reads_job found.now → result ≡ decision v me job asker }
+    requires { IsTrue (is_submitted (job_reads found.now)) }
+    ensures { (v : View) → v.job job ≡ job_reads found.now → result ≡ decision v me job asker }
 {
     if found.is_gone() {
         return Decision::Refused(Refusal::Gone);

@@ -3,11 +3,9 @@
 
 /// Tables of refusals.
 pub mod cases;
-/// Decisions.
-pub mod decisions;
 /// The desk of a job's origin.
 pub mod desks;
 
 pub use cases::first_refusal;
-pub use decisions::Decision;
 pub use desks::{decide, decide_on, grant_refusal};
+pub use fed_model::Decision;

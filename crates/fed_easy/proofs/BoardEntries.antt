@@ -13,10 +13,10 @@ use Rattle.fed_lattice.specs.ExactLaws.{exact_stamp}
 use Rattle.fed_lattice.specs.Latest.{stamp_cmp}
 use Rattle.fed_lattice.specs.LatestLaws.{stamp_total}
 use Rattle.fed_lattice.specs.Sets.{Has}
-use Rattle.fed_record.specs.JobRecord.{JobRecordValue, reads as reads_job}
-use Rattle.fed_record.specs.Reservation.{ReservationView}
-use Rattle.fed_board.specs.Board.{BoardValue, no_operation, reads}
-use Rattle.fed_board.specs.Names.{jobs_in, reservations_in}
+use Rattle.fed_record.specs.JobRecord.{JobRecordValue, job_reads}
+use Rattle.fed_model.specs.Reservation.{ReservationView}
+use Rattle.fed_board.specs.Board.{BoardValue, no_operation, board_reads}
+use Rattle.fed_model.specs.Names.{jobs_in, reservations_in}
 use Rattle.fed_easy.specs.declared.bookings.Booking.{Booking}
 use Rattle.fed_easy.specs.declared.machines.Running.{Running}
 use Rattle.fed_easy.specs.declared.queues.QueuedJob.{QueuedJob}
@@ -62,32 +62,32 @@ names_read f g (e ∷ es) h =
 
 -- ---- running jobs, and jobs that wait
 abbrev pub entry_running : ℕ → StampValue × JobRecordValue → Option Running
-entry_running site e = running_of site (reads_job e.1)
+entry_running site e = running_of site (job_reads e.1)
 
 abbrev pub entry_waiting : ℕ → ℕ → StampValue × JobRecordValue → Option QueuedJob
-entry_waiting site capacity e = queued site capacity e.0 (reads_job e.1)
+entry_waiting site capacity e = queued site capacity e.0 (job_reads e.1)
 
-module _ (b : BoardValue) (sorted : IsStrictlySortedBy stamp_cmp (keys_of b.jobs)) (names : keys_of b.jobs ≡ jobs_in (reads b)) where
-  entry_read : (e : StampValue × JobRecordValue) → Has b.jobs e → (reads b).job e.0 ≡ reads_job e.1
-  entry_read e h = ap (λ (o : Option JobRecordValue). reads_job (unwrap_or o no_operation)) (entry_found b.jobs e sorted h)
+module _ (b : BoardValue) (sorted : IsStrictlySortedBy stamp_cmp (keys_of b.jobs)) (names : keys_of b.jobs ≡ jobs_in (board_reads b)) where
+  entry_read : (e : StampValue × JobRecordValue) → Has b.jobs e → (board_reads b).job e.0 ≡ job_reads e.1
+  entry_read e h = ap (λ (o : Option JobRecordValue). job_reads (unwrap_or o no_operation)) (entry_found b.jobs e sorted h)
 
-  pub running_read : (site : ℕ) → running_in site (reads b) ≡ filter_map (entry_running site) b.jobs
+  pub running_read : (site : ℕ) → running_in site (board_reads b) ≡ filter_map (entry_running site) b.jobs
   running_read site =
-      ap (filter_map (λ job. running_of site ((reads b).job job))) (sym names)
-      ∙ names_read (λ job. running_of site ((reads b).job job)) (entry_running site) b.jobs (λ e h. ap (running_of site) (entry_read e h))
+      ap (filter_map (λ job. running_of site ((board_reads b).job job))) (sym names)
+      ∙ names_read (λ job. running_of site ((board_reads b).job job)) (entry_running site) b.jobs (λ e h. ap (running_of site) (entry_read e h))
 
   pub running_done : (site : ℕ) (xs : List Running) (rest : List (StampValue × JobRecordValue)) → xs ++ filter_map (entry_running site) rest ≡ filter_map (entry_running site) b.jobs → rest ≡ []
-      → xs ≡ running_in site (reads b)
+      → xs ≡ running_in site (board_reads b)
   running_done site xs rest same none =
       let whole : xs ++ [] ≡ filter_map (entry_running site) b.jobs = rw none at same in
       sym (append-nil xs) ∙ whole ∙ sym (running_read site)
 
-  waiting_read : (site capacity : ℕ) → waiting_in site capacity (reads b) ≡ filter_map (entry_waiting site capacity) b.jobs
+  waiting_read : (site capacity : ℕ) → waiting_in site capacity (board_reads b) ≡ filter_map (entry_waiting site capacity) b.jobs
   waiting_read site capacity =
-      ap (filter_map (λ job. queued site capacity job ((reads b).job job))) (sym names)
-      ∙ names_read (λ job. queued site capacity job ((reads b).job job)) (entry_waiting site capacity) b.jobs (λ e h. ap (queued site capacity e.0) (entry_read e h))
+      ap (filter_map (λ job. queued site capacity job ((board_reads b).job job))) (sym names)
+      ∙ names_read (λ job. queued site capacity job ((board_reads b).job job)) (entry_waiting site capacity) b.jobs (λ e h. ap (queued site capacity e.0) (entry_read e h))
 
-  pub waiting_done : (site capacity : ℕ) (xs : List QueuedJob) → xs ≡ filter_map (entry_waiting site capacity) b.jobs → xs ≡ waiting_in site capacity (reads b)
+  pub waiting_done : (site capacity : ℕ) (xs : List QueuedJob) → xs ≡ filter_map (entry_waiting site capacity) b.jobs → xs ≡ waiting_in site capacity (board_reads b)
   waiting_done site capacity xs same = same ∙ sym (waiting_read site capacity)
 
 -- a job that waits goes from what is left to the list
@@ -106,14 +106,14 @@ none_left site capacity xs rest whole same none =
 abbrev pub read_reserved : ℕ → List (StampValue × ReservationView) → List Booking
 read_reserved site es = filter_map (λ e. booked_at site e.1) es
 
-pub reserved_read : (site : ℕ) (b : BoardValue) → IsStrictlySortedBy stamp_cmp (keys_of b.reservations) → keys_of b.reservations ≡ reservations_in (reads b) → reserved_in site (reads b) ≡ read_reserved site b.reservations
+pub reserved_read : (site : ℕ) (b : BoardValue) → IsStrictlySortedBy stamp_cmp (keys_of b.reservations) → keys_of b.reservations ≡ reservations_in (board_reads b) → reserved_in site (board_reads b) ≡ read_reserved site b.reservations
 reserved_read site b sorted names =
-    ap (filter_map (λ name. booked_at site ((reads b).reservation name))) (sym names)
-    ∙ names_read (λ name. booked_at site ((reads b).reservation name)) (λ e. booked_at site e.1) b.reservations
+    ap (filter_map (λ name. booked_at site ((board_reads b).reservation name))) (sym names)
+    ∙ names_read (λ name. booked_at site ((board_reads b).reservation name)) (λ e. booked_at site e.1) b.reservations
     (λ e h. ap (λ (o : Option ReservationView). booked_at site (unwrap_or o None)) (entry_found b.reservations e sorted h))
 
-pub reserved_done : (site : ℕ) (b : BoardValue) → IsStrictlySortedBy stamp_cmp (keys_of b.reservations) → keys_of b.reservations ≡ reservations_in (reads b) → (old xs : List Booking) (rest : List (StampValue × ReservationView))
-    → xs ++ read_reserved site rest ≡ old ++ read_reserved site b.reservations → rest ≡ [] → xs ≡ old ++ reserved_in site (reads b)
+pub reserved_done : (site : ℕ) (b : BoardValue) → IsStrictlySortedBy stamp_cmp (keys_of b.reservations) → keys_of b.reservations ≡ reservations_in (board_reads b) → (old xs : List Booking) (rest : List (StampValue × ReservationView))
+    → xs ++ read_reserved site rest ≡ old ++ read_reserved site b.reservations → rest ≡ [] → xs ≡ old ++ reserved_in site (board_reads b)
 reserved_done site b sorted names old xs rest same none =
     let whole : xs ++ [] ≡ old ++ read_reserved site b.reservations = rw none at same in
     sym (append-nil xs) ∙ whole ∙ ap (λ (bs : List Booking). old ++ bs) (sym (reserved_read site b sorted names))

@@ -7,7 +7,7 @@ use Rattle.std.proofs.lemmas.List.Elements.{All-push}
 use Rattle.std.proofs.lemmas.List.Sums.{sum_by_push}
 use Rattle.std.proofs.lemmas.List.Sorted.{All-permutation, sum_by-IsPermutation}
 use Rattle.fed_easy.specs.declared.bookings.Booking.{Booking}
-use Rattle.fed_easy.specs.declared.events.Event.{Event}
+use Rattle.fed_easy.specs.declared.use_changes.UseChange.{UseChange}
 use Rattle.fed_easy.specs.Events.{AreEvents, closed_after, opened_after}
 use Rattle.fed_easy.specs.Use.{is_during, use_at}
 
@@ -38,13 +38,13 @@ before_it u second nodes lt = rw (lt-ltb u second lt) refl
 from_it : (u second nodes : ℕ) → second ≤ u → if_after u second nodes ≡ 0
 from_it u second nodes le = rw (le-ltb u second le) refl
 
-opened_push : (u : ℕ) (es : List Event) (e : Event) → opened_after u (es ++ e ∷ []) ≡ opened_after u es + if_after u e.second e.opened
-opened_push u es e = sum_by_push (λ (e : Event). if_after u e.second e.opened) es e
+opened_push : (u : ℕ) (es : List UseChange) (e : UseChange) → opened_after u (es ++ e ∷ []) ≡ opened_after u es + if_after u e.second e.opened
+opened_push u es e = sum_by_push (λ (e : UseChange). if_after u e.second e.opened) es e
 
-closed_push : (u : ℕ) (es : List Event) (e : Event) → closed_after u (es ++ e ∷ []) ≡ closed_after u es + if_after u e.second e.closed
-closed_push u es e = sum_by_push (λ (e : Event). if_after u e.second e.closed) es e
+closed_push : (u : ℕ) (es : List UseChange) (e : UseChange) → closed_after u (es ++ e ∷ []) ≡ closed_after u es + if_after u e.second e.closed
+closed_push u es e = sum_by_push (λ (e : UseChange). if_after u e.second e.closed) es e
 
-module _ (start : ℕ) (bs : List Booking) (b : Booking) (es : List Event) (are : AreEvents start bs es) where
+module _ (start : ℕ) (bs : List Booking) (b : Booking) (es : List UseChange) (are : AreEvents start bs es) where
   pub over_events : b.until ≤ max b.from start → AreEvents start (bs ++ b ∷ []) es
   over_events over = record {
     after = are.after;
@@ -56,16 +56,16 @@ module _ (start : ℕ) (bs : List Booking) (b : Booking) (es : List Event) (are 
   }
 
   -- the event of the end
-  abbrev pub end_event : Event
+  abbrev pub end_event : UseChange
   end_event = record { second = b.until; opened = 0; closed = b.nodes }
 
   -- the event of the beginning
-  abbrev pub begin_event : Event
+  abbrev pub begin_event : UseChange
   begin_event = record { second = b.from; opened = b.nodes; closed = 0 }
 
   pub begun_events : b.from ≤ start → start < b.until → AreEvents start (bs ++ b ∷ []) (es ++ end_event ∷ [])
   begun_events begun lasts = record {
-    after = All-push (λ (e : Event). start < e.second) es end_event are.after lasts;
+    after = All-push (λ (e : UseChange). start < e.second) es end_event are.after lasts;
     tells = λ u from.
         let so_far = are.tells u from in
         let more = use_push bs b u in
@@ -87,7 +87,7 @@ module _ (start : ℕ) (bs : List Booking) (b : Booking) (es : List Event) (are 
 
   pub later_events : start < b.from → b.from < b.until → AreEvents start (bs ++ b ∷ []) ((es ++ begin_event ∷ []) ++ end_event ∷ [])
   later_events later lasts = record {
-    after = All-push (λ (e : Event). start < e.second) (es ++ begin_event ∷ []) end_event (All-push (λ (e : Event). start < e.second) es begin_event are.after later) (omega arith);
+    after = All-push (λ (e : UseChange). start < e.second) (es ++ begin_event ∷ []) end_event (All-push (λ (e : UseChange). start < e.second) es begin_event are.after later) (omega arith);
     tells = λ u from.
         let so_far = are.tells u from in
         let more = use_push bs b u in
@@ -122,11 +122,11 @@ module _ (start : ℕ) (bs : List Booking) (b : Booking) (es : List Event) (are 
   }
 
 -- the order of events does not matter
-pub permuted_events : (start : ℕ) (bs : List Booking) (es fs : List Event) → IsPermutation es fs → AreEvents start bs es → AreEvents start bs fs
+pub permuted_events : (start : ℕ) (bs : List Booking) (es fs : List UseChange) → IsPermutation es fs → AreEvents start bs es → AreEvents start bs fs
 permuted_events start bs es fs same are = record {
-  after = All-permutation (λ (e : Event). start < e.second) es fs same are.after;
+  after = All-permutation (λ (e : UseChange). start < e.second) es fs same are.after;
   tells = λ u from.
-      let opened : opened_after u fs ≡ opened_after u es = sum_by-IsPermutation (λ (e : Event). if_after u e.second e.opened) es fs same in
-      let closed : closed_after u fs ≡ closed_after u es = sum_by-IsPermutation (λ (e : Event). if_after u e.second e.closed) es fs same in
+      let opened : opened_after u fs ≡ opened_after u es = sum_by-IsPermutation (λ (e : UseChange). if_after u e.second e.opened) es fs same in
+      let closed : closed_after u fs ≡ closed_after u es = sum_by-IsPermutation (λ (e : UseChange). if_after u e.second e.closed) es fs same in
       rw (opened, closed) (are.tells u from);
 }

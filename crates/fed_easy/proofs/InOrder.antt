@@ -13,7 +13,7 @@ use Rattle.fed_lattice.specs.Latest.{stamp_cmp}
 use Rattle.fed_lattice.specs.LatestLaws.{stamp_total}
 use Rattle.fed_lattice.specs.Sets.{Has}
 use Rattle.fed_tags.specs.TagLaws.{sorted_empty}
-use Rattle.fed_record.specs.JobRecord.{JobRecordValue, reads as reads_job}
+use Rattle.fed_record.specs.JobRecord.{JobRecordValue, job_reads}
 use Rattle.fed_easy.specs.declared.queues.QueuedJob.{QueuedJob}
 use Rattle.fed_easy.specs.Queue.{in_order}
 use Rattle.fed_easy.specs.QueueLaws.{queue_total, exact_queue}
@@ -34,8 +34,8 @@ module _ (site capacity : ℕ) where
   later_apart e es j sorted is =
       all_from_has (λ k. eq_by_cmp queue_cmp j k ≡ false) (filter_map (entry_waiting site capacity) es) (λ k h.
       let from = kept_from (entry_waiting site capacity) es k h in
-      let own : e.0 ≡ j.id = queued_id site capacity e.0 (reads_job e.1) j is in
-      let other : from.0.0 ≡ k.id = queued_id site capacity from.0.0 (reads_job from.0.1) k from.2 in
+      let own : e.0 ≡ j.id = queued_id site capacity e.0 (job_reads e.1) j is in
+      let other : from.0.0 ≡ k.id = queued_id site capacity from.0.0 (job_reads from.0.1) k from.2 in
       let less : stamp_cmp e.0 from.0.0 ≡ Less = all_has (λ s. stamp_cmp e.0 s ≡ Less) (keys_of es) from.0.0 (sorted_head stamp_cmp e.0 (keys_of es) sorted) (key_has es from.0 from.1) in
       apart j k (rw (own, other) at less) (is_eq (queue_cmp j k)) refl)
 

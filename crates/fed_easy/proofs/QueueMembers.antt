@@ -11,11 +11,12 @@ use Rattle.std.proofs.lemmas.Map.Views.{tells_apart}
 use Rattle.fed_stamp.specs.Stamp.{StampValue}
 use Rattle.fed_lattice.specs.Sets.{Has}
 use Rattle.fed_lattice.specs.SetLaws.{found, any_from}
-use Rattle.fed_tags.specs.TagLaws.{sorted_insert_key, has_insert_key, sorted_empty}
-use Rattle.fed_record.specs.JobView.{JobView}
-use Rattle.fed_record.specs.Letter.{is_granted_to}
-use Rattle.fed_board.specs.Names.{jobs_in}
-use Rattle.fed_board.specs.View.{View}
+use Rattle.fed_lattice.specs.KeySetLaws.{sorted_insert_key, has_insert_key}
+use Rattle.fed_tags.specs.TagLaws.{sorted_empty}
+use Rattle.fed_model.specs.JobView.{JobView}
+use Rattle.fed_model.specs.Letter.{is_granted_to}
+use Rattle.fed_model.specs.Names.{jobs_in}
+use Rattle.fed_model.specs.View.{View}
 use Rattle.fed_easy.specs.declared.queues.QueuedJob.{QueuedJob}
 use Rattle.fed_easy.specs.Queue.{in_order, is_waiting, queue_in, queued, queued_with, waiting_in}
 use Rattle.fed_easy.specs.QueueLaws.{queue_total, exact_queue}

@@ -3,9 +3,9 @@ use Rattle.std.proofs.Common.{◌≡◌, ℕ, [], ◌∷◌, ◌++◌, true, fal
 use Rattle.std.specs.Prelude.{pos, Some, None, replicate}
 use Rattle.fed_stamp.specs.Stamp.{StampValue}
 use Rattle.fed_lattice.specs.History.{History}
-use Rattle.fed_record.specs.Body.{Body, Body.Submit, Body.Grant, Body.Begin, Body.Reserve, Body.Cancel}
-use Rattle.fed_record.specs.Letter.{any_below}
-use Rattle.fed_board.specs.View.{view}
+use Rattle.fed_model.specs.Body.{Body, Body.Submit, Body.Grant, Body.Begin, Body.Reserve, Body.Cancel}
+use Rattle.fed_model.specs.Letter.{any_below}
+use Rattle.fed_model.specs.View.{view}
 use Rattle.fed_easy.specs.Machine.{running_in}
 use Rattle.fed_easy.specs.Plan.{PlanValue}
 use Rattle.fed_easy.specs.SitePlan.{site_plan}

@@ -7,7 +7,7 @@ use Rattle.std.proofs.lemmas.Bool.{cases_lt, lt-ltb, le-ltb}
 use Rattle.std.proofs.lemmas.List.{reverse-append}
 use Rattle.std.proofs.lemmas.List.Sums.{sum_by-cons}
 use Rattle.fed_easy.specs.declared.bookings.Booking.{Booking}
-use Rattle.fed_easy.specs.declared.events.Event.{Event}
+use Rattle.fed_easy.specs.declared.use_changes.UseChange.{UseChange}
 use Rattle.fed_easy.specs.declared.profiles.Step.{Step}
 use Rattle.fed_easy.specs.Events.{AreEvents, closed_after, opened_after}
 use Rattle.fed_easy.specs.Profile.{IsAfter, level_at, last_level}
@@ -15,27 +15,27 @@ use Rattle.fed_easy.specs.Use.{use_at}
 use Rattle.fed_easy.proofs.Levels.{level_from, level_until}
 
 -- ---- sums behind a second, with one event more
-abbrev opened_at : ℕ → Event → ℕ
+abbrev opened_at : ℕ → UseChange → ℕ
 opened_at u e = cond (ltb u e.second) e.opened 0
 
-abbrev closed_at : ℕ → Event → ℕ
+abbrev closed_at : ℕ → UseChange → ℕ
 closed_at u e = cond (ltb u e.second) e.closed 0
 
-opened_before : (u : ℕ) (e : Event) (es : List Event) → u < e.second → opened_after u (e ∷ es) ≡ e.opened + opened_after u es
+opened_before : (u : ℕ) (e : UseChange) (es : List UseChange) → u < e.second → opened_after u (e ∷ es) ≡ e.opened + opened_after u es
 opened_before u e es lt = sum_by-cons (opened_at u) e es ∙ rw (lt-ltb u e.second lt) refl
 
-closed_before : (u : ℕ) (e : Event) (es : List Event) → u < e.second → closed_after u (e ∷ es) ≡ e.closed + closed_after u es
+closed_before : (u : ℕ) (e : UseChange) (es : List UseChange) → u < e.second → closed_after u (e ∷ es) ≡ e.closed + closed_after u es
 closed_before u e es lt = sum_by-cons (closed_at u) e es ∙ rw (lt-ltb u e.second lt) refl
 
-opened_from : (u : ℕ) (e : Event) (es : List Event) → e.second ≤ u → opened_after u (e ∷ es) ≡ opened_after u es
+opened_from : (u : ℕ) (e : UseChange) (es : List UseChange) → e.second ≤ u → opened_after u (e ∷ es) ≡ opened_after u es
 opened_from u e es le = sum_by-cons (opened_at u) e es ∙ rw (le-ltb u e.second le) (omega arith)
 
-closed_from : (u : ℕ) (e : Event) (es : List Event) → e.second ≤ u → closed_after u (e ∷ es) ≡ closed_after u es
+closed_from : (u : ℕ) (e : UseChange) (es : List UseChange) → e.second ≤ u → closed_after u (e ∷ es) ≡ closed_after u es
 closed_from u e es le = sum_by-cons (closed_at u) e es ∙ rw (le-ltb u e.second le) (omega arith)
 
 -- ---- from the last event back
 -- the second of the first event, and that of the first step, or 0
-abbrev pub first_second : List Event → ℕ
+abbrev pub first_second : List UseChange → ℕ
 first_second [] = 0
 first_second (e ∷ es) = e.second
 
@@ -44,7 +44,7 @@ first_step [] = 0
 first_step (s ∷ ss) = s.from
 
 -- the second u stands before the first event, if there is one
-abbrev IsBefore : ℕ → List Event → Type 0
+abbrev IsBefore : ℕ → List UseChange → Type 0
 IsBefore u [] = Unit {0}
 IsBefore u (e ∷ es) = u < e.second
 
@@ -54,7 +54,7 @@ before capacity closed opened = min (closed - opened) (suc capacity)
 
 module _ (capacity now : ℕ) where
   -- the sums and the steps are those of the events
-  pub record IsSwept (es : List Event) (closed opened nodes : ℕ) (ss : List Step) : Type 0 where
+  pub record IsSwept (es : List UseChange) (closed opened nodes : ℕ) (ss : List Step) : Type 0 where
     pub tells : (u : ℕ) → now ≤ u → level_at nodes ss u ≡ before capacity (closed_after u es) (opened_after u es)
     pub closed_is : (u : ℕ) → IsBefore u es → closed_after u es ≡ closed
     pub opened_is : (u : ℕ) → IsBefore u es → opened_after u es ≡ opened
@@ -63,7 +63,7 @@ module _ (capacity now : ℕ) where
     pub first : first_step ss ≡ first_second es
 
   -- one event more, in front of the others
-  module _ (e : Event) (es : List Event) (closed opened nodes : ℕ) (ss : List Step) (s : IsSwept es closed opened nodes ss) (order : (u : ℕ) → u < e.second → IsBefore u es) where
+  module _ (e : UseChange) (es : List UseChange) (closed opened nodes : ℕ) (ss : List Step) (s : IsSwept es closed opened nodes ss) (order : (u : ℕ) → u < e.second → IsBefore u es) where
     closed_more : (u : ℕ) → u < e.second → closed_after u (e ∷ es) ≡ closed + e.closed
     closed_more u lt =
         let rest = s.closed_is u (order u lt) in
@@ -118,7 +118,7 @@ module _ (capacity now : ℕ) where
     }
 
 -- the steps stand behind an event that comes before them
-stands_behind : (now : ℕ) (e : Event) (es : List Event) (ss : List Step) → first_step ss ≡ first_second es → IsAfter now ss
+stands_behind : (now : ℕ) (e : UseChange) (es : List UseChange) (ss : List Step) → first_step ss ≡ first_second es → IsAfter now ss
     → ((u : ℕ) → u < e.second → IsBefore u es) → (e.second ≡ first_second es → ⊥) → IsAfter e.second ss
 stands_behind now e es [] first after order apart = tt
 stands_behind now e [] (s ∷ ss) first after order apart = absurd (omega (arith, after.0))
@@ -129,7 +129,7 @@ stands_behind now e (f ∷ es) (s ∷ ss) first after order apart =
     ]
 
 -- ---- one event more, from the back of a list
-module _ (xs : List Event) (i : ℕ) (e : Event) (lt : i < length xs) (is : e ≡ slice_index_or xs (length xs - 1 - i) e) where
+module _ (xs : List UseChange) (i : ℕ) (e : UseChange) (lt : i < length xs) (is : e ≡ slice_index_or xs (length xs - 1 - i) e) where
   more_left : drop (length xs - (i + 1)) xs ≡ e ∷ drop (length xs - i) xs
   more_left =
       let k : ℕ = length xs - (i + 1) in
@@ -174,7 +174,7 @@ module _ (xs : List Event) (i : ℕ) (e : Event) (lt : i < length xs) (is : e �
           rw (more_left, turned) (swept_more capacity now e (drop (length xs - i) xs) closed opened nodes (reverse steps) swept next_before s refl refl behind after)
 
 -- all events are swept
-pub swept_all : (capacity now i closed opened nodes : ℕ) (bs : List Booking) (es : List Event) (steps new : List Step) → IsSwept capacity now (drop (length es - i) es) closed opened nodes (reverse steps) → length es ≤ i
+pub swept_all : (capacity now i closed opened nodes : ℕ) (bs : List Booking) (es : List UseChange) (steps new : List Step) → IsSwept capacity now (drop (length es - i) es) closed opened nodes (reverse steps) → length es ≤ i
     → AreEvents now bs es → new ≡ reverse steps → (u : ℕ) → now ≤ u → min (level_at nodes new u) (suc capacity) ≡ min (use_at bs u) (suc capacity)
 swept_all capacity now i closed opened nodes bs es steps new swept done are turned u from =
     let none : length es - i ≡ 0 = omega arith in

@@ -5,11 +5,11 @@ use Rattle.std.specs.Option.{option_map}
 use Rattle.fed_stamp.specs.Indexes.{least_index}
 use Rattle.fed_stamp.specs.Roster.{is_node_count}
 use Rattle.fed_stamp.specs.Stamp.{StampValue}
-use Rattle.fed_record.specs.declared.moments.TheConstants.{MAX_END}
-use Rattle.fed_record.specs.declared.progress.Beginning.{Beginning}
-use Rattle.fed_record.specs.JobView.{JobView}
-use Rattle.fed_board.specs.Names.{jobs_in}
-use Rattle.fed_board.specs.View.{View}
+use Rattle.fed_model.specs.declared.moments.TheConstants.{MAX_END}
+use Rattle.fed_model.specs.declared.beginnings.Beginning.{Beginning}
+use Rattle.fed_model.specs.JobView.{JobView}
+use Rattle.fed_model.specs.Names.{jobs_in}
+use Rattle.fed_model.specs.View.{View}
 use Rattle.fed_easy.specs.declared.machines.Running.{Running}
 use Rattle.fed_easy.specs.declared.machines.TheConstants.{MAX_RUNNING}
 use Rattle.fed_easy.specs.declared.machines.MachineFault.{MachineFault}

@@ -1,7 +1,7 @@
 -- Which jobs start now: the front of the queue, and behind the head those that fit beside its time.
 use Rattle.std.specs.Prelude.{ℕ, List, [], ◌∷◌, ◌++◌, map, if◌then◌else◌, Option, Some, None}
 use Rattle.fed_stamp.specs.Stamp.{StampValue}
-use Rattle.fed_easy.specs.declared.starts.Plan.{Plan}
+use Rattle.fed_easy.specs.declared.plans.Plan.{Plan}
 use Rattle.fed_easy.specs.declared.queues.QueuedJob.{QueuedJob}
 use Rattle.fed_easy.specs.Use.{end_with, fits, shadow, with_job, with_jobs}
 
@@ -11,8 +11,8 @@ pub record PlanValue : Type 0 where
   pub head : Option (StampValue × ℕ)
 
 -- what a plan of the code reads as
-abbrev pub reads : Plan → PlanValue
-reads p = record { starts = p.starts.items; head = p.head }
+abbrev pub plan_reads : Plan → PlanValue
+plan_reads p = record { starts = p.starts.items; head = p.head }
 
 -- the longest prefix of the queue in which each job fits now, after those before it
 abbrev pub front : ℕ → ℕ → (ℕ → ℕ) → List QueuedJob → List QueuedJob

@@ -1,14 +1,14 @@
 -- The plan of a site. All is computed of what is read of a board.
 use Rattle.std.specs.Prelude.{ℕ, suc, max, nat_eq, if◌then◌else◌, List, ◌++◌, map, Option, Some, None}
 use Rattle.std.specs.List.{filter_map}
-use Rattle.fed_record.specs.declared.windows.Window.{Window}
-use Rattle.fed_record.specs.Reservation.{ReservationView}
-use Rattle.fed_board.specs.Names.{reservations_in}
-use Rattle.fed_board.specs.View.{View}
+use Rattle.fed_model.specs.declared.windows.Window.{Window}
+use Rattle.fed_model.specs.Reservation.{ReservationView}
+use Rattle.fed_model.specs.Names.{reservations_in}
+use Rattle.fed_model.specs.View.{View}
 use Rattle.fed_easy.specs.declared.bookings.Booking.{Booking}
 use Rattle.fed_easy.specs.declared.machines.Running.{Running}
-use Rattle.fed_easy.specs.declared.plans.PlanFault.{PlanFault}
-use Rattle.fed_easy.specs.declared.plans.PlanFault.TheVariants.{Moment, NoMemory}
+use Rattle.fed_easy.specs.declared.site_planning.PlanFault.{PlanFault}
+use Rattle.fed_easy.specs.declared.site_planning.PlanFault.TheVariants.{Moment, NoMemory}
 use Rattle.fed_easy.specs.Machine.{MachineValue}
 use Rattle.fed_easy.specs.Plan.{PlanValue, queue_plan}
 use Rattle.fed_easy.specs.Queue.{queue_in}

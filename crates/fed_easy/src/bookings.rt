@@ -1,6 +1,6 @@
 //! Times at which nodes are in use.
 ghost use Rattle.std.specs.Prelude.{◌≡◌, ◌≤◌, ◌++◌, IfOk, OnOk, map};
-ghost use Rattle.fed_board.specs.Board.{reads};
+ghost use Rattle.fed_board.specs.Board.{board_reads};
 ghost use Rattle.fed_easy.specs.SitePlan.{booked_at, bookings_in, reserved_in, running_booking as booking_of};
 
 use crate::machines::{Machine, Running};
@@ -65,7 +65,7 @@ fn reserved_time(reservation: &Reservation, site: SiteId) -> Option<Booking>
 
 // Adds the times of the site's standing reservations.
 fn add_reserved(bookings: &mut Vec<Booking>, board: &Board, site: SiteId) -> Result<(), NoMemory>
-    ensures { OnOk result (bookings.new.items ≡ bookings.old.items ++ reserved_in site (reads board.now)) }
+    ensures { OnOk result (bookings.new.items ≡ bookings.old.items ++ reserved_in site (board_reads board.now)) }
 {
     for (_, reservation) in board.reservations() {
         if let Some(booking) = reserved_time(reservation, site) {
@@ -84,7 +84,7 @@ pub(crate) fn bookings_of(
     machine: &Machine,
 ) -> Result<Vec<Booking>, NoMemory>
     requires { moment ≤ MAX_MOMENT }
-    ensures { IfOk result (λ bookings. bookings.items ≡ bookings_in site (reads board.now) moment machine.now) }
+    ensures { IfOk result (λ bookings. bookings.items ≡ bookings_in site (board_reads board.now) moment machine.now) }
 {
     let mut bookings = running_bookings(alloc, moment, machine.running())?;
     add_reserved(&mut bookings, board, site)?;

@@ -2,8 +2,8 @@
 ghost use Rattle.std.specs.Prelude.{◌≡◌, ◌++◌, ◌∷◌, [], None, Err, List, length, IfOk, IfSome};
 ghost use Rattle.fed_stamp.specs.Indexes.{least_index};
 ghost use Rattle.fed_stamp.specs.Roster.{ok_unless};
-ghost use Rattle.fed_record.specs.JobRecord.{reads as reads_job};
-ghost use Rattle.fed_board.specs.Board.{reads};
+ghost use Rattle.fed_record.specs.JobRecord.{job_reads};
+ghost use Rattle.fed_board.specs.Board.{board_reads};
 ghost use Rattle.fed_easy.specs.declared.machines.Running.{Running};
 ghost use Rattle.fed_easy.specs.Machine.{IsEither, MachineValue, first_fault as fault_of, is_bad, is_entry as may_be_entry, number_of, running_in, running_of};
 
@@ -39,7 +39,7 @@ pub enum MachineFault {
     /// The nodes of an entry are not from 1 to `MAX_NODES`, or its end is above `MAX_END`.
     #[error("the nodes of entry {index} are not from 1 to 1000000, or its end is above 1000010000000")]
     Entry { index: usize },
-    /// A growth was refused.
+    /// An allocation failed.
     #[error("out of memory")]
     NoMemory,
 }
@@ -112,10 +112,10 @@ fn first_fault(nodes: u64, running: &[Running]) -> Option<MachineFault>
 }
 
 // The entry of the job, if the site has begun it and it is not finished.
-fn running_job(held: &JobRecord, site: SiteId) -> Option<Running>
-    ensures { result ≡ running_of site (reads_job held.now) }
+fn running_job(job: &JobRecord, site: SiteId) -> Option<Running>
+    ensures { result ≡ running_of site (job_reads job.now) }
 {
-    let progress = held.progress();
+    let progress = job.progress();
     if progress.finished.is_some() {
         return None;
     }
@@ -136,11 +136,11 @@ fn running_job(held: &JobRecord, site: SiteId) -> Option<Running>
 
 // The entries of the jobs that the site has begun and that are not finished, in the order of their stamps.
 fn running_jobs(alloc: Global, board: &Board, site: SiteId) -> Result<Vec<Running>, NoMemory>
-    ensures { IfOk result (λ entries. entries.items ≡ running_in site (reads board.now)) }
+    ensures { IfOk result (λ entries. entries.items ≡ running_in site (board_reads board.now)) }
 {
     let mut entries = Vec::new(alloc);
-    for (_, held) in board.jobs() {
-        if let Some(entry) = running_job(held, site) {
+    for (_, job) in board.jobs() {
+        if let Some(entry) = running_job(job, site) {
             entries.push(entry)?;
         }
     }
@@ -161,15 +161,15 @@ fn bad_with(bad: Option<usize>, index: usize, entry: Running) -> Option<usize>
 
 // The first fault of the machine of a site's jobs. It takes no memory.
 fn first_fault_on(board: &Board, site: SiteId, nodes: u64) -> Option<MachineFault>
-    ensures { result ≡ fault_of nodes (running_in site (reads board.now)) }
+    ensures { result ≡ fault_of nodes (running_in site (board_reads board.now)) }
 {
     if nodes < 1 || nodes > MAX_NODES {
         return Some(MachineFault::Nodes);
     }
     let mut count = 0usize;
     let mut bad = None;
-    for (_, held) in board.jobs() {
-        let Some(entry) = running_job(held, site) else {
+    for (_, job) in board.jobs() {
+        let Some(entry) = running_job(job, site) else {
             continue;
         };
         if count == MAX_RUNNING {
@@ -214,7 +214,7 @@ impl Machine {
 }
 
 /// The machine of so many nodes with an entry for each job that the site has begun and that is not finished, in the
-/// order of their stamps. It is refused as `Machine::new` refuses it, also where a growth is refused; `NoMemory` is
+/// order of their stamps. It is refused as `Machine::new` refuses it, also where an allocation fails; `NoMemory` is
 /// answered where nothing else is wrong.
 pub fn machine_of(
     alloc: Global,
@@ -222,10 +222,10 @@ pub fn machine_of(
     site: SiteId,
     nodes: u64,
 ) -> Result<Machine, MachineFault>
-    ensures machine { let entries = running_in site (reads board.now) in
+    ensures machine { let entries = running_in site (board_reads board.now) in
         IsEither result MachineFault.NoMemory
         (ok_unless (fault_of nodes entries) (record { nodes = nodes; running = entries })) }
-    ensures fault { IfSome (fault_of nodes (running_in site (reads board.now))) (λ fault. result ≡ Err fault) }
+    ensures fault { IfSome (fault_of nodes (running_in site (board_reads board.now))) (λ fault. result ≡ Err fault) }
 {
     match running_jobs(alloc, board, site) {
         Ok(entries) => Machine::new(nodes, entries),

@@ -1,91 +1,11 @@
-//! Plans of a site's machine.
-ghost use Rattle.std.specs.Prelude.{◌≡◌, ◌↔◌, ◌<◌, All, IfOk, IsErrOf};
-ghost use Rattle.fed_board.specs.Board.{reads};
-ghost use Rattle.fed_easy.specs.Extra.{extra_plan};
-ghost use Rattle.fed_easy.specs.Plan.{reads as reads_plan};
-ghost use Rattle.fed_easy.specs.Promises.{IsOver, NoDelay, StaysWithin};
-ghost use Rattle.fed_easy.specs.Queue.{queue_in};
-ghost use Rattle.fed_easy.specs.SitePlan.{bookings_in, number_of, reserved_in, site_plan};
-ghost use Rattle.fed_easy.specs.Use.{last_end, use_at};
+//! What plans tell.
+use fed_stamp::JobId;
 
-use crate::bookings::bookings_of;
-use crate::machines::Machine;
-use crate::planning::plan_queue;
-use crate::queues::queue_of;
-use crate::starts::Plan;
-use crate::sweeps::profile_of;
-use fed_board::Board;
-use fed_lattice::NoMemory;
-use fed_record::MAX_MOMENT;
-use fed_stamp::SiteId;
-use std::alloc::Global;
-use thiserror::Error;
-
-/// Why there is no plan.
-#[derive(Clone, Copy, PartialEq, Eq, Debug, Drop, Error)]
-pub enum PlanFault {
-    /// The moment is above `MAX_MOMENT`.
-    #[error("a moment is from 0 to 1000000000000")]
-    Moment,
-    /// A growth was refused.
-    #[error("out of memory")]
-    NoMemory,
-}
-
-impl From<NoMemory> for PlanFault {
-    ghost use Rattle.fed_easy.specs.declared.plans.PlanFault.TheVariants.{NoMemory};
-
-    ghost from_gives = { λ _ e. e ≡ NoMemory };
-
-    fn from(_error: NoMemory) -> PlanFault {
-        PlanFault::NoMemory
-    }
-}
-
-impl PlanFault {
-    /// The number of the fault: 1 for `Moment` and 2 for `NoMemory`.
-    pub fn number(self) -> u8
-        ensures { result ≡ number_of self }
-    {
-        match self {
-            PlanFault::Moment => 1,
-            PlanFault::NoMemory => 2,
-        }
-    }
-}
-
-/// The plan of the site's queue at the moment, beside what runs on its machine and its standing reservations, by EASY
-/// backfill (Lifka): the longest prefix of the queue in which each job fits now, after those before it, starts; the next job is
-/// the head, with the least second at which it fits; each later job starts where it fits now with the head's time
-/// counted as used. A job fits where at every second of its time there are nodes for it. `Moment` is answered where the
-/// moment is above `MAX_MOMENT`, else `NoMemory` where a growth is refused.
-///
-/// With j jobs on the board, q of them in the queue, n running entries and r reservations on the board it takes j steps
-/// to find the queue and at most q log q to order it, r and (n + r) log (n + r) for the changes of use, one pass over
-/// these changes for the head, and for each job that is tried one pass over the changes within its time.
-pub fn plan(
-    alloc: Global,
-    board: &Board,
-    site: SiteId,
-    moment: u64,
-    machine: &Machine,
-) -> Result<Plan, PlanFault>
-    ensures plan { IfOk result (λ p. reads_plan p ≡ site_plan (reads board.now) site moment machine.now) }
-    ensures moment { IsErrOf result PlanFault.Moment ↔ (MAX_MOMENT < moment) }
-    ensures no_delay { let m = machine.now in let bookings = bookings_in site (reads board.now) moment m in
-        IfOk result (λ p. NoDelay m.nodes moment (use_at bookings) (queue_in site m.nodes (reads board.now)) (reads_plan p)) }
-    ensures extra_nodes { let m = machine.now in let bookings = bookings_in site (reads board.now) moment m in
-        IfOk result (λ p. All (IsOver moment) (reserved_in site (reads board.now)) → reads_plan p ≡
-        extra_plan m.nodes moment (use_at bookings) (last_end bookings) (queue_in site m.nodes (reads board.now))) }
-    ensures within { let m = machine.now in let bookings = bookings_in site (reads board.now) moment m in
-        IfOk result (λ p. StaysWithin m.nodes moment (use_at bookings) (queue_in site m.nodes (reads board.now)) (reads_plan p)) }
-{
-    if moment > MAX_MOMENT {
-        return Err(PlanFault::Moment);
-    }
-    let queue = queue_of(alloc, board, site, machine.nodes())?;
-    let bookings = bookings_of(alloc, board, site, moment, machine)?;
-    let profile = profile_of(alloc, machine.nodes(), moment, &bookings)?;
-    let plan = plan_queue(alloc, profile, &queue)?;
-    Ok(plan)
+/// Which jobs start now, and when the first of the others is to start.
+#[derive(Drop, Debug)]
+pub struct Plan {
+    /// The jobs that start now, in the order of the queue.
+    pub starts: Vec<JobId>,
+    /// The first job of the queue that doesn't fit now, with the least second, from the moment on, at which it does.
+    pub head: Option<(JobId, u64)>,
 }

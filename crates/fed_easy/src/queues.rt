@@ -3,9 +3,9 @@ ghost use Rattle.std.specs.Prelude.{◌≡◌, ◌&&◌, ◌||◌, All, IfOk, If
 ghost use Rattle.std.specs.Cmp.{partial_equiv_from_equiv, eq_by_cmp_equiv, po};
 ghost use Rattle.std.specs.List.{IsDistinct};
 ghost use Rattle.std.specs.Ordering.{eq_by_cmp};
-ghost use Rattle.fed_record.specs.JobRecord.{reads as reads_job};
-ghost use Rattle.fed_record.specs.Letter.{is_granted, is_granted_to};
-ghost use Rattle.fed_board.specs.Board.{reads};
+ghost use Rattle.fed_record.specs.JobRecord.{job_reads};
+ghost use Rattle.fed_model.specs.Letter.{is_granted, is_granted_to};
+ghost use Rattle.fed_board.specs.Board.{board_reads};
 ghost use Rattle.fed_easy.specs.Promises.{IsSized};
 ghost use Rattle.fed_easy.specs.Queue.{is_waiting as is_job_waiting, queue_in, queued as job_queued, waiting_in};
 ghost use Rattle.fed_easy.specs.QueueLaws.{queue_total};
@@ -13,6 +13,7 @@ ghost use Rattle.fed_easy.specs.QueueOrder.{queue_cmp};
 
 use fed_board::Board;
 use fed_lattice::NoMemory;
+use fed_model::limit_is_ranged;
 use fed_record::{JobRecord, Limit, Nodes, Priority};
 use fed_stamp::{JobId, SiteId};
 use std::alloc::Global;
@@ -81,42 +82,41 @@ impl Ord for QueuedJob {
 }
 
 // Whether the job is granted to no site or to this one.
-fn is_open(held: &JobRecord, site: SiteId) -> bool
-    ensures { result ≡ (not (is_granted (reads_job held.now)) || is_granted_to (reads_job held.now) site) }
+fn is_open(job: &JobRecord, site: SiteId) -> bool
+    ensures { result ≡ (not (is_granted (job_reads job.now)) || is_granted_to (job_reads job.now) site) }
 {
-    held.holder().is_none() || held.is_granted_to(site)
+    job.holder().is_none() || job.is_granted_to(site)
 }
 
 // Whether the job waits at the site.
-fn is_waiting(held: &JobRecord, site: SiteId) -> bool
-    ensures { result ≡ is_job_waiting site (reads_job held.now) }
+fn is_waiting(job: &JobRecord, site: SiteId) -> bool
+    ensures { result ≡ is_job_waiting site (job_reads job.now) }
 {
-    held.is_submitted()
-        && !held.is_gone()
-        && held.progress().begun.is_none()
-        && !held.is_held()
-        && is_open(held, site)
-        && held.has_site(site)
+    job.is_submitted()
+        && !job.is_gone()
+        && job.progress().begun.is_none()
+        && !job.is_held()
+        && is_open(job, site)
+        && job.has_site(site)
 }
 
 // The job as it stands in the queue of the site, if it does.
-fn queued(id: JobId, held: &JobRecord, site: SiteId, capacity: u64) -> Option<QueuedJob>
-    ensures job { result ≡ job_queued site capacity id (reads_job held.now) }
+fn queued(id: JobId, job: &JobRecord, site: SiteId, capacity: u64) -> Option<QueuedJob>
+    ensures job { result ≡ job_queued site capacity id (job_reads job.now) }
     ensures sized { IfSome result (λ job. IsSized capacity job) }
 {
-    if !is_waiting(held, site) {
+    if !is_waiting(job, site) {
         return None;
     }
-    let (_, nodes) = held.nodes();
-    let (_, limit) = held.limit();
-    // what `get` ensures tells that the limit is in its range
-    let _seconds = limit.get();
+    let (_, nodes) = job.nodes();
+    let (_, limit) = job.limit();
+    limit_is_ranged(limit);
     if nodes.get() > capacity {
         return None;
     }
     Some(QueuedJob {
-        is_granted: held.is_granted_to(site),
-        priority: held.priority().1,
+        is_granted: job.is_granted_to(site),
+        priority: job.priority().1,
         id,
         nodes,
         limit,
@@ -130,14 +130,14 @@ fn waiting_jobs(
     site: SiteId,
     capacity: u64,
 ) -> Result<Vec<QueuedJob>, NoMemory>
-    ensures waiting { IfOk result (λ waiting. waiting.items ≡ waiting_in site capacity (reads board.now)) }
+    ensures waiting { IfOk result (λ waiting. waiting.items ≡ waiting_in site capacity (board_reads board.now)) }
     ensures distinct { IfOk result (λ waiting. IsDistinct (eq_by_cmp queue_cmp) waiting.items) }
     ensures sized { IfOk result (λ waiting. All (IsSized capacity) waiting.items) }
 {
     let mut waiting = Vec::new(alloc);
-    for (id, held) in board.jobs() {
-        if let Some(job) = queued(*id, held, site, capacity) {
-            waiting.push(job)?;
+    for (id, job) in board.jobs() {
+        if let Some(entry) = queued(*id, job, site, capacity) {
+            waiting.push(entry)?;
         }
     }
     Ok(waiting)
@@ -150,7 +150,7 @@ pub(crate) fn queue_of(
     site: SiteId,
     capacity: u64,
 ) -> Result<Vec<QueuedJob>, NoMemory>
-    ensures queue { IfOk result (λ queue. queue.items ≡ queue_in site capacity (reads board.now)) }
+    ensures queue { IfOk result (λ queue. queue.items ≡ queue_in site capacity (board_reads board.now)) }
     ensures sized { IfOk result (λ queue. All (IsSized capacity) queue.items) }
 {
     let mut queue = waiting_jobs(alloc, board, site, capacity)?;

@@ -4,8 +4,8 @@ ghost use Rattle.fed_easy.specs.Profile.{IsProfile, Tells};
 ghost use Rattle.fed_easy.specs.Use.{use_at};
 
 use crate::bookings::Booking;
-use crate::events::events_of;
 use crate::profiles::{Profile, Step};
+use crate::use_changes::events_of;
 use fed_lattice::NoMemory;
 use fed_stamp::MAX_NODES;
 use std::alloc::Global;

@@ -16,8 +16,8 @@ abbrev pub site_of : {D : Type 0} → Home D → SiteValue
 site_of home = home.site
 
 -- what the site holds
-abbrev pub held_by : {D : Type 0} → Home D → State
-held_by home = state_of home.site.replica
+abbrev pub state_in : {D : Type 0} → Home D → State
+state_in home = state_of home.site.replica
 
 -- The site reads as the replay of the entries, and all of that is on the disk.
 pub record IsReplayed {D : Type 0} (seen : D → List ℕ) (may_leave : D → List ℕ → Type 0) (home : Home D) (tail : List ℕ) : Type 0 where

@@ -10,7 +10,7 @@ use thiserror::Error;
 /// Why a home isn't made or opened, or lines aren't answered.
 #[derive(Clone, Copy, Debug, Drop, Error)]
 pub enum HomeFault {
-    /// 1: a growth was refused memory.
+    /// 1: an allocation failed.
     #[error("out of memory")]
     NoMemory,
     /// 2: the disk failed, with this error.

@@ -9,7 +9,7 @@ ghost use Rattle.fed_script.specs.Rosters.{roster_of};
 ghost use Rattle.fed_home.specs.Header.{header_in, header_of, site_among};
 
 use fed_lattice::NoMemory;
-use fed_script::{HeldRoster, Line, read_first_line};
+use fed_script::{BoxedRoster, Line, read_first_line};
 use fed_stamp::SiteId;
 use std::alloc::Global;
 use std::str;
@@ -18,7 +18,7 @@ use std::str;
 #[derive(Drop)]
 pub struct Header {
     /// The sites of the federation.
-    pub roster: HeldRoster,
+    pub roster: BoxedRoster,
     /// The site whose journal it is, one of the roster.
     pub site: SiteId,
 }
@@ -86,7 +86,7 @@ fn header_parts(text: &str) -> Option<(&str, &str)>
 }
 
 /// The roster of a line that names the sites.
-fn roster_begun(line: Option<Line>) -> Option<HeldRoster>
+fn roster_begun(line: Option<Line>) -> Option<BoxedRoster>
     ensures { (sites : Option (List (List ℕ × ℕ))) → option_map said_by line ≡ option_map begins sites → result ≡ sites }
 {
     match line {
@@ -96,7 +96,7 @@ fn roster_begun(line: Option<Line>) -> Option<HeldRoster>
 }
 
 /// The roster that a text names.
-fn read_roster(alloc: Global, sites: &str) -> Result<Option<HeldRoster>, NoMemory>
+fn read_roster(alloc: Global, sites: &str) -> Result<Option<BoxedRoster>, NoMemory>
     requires { is_readable sites.now ≡ true }
     ensures { IfOk result (λ roster. roster ≡ roster_of (words_of sites.now)) }
 {

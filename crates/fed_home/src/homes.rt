@@ -60,7 +60,7 @@ fn begin<D: Device + Drop>(
 }
 
 impl<D: Device + Drop> Home<D> {
-    ghost use Rattle.fed_home.specs.Home.{IsOpen, IsReplayed, held_by, home_device, site_of};
+    ghost use Rattle.fed_home.specs.Home.{IsOpen, IsReplayed, state_in, home_device, site_of};
 
     /// Makes the home of a new site in a file that has no entry: it is new, or was cut short before the header was
     /// acknowledged. Gives what stood behind the closed gate too, which is cut. Errors: `Damaged` and `HasEntries` of a file
@@ -158,20 +158,20 @@ impl<D: Device + Drop> Home<D> {
         requires { IsOpen D.seen D.may_leave self.old }
         ensures open { IfOk result (λ answers. IsOpen D.seen D.may_leave self.new) }
         ensures answers { IfOk result (λ answers.
-            AreReplies (site_of self.old).roster (held_by self.old) (map (λ line. line.now) lines.now) answers.items) }
+            AreReplies (site_of self.old).roster (state_in self.old) (map (λ line. line.now) lines.now) answers.items) }
         ensures kept { IfOk result (λ answers. recovered (D.seen (home_device self.new)) ≡
-            Ok (entries_in (D.seen (home_device self.old)) ++ kept_lines (site_of self.old).roster (held_by self.old) (map (λ line. line.now) lines.now))) }
+            Ok (entries_in (D.seen (home_device self.old)) ++ kept_lines (site_of self.old).roster (state_in self.old) (map (λ line. line.now) lines.now))) }
         ensures roster { IfOk result (λ answers. (site_of self.new).roster ≡ (site_of self.old).roster) }
-        ensures left { IfOk result (λ answers. held_by self.new ≡
-            after_lines (site_of self.old).roster (held_by self.old) (map (λ line. line.now) lines.now)) }
+        ensures left { IfOk result (λ answers. state_in self.new ≡
+            after_lines (site_of self.old).roster (state_in self.old) (map (λ line. line.now) lines.now)) }
 
         // A crash at any moment of the call leaves the entries from before it, with the whole group or without any of it.
         ensures any_moment { LeavesOnly D.moment D.left_since (home_device self.old) (home_device self.new)
             (IsBeforeOrAfter (entries_in (D.seen (home_device self.old)))
-            (kept_lines (site_of self.old).roster (held_by self.old) (map (λ line. line.now) lines.now))) }
+            (kept_lines (site_of self.old).roster (state_in self.old) (map (λ line. line.now) lines.now))) }
         ensures fault { IfErr result (StopsAnswers (D.errors (home_device self.old)) (D.errors (home_device self.new))
             (length (at_rest (entries_in (D.seen (home_device self.old))
-            ++ kept_lines (site_of self.old).roster (held_by self.old) (map (λ line. line.now) lines.now))))) }
+            ++ kept_lines (site_of self.old).roster (state_in self.old) (map (λ line. line.now) lines.now))))) }
     {
         let run = answer_lines(self.alloc, &mut self.site, lines)?;
         self.journal.append(&run.kept)?;

@@ -6,7 +6,7 @@ ghost use Rattle.fed_home.specs.Home.{IsOpen};
 
 use crate::{Home, HomeFault, read_header};
 use fed_journal::{FileDevice, Journal, JournalFault, Memory, Tear};
-use fed_script::HeldRoster;
+use fed_script::BoxedRoster;
 use fed_site::{Answered, Site};
 use fed_stamp::{Roster, SiteId};
 use std::alloc::Global;
@@ -111,7 +111,7 @@ fn has_groups(alloc: Global, file: &[u8], groups: usize) -> Result<bool, HomeFau
 /// What a site lists that has answered the lines that so many groups keep.
 fn listed(alloc: Global, groups: usize) -> Result<Answered, Fail> {
     let sites = [("argonne", 8), ("lemont", 4)];
-    let roster = HeldRoster::new(alloc, Roster::new(&sites)?)?;
+    let roster = BoxedRoster::new(alloc, Roster::new(&sites)?)?;
     let count = COUNTS.get(groups).copied().unwrap_or(0);
     let kept = KEPT.get(..count).ok_or("too many")?;
     let mut site = Site::open(alloc, roster, SiteId::new(0).ok_or("a site")?, kept)?;
@@ -323,9 +323,9 @@ fn is_left(alloc: Global, file: &[u8], groups: usize) -> Result<bool, HomeFault>
     Ok(has_groups(alloc, file, groups)? || has_groups(alloc, file, groups.saturating_add(1))?)
 }
 
-// Whichever growth is refused, what was answered is there, and a second attempt answers all.
+// Whichever allocation fails, what was answered is there, and a second attempt answers all.
 #[test]
-fn refused_growths_of_a_home(rt: HostRuntime) -> Result<(), Fail> {
+fn failed_allocations_of_a_home(rt: HostRuntime) -> Result<(), Fail> {
     let alloc = rt.alloc();
     for _ in 0..2 {
         let Ok(file) = made(alloc) else {

@@ -3,18 +3,19 @@ use Rattle.std.proofs.Common.{◌≡◌, ℕ, Bool, true, false, cond, List, [],
 use Rattle.serde_json.specs.Data.{Data, string}
 use Rattle.fed_stamp.specs.Stamp.{StampValue}
 use Rattle.fed_stamp.specs.Word.{is_name}
-use Rattle.fed_record.specs.Account.{account_of, text_of as text_of_account}
+use Rattle.fed_model.specs.Account.{account_of, text_of as text_of_account}
 use Rattle.fed_json.specs.Reading.{Reading, or_range}
 use Rattle.fed_json.specs.Values.{text_of, pair_of, pair_value}
-use Rattle.fed_json.specs.Numbers.{natural_value, integer_value, integer_of, IsFrom}
+use Rattle.fed_json.specs.Numbers.{natural_value, integer_value, integer_of}
+use Rattle.fed_model.specs.Ranges.{IsFrom, IsStamp, IsName, is_priority, IsPriority, IsAccount}
 use Rattle.fed_json.proofs.Forms.{IsForm}
 use Rattle.fed_json.proofs.Steps.{bind_ok, ok_is}
 use Rattle.fed_json.proofs.NumberLaws.{natural_form, integer_form}
 use Rattle.fed_json.proofs.FormLaws.{pair_form, mapped_form, tested_form, ranged_form, text_form}
 use Rattle.fed_stamp.specs.declared.rosters.TheConstants.{MAX_NODES}
-use Rattle.fed_record.specs.declared.limits.TheConstants.{MAX_LIMIT}
-use Rattle.fed_job_json.specs.Stamps.{stamp_value, stamp_of, IsStamp}
-use Rattle.fed_job_json.specs.Fields.{field_value, field_of, IsField, name_of, IsName, is_priority, priority_of, IsPriority, nodes_of, limit_of, account_value, account_in, IsAccount}
+use Rattle.fed_model.specs.declared.limits.TheConstants.{MAX_LIMIT}
+use Rattle.fed_job_json.specs.Stamps.{stamp_value, stamp_of}
+use Rattle.fed_job_json.specs.Fields.{field_value, field_of, IsField, name_of, priority_of, nodes_of, limit_of, account_value, account_in}
 use Rattle.fed_job_json.proofs.StampLaws.{stamp_form}
 
 module _ {T : Type 0} (read : Data → Reading T) (v : T → Data) (P : T → Type 0) where

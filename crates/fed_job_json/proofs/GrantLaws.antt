@@ -3,9 +3,9 @@ use Rattle.std.proofs.Common.{◌≡◌, length, ℕ, false, List, [], ◌∷◌
 use Rattle.std.specs.Prelude.{codes, is_some}
 use Rattle.serde_json.specs.Find.{as_null}
 use Rattle.serde_json.specs.Data.{Data}
-use Rattle.fed_record.specs.declared.grants.GrantStage.{GrantStage}
-use Rattle.fed_record.specs.declared.grants.GrantStage.TheVariants.{Open, Returned}
-use Rattle.fed_record.specs.declared.terms.TheConstants.{MAX_TERM}
+use Rattle.fed_model.specs.declared.grants.GrantStage.{GrantStage}
+use Rattle.fed_model.specs.declared.grants.GrantStage.TheVariants.{Open, Returned}
+use Rattle.fed_model.specs.declared.terms.TheConstants.{MAX_TERM}
 use Rattle.fed_json.specs.declared.flaws.Flaw.TheVariants.{Shape}
 use Rattle.fed_json.specs.Reading.{both}
 use Rattle.fed_json.specs.Values.{list_value, elements_of, is_word}

@@ -6,13 +6,14 @@ use Rattle.serde_json.specs.Data.{Data, null, boolean, string}
 use Rattle.serde_json.specs.Find.{get}
 use Rattle.fed_stamp.specs.Stamp.{StampValue}
 use Rattle.fed_stamp.specs.declared.rosters.TheConstants.{MAX_NODES}
-use Rattle.fed_record.specs.declared.limits.TheConstants.{MAX_LIMIT}
-use Rattle.fed_record.specs.declared.holds.HoldKind.{HoldKind}
-use Rattle.fed_record.specs.Hold.{kind_cmp}
-use Rattle.fed_record.specs.JobRecord.{FieldsValue, StagesValue, reads}
+use Rattle.fed_model.specs.declared.limits.TheConstants.{MAX_LIMIT}
+use Rattle.fed_model.specs.declared.holds.HoldKind.{HoldKind}
+use Rattle.fed_model.specs.Hold.{kind_cmp}
+use Rattle.fed_record.specs.JobRecord.{FieldsValue, StagesValue, job_reads}
 use Rattle.fed_json.specs.declared.flaws.Flaw.TheVariants.{Shape}
 use Rattle.fed_json.specs.Reading.{◌>>=◌, where_true}
-use Rattle.fed_json.specs.Numbers.{natural_value, integer_value, IsFrom}
+use Rattle.fed_json.specs.Numbers.{natural_value, integer_value}
+use Rattle.fed_model.specs.Ranges.{IsFrom, IsStamp, IsSite, IsName, IsPriority, IsAccount}
 use Rattle.fed_json.specs.Values.{truth_of}
 use Rattle.fed_json.specs.Objects.{Named, has_names, member_of}
 use Rattle.fed_json.proofs.Forms.{HasMembers, IsForm, IsPartForm}
@@ -21,8 +22,8 @@ use Rattle.fed_json.proofs.FormLaws.{truth_form}
 use Rattle.fed_json.proofs.ObjectLaws.{member_part, both_part, mapped_part, object_is, object_has, object_named, names_in, are_distinct}
 use Rattle.fed_job_json.specs.declared.formats.Format.{Format}
 use Rattle.fed_job_json.specs.declared.formats.Format.TheVariants.{One, Two}
-use Rattle.fed_job_json.specs.Stamps.{stamp_value, stamp_of, IsStamp, version_value, version_of, IsVersion, IsSite}
-use Rattle.fed_job_json.specs.Fields.{field_value, field_of, IsField, name_of, IsName, priority_of, IsPriority, nodes_of, limit_of, account_value, account_in, IsAccount}
+use Rattle.fed_job_json.specs.Stamps.{stamp_value, stamp_of, version_value, version_of, IsVersion}
+use Rattle.fed_job_json.specs.Fields.{field_value, field_of, IsField, name_of, priority_of, nodes_of, limit_of, account_value, account_in}
 use Rattle.fed_job_json.specs.Grants.{grant_value, grant_of, IsGrant}
 use Rattle.fed_job_json.specs.Progress.{progress_value, progress_of, IsProgress}
 use Rattle.fed_job_json.specs.Pairs.{holds_value, holds_of, sites_value, sites_of, ArePairs}
@@ -171,10 +172,10 @@ one_from_parts : (d : Data) (j : Job) → HasMembers (parts_named One j) d → H
 unfolding job_members
 one_from_parts d (id, r) h = (h.1.1.1.1.1.1.1.1.1.0, (h.1.1.1.1.1.1.1.1.1.1.0, (h.1.1.1.1.1.1.1.0, (h.0, (h.1.1.1.1.1.0, (h.1.1.0, (h.1.1.1.1.0, (h.1.0, (h.1.1.1.0, (h.1.1.1.1.1.1.1.1.1.1.1.0, (h.1.1.1.1.1.1.1.1.0, (h.1.1.1.1.1.1.1.1.1.1.1.1.0, tt))))))))))))
 
-one_to_parts : (d : Data) (j : Job) → stamp_value j.0 ≡ id_value (reads j.1).account → HasMembers (job_members One j) d → HasMembers (parts_named One j) d
+one_to_parts : (d : Data) (j : Job) → stamp_value j.0 ≡ id_value (job_reads j.1).account → HasMembers (job_members One j) d → HasMembers (parts_named One j) d
 unfolding job_members
 one_to_parts d (id, r) e h =
-    let same : ◌≡◌ {A = Option Data} (Some (stamp_value id)) (Some (id_value (reads r).account)) = ap (λ (d : Data). Some d) e in
+    let same : ◌≡◌ {A = Option Data} (Some (stamp_value id)) (Some (id_value (job_reads r).account)) = ap (λ (d : Data). Some d) e in
     (h.1.1.1.0, (h.1.1.1.1.1.1.1.0, (h.1.1.1.1.1.0, (h.1.1.1.1.1.1.1.1.0, (h.1.1.1.1.1.1.0, (h.1.1.1.1.0, ((h.1.1.1.0 ∙ same), (h.1.1.0, (h.1.1.1.1.1.1.1.1.1.1.0, (h.0, (h.1.0, (h.1.1.1.1.1.1.1.1.1.0, (h.1.1.1.1.1.1.1.1.1.1.1.0, tt)))))))))))))
 
 same_stamp : (s t : StampValue) → IsStamp s → IsStamp t → stamp_value s ≡ stamp_value t → s ≡ t
@@ -189,7 +190,7 @@ account_is id (Some (s, None)) h i e = ap (λ (s : StampValue). Some (s, None)) 
 account_is id (Some (s, Some name)) h i e = absurd i
 
 -- what the two ranges say of each other
-in_range : (format : Format) (j : Job) → AreParts format j → IsAccountIn format j.0 (reads j.1).account → covers_job j ≡ true → IsJob format j
+in_range : (format : Format) (j : Job) → AreParts format j → IsAccountIn format j.0 (job_reads j.1).account → covers_job j ≡ true → IsJob format j
 in_range format (id, r) h account covered = record {
   id = h.0;
   owner = h.1.0.0.0;
@@ -206,7 +207,7 @@ in_range format (id, r) h account covered = record {
   covered = covered;
 }
 
-parts_in_range : (format : Format) (j : Job) → IsJob format j → IsAccountHere format (reads j.1).account → AreParts format j
+parts_in_range : (format : Format) (j : Job) → IsJob format j → IsAccountHere format (job_reads j.1).account → AreParts format j
 parts_in_range format (id, r) h account = (h.id, (((h.owner, h.name), (h.priority, ((h.nodes, h.limit), account))), ((h.holds, h.sites), ((tt, (h.grant, h.progress)), h.touched))))
 
 distinct : (format : Format) (j : Job) → are_distinct (names_in (job_members format j)) ≡ true
@@ -219,9 +220,9 @@ unfolding job_members
 names_are One (id, r) = refl
 names_are Two (id, r) = refl
 
-taken : (format : Format) (d : Data) (j : Job) → HasMembers (parts_named format j) d → AreParts format j → HasMembers (job_members format j) d × IsAccountIn format j.0 (reads j.1).account
+taken : (format : Format) (d : Data) (j : Job) → HasMembers (parts_named format j) d → AreParts format j → HasMembers (job_members format j) d × IsAccountIn format j.0 (job_reads j.1).account
 taken One d (id, r) h i =
-    (one_from_parts d (id, r) h, account_is id (reads r).account i.0 i.1.0.1.1.1 (same_data (get (codes "id") d) (stamp_value id) (id_value (reads r).account) h.0 h.1.1.1.1.1.1.0))
+    (one_from_parts d (id, r) h, account_is id (job_reads r).account i.0 i.1.0.1.1.1 (same_data (get (codes "id") d) (stamp_value id) (id_value (job_reads r).account) h.0 h.1.1.1.1.1.1.0))
 taken Two d (id, r) h i = (two_from_parts d (id, r) h, i.1.0.1.1.1)
 
 job_takes : (format : Format) (d : Data) (j : Job) → job_of format d ≡ Ok j → (d ≡ job_value format j) × IsJob format j
@@ -241,7 +242,7 @@ here : (format : Format) (id : StampValue) (account : AccountField) → IsStamp 
 here One id account h i = subst (λ (a : AccountField). IsAccountHere One a) (sym i) h
 here Two id account h i = i
 
-put_back : (format : Format) (d : Data) (j : Job) → IsAccountIn format j.0 (reads j.1).account → HasMembers (job_members format j) d → HasMembers (parts_named format j) d
+put_back : (format : Format) (d : Data) (j : Job) → IsAccountIn format j.0 (job_reads j.1).account → HasMembers (job_members format j) d → HasMembers (parts_named format j) d
 put_back One d (id, r) i h = one_to_parts d (id, r) (sym (ap id_value i)) h
 put_back Two d (id, r) i h = two_to_parts d (id, r) h
 
@@ -250,7 +251,7 @@ unfolding job_of
 job_again format j h =
     let named : has_names (job_names format) (job_value format j) ≡ true = rw (← names_are format j) (object_named (job_members format j)) in
     let members = put_back format (job_value format j) j h.account (object_has (job_members format j) (distinct format j)) in
-    let read = (parts_part format).again (job_value format j) j members (parts_in_range format j h (here format j.0 (reads j.1).account h.id h.account)) in
+    let read = (parts_part format).again (job_value format j) j members (parts_in_range format j h (here format j.0 (job_reads j.1).account h.id h.account)) in
     rw (named, read, h.covered) refl
 
 -- just the values of jobs in range are read

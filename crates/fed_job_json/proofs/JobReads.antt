@@ -15,7 +15,8 @@ use Rattle.fed_json.specs.Reading.{Reading}
 use Rattle.fed_json.specs.Values.{elements_of, pair_of, all_of}
 use Rattle.fed_json.specs.Objects.{has_names}
 use Rattle.fed_job_json.specs.declared.formats.Format.{Format}
-use Rattle.fed_job_json.specs.Stamps.{IsStamp, stamp_of}
+use Rattle.fed_model.specs.Ranges.{IsStamp}
+use Rattle.fed_job_json.specs.Stamps.{stamp_of}
 use Rattle.fed_job_json.specs.Pairs.{ascends, pairs_of}
 use Rattle.fed_job_json.specs.Covers.{covers_pairs, covers_job}
 use Rattle.fed_job_json.specs.Job.{Job, job_names, parts_of, job_of}

@@ -9,9 +9,9 @@ use Rattle.std.specs.Ordering.{is_lt, nat_cmp}
 use Rattle.std.proofs.lemmas.Bool.{and_parts}
 use Rattle.serde_json.specs.Data.{Data}
 use Rattle.fed_tags.specs.Tags.{pair_cmp}
-use Rattle.fed_record.specs.declared.holds.HoldKind.{HoldKind}
-use Rattle.fed_record.specs.declared.holds.HoldKind.TheVariants.{User, Operator, System}
-use Rattle.fed_record.specs.Hold.{kind_cmp}
+use Rattle.fed_model.specs.declared.holds.HoldKind.{HoldKind}
+use Rattle.fed_model.specs.declared.holds.HoldKind.TheVariants.{User, Operator, System}
+use Rattle.fed_model.specs.Hold.{kind_cmp}
 use Rattle.fed_json.specs.declared.flaws.Flaw.TheVariants.{Shape}
 use Rattle.fed_json.specs.Reading.{Reading}
 use Rattle.fed_json.specs.Numbers.{natural_value}
@@ -19,7 +19,8 @@ use Rattle.fed_json.specs.Values.{is_word, pair_of, pair_value, array_of}
 use Rattle.fed_json.proofs.Forms.{IsForm}
 use Rattle.fed_json.proofs.Steps.{ok_is}
 use Rattle.fed_json.proofs.FormLaws.{pair_form, array_form, tested_form, word_takes}
-use Rattle.fed_job_json.specs.Stamps.{stamp_value, stamp_of, IsStamp, site_of, IsSite}
+use Rattle.fed_job_json.specs.Stamps.{stamp_value, stamp_of, site_of}
+use Rattle.fed_model.specs.Ranges.{IsStamp, IsSite}
 use Rattle.fed_job_json.specs.Pairs.{ascends, kind_value, kind_of, pairs_value, pairs_of, ArePairs, holds_value, holds_of, sites_value, sites_of}
 use Rattle.fed_job_json.proofs.StampLaws.{site_form, stamp_form}
 

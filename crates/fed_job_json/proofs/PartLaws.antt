@@ -3,8 +3,8 @@ use Rattle.std.proofs.Common.{◌≡◌, ℕ, Bool, List, Option, Some, Ok, Err,
 use Rattle.std.specs.Prelude.{ℤ, codes}
 use Rattle.serde_json.specs.Data.{Data}
 use Rattle.fed_stamp.specs.Stamp.{StampValue}
-use Rattle.fed_record.specs.declared.grants.GrantStage.{GrantStage}
-use Rattle.fed_record.specs.declared.holds.HoldKind.{HoldKind}
+use Rattle.fed_model.specs.declared.grants.GrantStage.{GrantStage}
+use Rattle.fed_model.specs.declared.holds.HoldKind.{HoldKind}
 use Rattle.fed_record.specs.declared.job_readers.Progress.{Progress}
 use Rattle.fed_record.specs.JobRecord.{FieldsValue, StagesValue}
 use Rattle.fed_json.specs.declared.flaws.Flaw.TheVariants.{Shape, Range}

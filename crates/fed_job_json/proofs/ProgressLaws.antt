@@ -5,8 +5,8 @@ use Rattle.std.proofs.lemmas.Bool.{ltb-true, lt-ltb}
 use Rattle.serde_json.specs.Data.{Data, string}
 use Rattle.serde_json.specs.Find.{as_null}
 use Rattle.fed_stamp.specs.declared.rosters.TheConstants.{MAX_NODES}
-use Rattle.fed_record.specs.declared.moments.TheConstants.{MAX_END, MAX_MOMENT}
-use Rattle.fed_record.specs.declared.progress.TheConstants.{MAX_STATUS}
+use Rattle.fed_model.specs.declared.moments.TheConstants.{MAX_END, MAX_MOMENT}
+use Rattle.fed_model.specs.declared.beginnings.TheConstants.{MAX_STATUS}
 use Rattle.fed_json.specs.declared.flaws.Flaw.TheVariants.{Shape}
 use Rattle.fed_json.specs.Reading.{mapped, both, where_true}
 use Rattle.fed_json.specs.Values.{list_value, elements_of, is_word, or_null, null_or}

@@ -2,12 +2,13 @@
 use Rattle.std.proofs.Common.{◌-◌, refl}
 use Rattle.fed_stamp.specs.declared.sites.TheConstants.{SITES}
 use Rattle.fed_stamp.specs.declared.stamps.TheConstants.{MAX_COUNTER}
-use Rattle.fed_json.specs.Numbers.{natural_value, natural_in, IsFrom}
+use Rattle.fed_json.specs.Numbers.{natural_value, natural_in}
+use Rattle.fed_model.specs.Ranges.{IsFrom, IsSite, IsStamp}
 use Rattle.fed_json.specs.Values.{pair_of, pair_value}
 use Rattle.fed_json.proofs.Forms.{IsForm}
 use Rattle.fed_json.proofs.NumberLaws.{natural_form}
 use Rattle.fed_json.proofs.FormLaws.{pair_form, mapped_form, row_form}
-use Rattle.fed_job_json.specs.Stamps.{site_of, IsSite, stamp_value, stamp_of, IsStamp, version_value, version_of, IsVersion}
+use Rattle.fed_job_json.specs.Stamps.{site_of, stamp_value, stamp_of, version_value, version_of, IsVersion}
 
 pub site_form : IsForm site_of natural_value IsSite
 site_form = natural_form 0 (SITES - 1)

@@ -6,7 +6,8 @@ use Rattle.std.specs.List.{AllByRecursion}
 use Rattle.serde_json.specs.Data.{Data}
 use Rattle.fed_stamp.specs.declared.stamps.TheConstants.{MAX_COUNTER}
 use Rattle.fed_json.specs.declared.flaws.Flaw.TheVariants.{Range}
-use Rattle.fed_json.specs.Numbers.{natural_value, natural_in, IsFrom}
+use Rattle.fed_json.specs.Numbers.{natural_value, natural_in}
+use Rattle.fed_model.specs.Ranges.{IsFrom}
 use Rattle.fed_json.specs.Values.{elements_of, all_of}
 use Rattle.fed_json.proofs.NumberLaws.{natural_form}
 use Rattle.fed_json.proofs.FormLaws.{all_takes}

@@ -3,7 +3,7 @@ use Rattle.std.specs.Prelude.{ℕ, Bool, true, ◌&&◌, List, Option, Some, Non
 use Rattle.std.specs.List.{list_all}
 use Rattle.fed_stamp.specs.Stamp.{StampValue}
 use Rattle.fed_stamp.specs.Version.{covers}
-use Rattle.fed_record.specs.Grant.{stamp_of}
+use Rattle.fed_model.specs.Grant.{stamp_of}
 use Rattle.fed_record.specs.JobRecord.{JobRecordValue, FieldsValue, StagesValue}
 
 -- the stamp of what is there

@@ -1,16 +1,16 @@
 -- The fields of a job as JSON values: each a value beside the stamp of the operation that set it.
-use Rattle.std.specs.Prelude.{◌≡◌, ℕ, ℤ, Bool, true, ◌&&◌, int_le, List, [], ◌∷◌, Option, Some, None}
+use Rattle.std.specs.Prelude.{ℕ, ℤ, List, [], ◌∷◌, Option, Some, None}
 use Rattle.serde_json.specs.Data.{Data, null, string}
 use Rattle.fed_stamp.specs.Stamp.{StampValue}
 use Rattle.fed_stamp.specs.Word.{is_name}
 use Rattle.fed_stamp.specs.declared.rosters.TheConstants.{MAX_NODES}
-use Rattle.fed_record.specs.declared.limits.TheConstants.{MAX_LIMIT}
-use Rattle.fed_record.specs.declared.priorities.TheConstants.{MIN_PRIORITY, MAX_PRIORITY}
-use Rattle.fed_record.specs.Account.{account_of, text_of as text_of_account}
+use Rattle.fed_model.specs.declared.limits.TheConstants.{MAX_LIMIT}
+use Rattle.fed_model.specs.Account.{account_of, text_of as text_of_account}
 use Rattle.fed_json.specs.Reading.{Reading, ◌>>=◌, mapped, where_true, or_range}
 use Rattle.fed_json.specs.Numbers.{natural_in, integer_of}
 use Rattle.fed_json.specs.Values.{list_value, pair_of, text_of}
-use Rattle.fed_job_json.specs.Stamps.{stamp_value, stamp_of, IsStamp}
+use Rattle.fed_model.specs.Ranges.{is_priority, IsStamp}
+use Rattle.fed_job_json.specs.Stamps.{stamp_value, stamp_of}
 
 -- a field that no operation set has no value of its own
 abbrev pub field_value : {T : Type 0} → (T → Data) → Option (StampValue × T) → Data
@@ -30,17 +30,8 @@ IsField InRange (Some f) = IsStamp f.0 × InRange f.1
 abbrev pub name_of : Data → Reading (List ℕ)
 name_of d = text_of d >>= where_true is_name
 
-abbrev pub IsName : List ℕ → Type 0
-IsName text = is_name text ≡ true
-
-abbrev pub is_priority : ℤ → Bool
-is_priority n = int_le MIN_PRIORITY n && int_le n MAX_PRIORITY
-
 abbrev pub priority_of : Data → Reading ℤ
 priority_of d = integer_of d >>= where_true is_priority
-
-abbrev pub IsPriority : ℤ → Type 0
-IsPriority n = is_priority n ≡ true
 
 abbrev pub nodes_of : Data → Reading ℕ
 nodes_of d = natural_in 1 MAX_NODES d
@@ -53,7 +44,3 @@ account_value account = string (text_of_account account)
 
 abbrev pub account_in : Data → Reading (Option (List ℕ))
 account_in d = text_of d >>= λ text. or_range (account_of text)
-
-abbrev pub IsAccount : Option (List ℕ) → Type 0
-IsAccount None = Unit {0}
-IsAccount (Some name) = IsName name

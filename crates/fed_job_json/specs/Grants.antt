@@ -1,16 +1,17 @@
 -- The stage of a job's grants as a JSON value. In format 1 an open grant is one of term 1.
 use Rattle.std.specs.Prelude.{◌≡◌, ℕ, List, [], ◌∷◌, codes, if◌then◌else◌, Option, IfSome, Err}
 use Rattle.serde_json.specs.Data.{Data, string}
-use Rattle.fed_record.specs.declared.grants.GrantStage.{GrantStage}
-use Rattle.fed_record.specs.declared.grants.GrantStage.TheVariants.{Open, Returned}
-use Rattle.fed_record.specs.declared.terms.TheConstants.{MAX_TERM}
+use Rattle.fed_model.specs.declared.grants.GrantStage.{GrantStage}
+use Rattle.fed_model.specs.declared.grants.GrantStage.TheVariants.{Open, Returned}
+use Rattle.fed_model.specs.declared.terms.TheConstants.{MAX_TERM}
 use Rattle.fed_json.specs.declared.flaws.Flaw.TheVariants.{Shape}
 use Rattle.fed_json.specs.Reading.{Reading, ◌>>=◌, mapped, both}
-use Rattle.fed_json.specs.Numbers.{natural_value, natural_in, IsFrom}
+use Rattle.fed_json.specs.Numbers.{natural_value, natural_in}
+use Rattle.fed_model.specs.Ranges.{IsFrom, IsStamp, IsSite}
 use Rattle.fed_json.specs.Values.{list_value, elements_of, is_word, or_null, null_or}
 use Rattle.fed_job_json.specs.declared.formats.Format.{Format}
 use Rattle.fed_job_json.specs.declared.formats.Format.TheVariants.{One, Two}
-use Rattle.fed_job_json.specs.Stamps.{stamp_value, stamp_of, IsStamp, site_of, IsSite}
+use Rattle.fed_job_json.specs.Stamps.{stamp_value, stamp_of, site_of}
 
 abbrev pub stage_value : Format → GrantStage → Data
 stage_value One (Open term stamp site) = list_value (stamp_value stamp ∷ natural_value site ∷ [])

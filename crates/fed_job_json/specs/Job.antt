@@ -3,20 +3,21 @@ use Rattle.std.specs.Prelude.{◌≡◌, ℕ, true, List, [], ◌∷◌, ◌++�
 use Rattle.std.specs.Ordering.{nat_cmp}
 use Rattle.serde_json.specs.Data.{Data, boolean, string}
 use Rattle.fed_stamp.specs.Stamp.{StampValue}
-use Rattle.fed_record.specs.Hold.{kind_cmp}
-use Rattle.fed_record.specs.JobRecord.{JobRecordValue, FieldsValue, StagesValue, reads}
+use Rattle.fed_model.specs.Hold.{kind_cmp}
+use Rattle.fed_record.specs.JobRecord.{JobRecordValue, FieldsValue, StagesValue, job_reads}
 use Rattle.fed_json.specs.declared.flaws.Flaw.TheVariants.{Shape}
 use Rattle.fed_json.specs.Reading.{Reading, ◌>>=◌, mapped, both, where_true}
-use Rattle.fed_json.specs.Numbers.{natural_value, integer_value, IsFrom}
+use Rattle.fed_json.specs.Numbers.{natural_value, integer_value}
+use Rattle.fed_model.specs.Ranges.{IsFrom, IsStamp, IsSite, IsName, IsPriority, IsAccount}
 use Rattle.fed_json.specs.Values.{truth_of}
 use Rattle.fed_json.specs.Objects.{Named, object_value, has_names, member_of}
 use Rattle.fed_stamp.specs.declared.rosters.TheConstants.{MAX_NODES}
-use Rattle.fed_record.specs.declared.limits.TheConstants.{MAX_LIMIT}
-use Rattle.fed_record.specs.declared.holds.HoldKind.{HoldKind}
+use Rattle.fed_model.specs.declared.limits.TheConstants.{MAX_LIMIT}
+use Rattle.fed_model.specs.declared.holds.HoldKind.{HoldKind}
 use Rattle.fed_job_json.specs.declared.formats.Format.{Format}
 use Rattle.fed_job_json.specs.declared.formats.Format.TheVariants.{One, Two}
-use Rattle.fed_job_json.specs.Stamps.{stamp_value, stamp_of, IsStamp, version_value, version_of, IsVersion, IsSite}
-use Rattle.fed_job_json.specs.Fields.{field_value, field_of, IsField, name_of, IsName, priority_of, IsPriority, nodes_of, limit_of, account_value, account_in, IsAccount}
+use Rattle.fed_job_json.specs.Stamps.{stamp_value, stamp_of, version_value, version_of, IsVersion}
+use Rattle.fed_job_json.specs.Fields.{field_value, field_of, IsField, name_of, priority_of, nodes_of, limit_of, account_value, account_in}
 use Rattle.fed_job_json.specs.Grants.{grant_value, grant_of, IsGrant}
 use Rattle.fed_job_json.specs.Progress.{progress_value, progress_of, IsProgress}
 use Rattle.fed_job_json.specs.Pairs.{holds_value, holds_of, sites_value, sites_of, ArePairs}
@@ -34,22 +35,22 @@ account_members Two account = (codes "account", field_value account_value accoun
 
 abbrev pub other_members : Format → Job → Named
 other_members format (id, r) =
-    (codes "deleted", boolean (reads r).deleted) ∷
-    (codes "grant", grant_value format (reads r).grant) ∷
+    (codes "deleted", boolean (job_reads r).deleted) ∷
+    (codes "grant", grant_value format (job_reads r).grant) ∷
     (codes "holds", holds_value r.holds) ∷
     (codes "id", stamp_value id) ∷
-    (codes "limit", field_value natural_value (reads r).limit) ∷
-    (codes "name", field_value string (reads r).name) ∷
-    (codes "nodes", field_value natural_value (reads r).nodes) ∷
-    (codes "owner", field_value string (reads r).owner) ∷
-    (codes "priority", field_value integer_value (reads r).priority) ∷
-    (codes "progress", progress_value ((reads r).begun, (reads r).finished)) ∷
+    (codes "limit", field_value natural_value (job_reads r).limit) ∷
+    (codes "name", field_value string (job_reads r).name) ∷
+    (codes "nodes", field_value natural_value (job_reads r).nodes) ∷
+    (codes "owner", field_value string (job_reads r).owner) ∷
+    (codes "priority", field_value integer_value (job_reads r).priority) ∷
+    (codes "progress", progress_value ((job_reads r).begun, (job_reads r).finished)) ∷
     (codes "sites", sites_value r.sites) ∷
-    (codes "touched", version_value (reads r).touched) ∷
+    (codes "touched", version_value (job_reads r).touched) ∷
     []
 
 unfoldable pub job_members : Format → Job → Named
-job_members format j = account_members format (reads j.1).account ++ other_members format j
+job_members format j = account_members format (job_reads j.1).account ++ other_members format j
 
 abbrev pub job_value : Format → Job → Data
 job_value format j = object_value (job_members format j)
@@ -63,17 +64,17 @@ IsAccountIn Two id account = IsField IsAccount account
 
 pub record IsJobIn (format : Format) (stamp : StampValue) (r : JobRecordValue) : Type 0 where
   pub id : IsStamp stamp
-  pub owner : IsField IsName (reads r).owner
-  pub name : IsField IsName (reads r).name
-  pub priority : IsField IsPriority (reads r).priority
-  pub nodes : IsField (IsFrom 1 MAX_NODES) (reads r).nodes
-  pub limit : IsField (IsFrom 1 MAX_LIMIT) (reads r).limit
-  pub account : IsAccountIn format stamp (reads r).account
+  pub owner : IsField IsName (job_reads r).owner
+  pub name : IsField IsName (job_reads r).name
+  pub priority : IsField IsPriority (job_reads r).priority
+  pub nodes : IsField (IsFrom 1 MAX_NODES) (job_reads r).nodes
+  pub limit : IsField (IsFrom 1 MAX_LIMIT) (job_reads r).limit
+  pub account : IsAccountIn format stamp (job_reads r).account
   pub holds : ArePairs (λ _. Unit {0}) kind_cmp r.holds
   pub sites : ArePairs IsSite nat_cmp r.sites
-  pub grant : IsGrant format (reads r).grant
-  pub progress : IsProgress ((reads r).begun, (reads r).finished)
-  pub touched : IsVersion (reads r).touched
+  pub grant : IsGrant format (job_reads r).grant
+  pub progress : IsProgress ((job_reads r).begun, (job_reads r).finished)
+  pub touched : IsVersion (job_reads r).touched
   pub covered : covers_job (stamp, r) ≡ true
 
 abbrev pub IsJob : Format → Job → Type 0

@@ -6,14 +6,15 @@ use Rattle.std.specs.Ordering.{is_lt, nat_cmp}
 use Rattle.serde_json.specs.Data.{Data, string}
 use Rattle.fed_stamp.specs.Stamp.{StampValue}
 use Rattle.fed_tags.specs.Tags.{pair_cmp}
-use Rattle.fed_record.specs.declared.holds.HoldKind.{HoldKind}
-use Rattle.fed_record.specs.declared.holds.HoldKind.TheVariants.{User, Operator, System}
-use Rattle.fed_record.specs.Hold.{kind_cmp}
+use Rattle.fed_model.specs.declared.holds.HoldKind.{HoldKind}
+use Rattle.fed_model.specs.declared.holds.HoldKind.TheVariants.{User, Operator, System}
+use Rattle.fed_model.specs.Hold.{kind_cmp}
 use Rattle.fed_json.specs.declared.flaws.Flaw.TheVariants.{Shape}
 use Rattle.fed_json.specs.Reading.{Reading, ◌>>=◌, where_true}
 use Rattle.fed_json.specs.Numbers.{natural_value}
 use Rattle.fed_json.specs.Values.{list_value, is_word, pair_of, pair_value, array_of}
-use Rattle.fed_job_json.specs.Stamps.{stamp_value, stamp_of, IsStamp, site_of}
+use Rattle.fed_job_json.specs.Stamps.{stamp_value, stamp_of, site_of}
+use Rattle.fed_model.specs.Ranges.{IsStamp}
 
 -- each is below all that come after it
 abbrev pub ascends : {A : Type 0} → (A → A → Ordering) → List A → Bool

@@ -6,11 +6,9 @@ use Rattle.serde_json.specs.Data.{Data}
 use Rattle.fed_stamp.specs.Stamp.{StampValue}
 use Rattle.fed_stamp.specs.declared.stamps.TheConstants.{MAX_COUNTER}
 use Rattle.fed_json.specs.Reading.{Reading, mapped}
-use Rattle.fed_json.specs.Numbers.{natural_value, natural_in, IsFrom}
+use Rattle.fed_json.specs.Numbers.{natural_value, natural_in}
+use Rattle.fed_model.specs.Ranges.{IsFrom}
 use Rattle.fed_json.specs.Values.{list_value, pair_of, row_of}
-
-abbrev pub IsSite : ℕ → Type 0
-IsSite n = IsFrom 0 (SITES - 1) n
 
 abbrev pub site_of : Data → Reading ℕ
 site_of d = natural_in 0 (SITES - 1) d
@@ -20,9 +18,6 @@ stamp_value s = list_value (natural_value s.counter ∷ natural_value s.site ∷
 
 abbrev pub stamp_of : Data → Reading StampValue
 stamp_of d = mapped (λ p. record { counter = p.0; site = p.1 }) (pair_of (natural_in 1 MAX_COUNTER) site_of d)
-
-abbrev pub IsStamp : StampValue → Type 0
-IsStamp s = IsFrom 1 MAX_COUNTER s.counter × IsSite s.site
 
 abbrev pub version_value : List ℕ → Data
 version_value v = list_value (map natural_value v)

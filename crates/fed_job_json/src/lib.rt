@@ -8,7 +8,7 @@ pub mod formats;
 /// The stage of a job's grants.
 pub mod grants;
 /// The live pairs of a job.
-pub mod pairs;
+pub mod live_pairs;
 /// What was read of a job, part by part.
 pub mod parts;
 /// The Begin and the Finish of a job.

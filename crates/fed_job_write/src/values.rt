@@ -3,7 +3,7 @@ ghost use Rattle.std.specs.Prelude.{◌≡◌, ◌∷◌, [], length, map, IfOk,
 ghost use Rattle.serde_json.specs.Data.{string};
 ghost use Rattle.serde_json.specs.View.{view};
 ghost use Rattle.fed_json.specs.Numbers.{natural_value, integer_value};
-ghost use Rattle.fed_json.specs.Values.{pair_value};
+ghost use Rattle.fed_json.specs.Values.{list_value, pair_value};
 ghost use Rattle.fed_job_json.specs.Stamps.{stamp_value, version_value};
 ghost use Rattle.fed_job_json.specs.Fields.{field_value, account_value};
 ghost use Rattle.fed_job_json.specs.Grants.{stage_value, grant_value};
@@ -18,11 +18,20 @@ use fed_stamp::{SITES, SiteId, Stamp, Version, Word};
 use serde_json::{Value, json};
 use std::alloc::{AllocError, Global};
 
+// An array of two, with room for no more.
+fn pair(alloc: Global, first: Value, second: Value) -> Result<Value, AllocError>
+    ensures { IfOk result (λ v. view v ≡ list_value (view first ∷ view second ∷ [])) }
+{
+    Ok(Value::Array(vec![in alloc; first, second]?))
+}
+
 /// A stamp.
 pub fn write_stamp(alloc: Global, stamp: Stamp) -> Result<Value, AllocError>
     ensures { IfOk result (λ v. view v ≡ stamp_value stamp) }
 {
-    json!(in alloc; [stamp.counter(), stamp.site().get()])
+    let counter = Value::from(stamp.counter());
+    let site = Value::from(stamp.site().get());
+    pair(alloc, counter, site)
 }
 
 /// A version.
@@ -30,7 +39,7 @@ pub fn write_version(alloc: Global, version: &Version) -> Result<Value, AllocErr
     requires { length version.now ≡ SITES }
     ensures { IfOk result (λ v. view v ≡ version_value version.now) }
 {
-    let mut counters = Vec::new(alloc);
+    let mut counters = Vec::with_capacity(alloc, SITES)?;
     for number in 0..SITES as u8 {
         let site = SiteId::new(number).unwrap();
         counters.push(Value::from(version.get(site)))?;
@@ -42,35 +51,40 @@ pub(crate) fn name(alloc: Global, field: (Stamp, Word)) -> Result<Value, AllocEr
     ensures { IfOk result (λ v. view v ≡ field_value string (Some field)) }
 {
     let (at, name) = field;
-    json!(in alloc; [name.as_str(), write_stamp(alloc, at)?])
+    let name = Value::try_from_str(alloc, name.as_str())?;
+    pair(alloc, name, write_stamp(alloc, at)?)
 }
 
 pub(crate) fn priority(alloc: Global, field: (Stamp, Priority)) -> Result<Value, AllocError>
     ensures { IfOk result (λ v. view v ≡ field_value integer_value (Some field)) }
 {
     let (at, priority) = field;
-    json!(in alloc; [priority.get(), write_stamp(alloc, at)?])
+    let priority = Value::from(priority.get());
+    pair(alloc, priority, write_stamp(alloc, at)?)
 }
 
 pub(crate) fn nodes(alloc: Global, field: (Stamp, Nodes)) -> Result<Value, AllocError>
     ensures { IfOk result (λ v. view v ≡ field_value natural_value (Some field)) }
 {
     let (at, nodes) = field;
-    json!(in alloc; [nodes.get(), write_stamp(alloc, at)?])
+    let nodes = Value::from(nodes.get());
+    pair(alloc, nodes, write_stamp(alloc, at)?)
 }
 
 pub(crate) fn limit(alloc: Global, field: (Stamp, Limit)) -> Result<Value, AllocError>
     ensures { IfOk result (λ v. view v ≡ field_value natural_value (Some field)) }
 {
     let (at, limit) = field;
-    json!(in alloc; [limit.get(), write_stamp(alloc, at)?])
+    let limit = Value::from(limit.get());
+    pair(alloc, limit, write_stamp(alloc, at)?)
 }
 
 pub(crate) fn account(alloc: Global, field: (Stamp, Account)) -> Result<Value, AllocError>
     ensures { IfOk result (λ v. view v ≡ field_value account_value (Some field)) }
 {
     let (at, account) = field;
-    json!(in alloc; [account.as_str(), write_stamp(alloc, at)?])
+    let account = Value::try_from_str(alloc, account.as_str())?;
+    pair(alloc, account, write_stamp(alloc, at)?)
 }
 
 fn stage(alloc: Global, stage: GrantStage) -> Result<Value, AllocError>
@@ -155,13 +169,15 @@ fn word(kind: HoldKind) -> &'static str
 fn hold(alloc: Global, kind: HoldKind, stamp: Stamp) -> Result<Value, AllocError>
     ensures { IfOk result (λ v. view v ≡ pair_value kind_value stamp_value (kind, stamp)) }
 {
-    json!(in alloc; [word(kind), write_stamp(alloc, stamp)?])
+    let word = Value::try_from_str(alloc, word(kind))?;
+    pair(alloc, word, write_stamp(alloc, stamp)?)
 }
 
 fn site(alloc: Global, site: SiteId, stamp: Stamp) -> Result<Value, AllocError>
     ensures { IfOk result (λ v. view v ≡ pair_value natural_value stamp_value (site, stamp)) }
 {
-    json!(in alloc; [site.get(), write_stamp(alloc, stamp)?])
+    let site = Value::from(site.get());
+    pair(alloc, site, write_stamp(alloc, stamp)?)
 }
 
 pub(crate) fn holds(alloc: Global, job: &JobRecord) -> Result<Value, AllocError>

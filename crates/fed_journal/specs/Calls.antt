@@ -7,12 +7,12 @@ use Rattle.fed_journal.specs.declared.calls.Call.{Call}
 use Rattle.fed_journal.specs.declared.calls.Call.TheVariants.{Found, Wrote, Resized, Flushed, Refused}
 
 -- what a call answers: an error where it failed
-abbrev pub Answer : Type 0
-Answer = Result (Unit {0}) Error
+abbrev pub CallAnswer : Type 0
+CallAnswer = Result (Unit {0}) Error
 
 -- a call with its answer
-abbrev pub Event : Type 0
-Event = Call × Answer
+abbrev pub AnsweredCall : Type 0
+AnsweredCall = Call × CallAnswer
 
 abbrev pub overlaid : ℕ → List ℕ → List ℕ → List ℕ
 overlaid at bytes file = take at file ++ (bytes ++ drop (at + length bytes) file)
@@ -26,17 +26,17 @@ seen_after Flushed file = file
 seen_after Refused file = file
 
 -- and after any call: one that failed is taken as not seen
-abbrev pub seen_next : Call → Answer → List ℕ → List ℕ
+abbrev pub seen_next : Call → CallAnswer → List ℕ → List ℕ
 seen_next call (Ok done) file = seen_after call file
 seen_next call (Err error) file = file
 
-abbrev pub seen_by : List Event → List ℕ
+abbrev pub seen_by : List AnsweredCall → List ℕ
 seen_by [] = []
 seen_by (event ∷ earlier) = seen_next event.0 event.1 (seen_by earlier)
 
 -- What a crash may leave after a call, by what a read gave before it and by what a crash might leave then. Of a write or a cut of a
 -- file that the disk didn't have, that is anything. A write or a cut that failed may leave as much as one that succeeded.
-abbrev pub left_after : Call → Answer → List ℕ → (List ℕ → Type 0) → List ℕ → Type 0
+abbrev pub left_after : Call → CallAnswer → List ℕ → (List ℕ → Type 0) → List ℕ → Type 0
 left_after (Found bytes) answer file left c = c ≡ bytes.items
 left_after (Wrote at bytes) answer file left c = LeavesJust file left → Torn at bytes.items file c
 left_after (Resized len) answer file left c = LeavesJust file left → Shortened len file c
@@ -44,31 +44,31 @@ left_after Flushed (Ok done) file left c = left c × (c ≡ file)
 left_after Flushed (Err error) file left c = left c
 left_after Refused answer file left c = left c
 
-abbrev pub left_by : List Event → List ℕ → Type 0
+abbrev pub left_by : List AnsweredCall → List ℕ → Type 0
 left_by [] c = c ≡ []
 left_by (event ∷ earlier) c = left_after event.0 event.1 (seen_by earlier) (left_by earlier) c
 
 -- what a crash might have left at one of the moments from the one with this count of calls on
-abbrev pub left_since : List Event → ℕ → List ℕ → Type 0
+abbrev pub left_since : List AnsweredCall → ℕ → List ℕ → Type 0
 left_since [] t c = left_by [] c
 left_since (event ∷ earlier) t c = left_by (event ∷ earlier) c ⊎ ((t ≤ length earlier) × left_since earlier t c)
 
-abbrev pub errors_next : Answer → List Error → List Error
+abbrev pub errors_next : CallAnswer → List Error → List Error
 errors_next (Ok done) errors = errors
 errors_next (Err error) errors = error ∷ errors
 
 -- the errors of the calls that failed
-abbrev pub errors_by : List Event → List Error
+abbrev pub errors_by : List AnsweredCall → List Error
 errors_by [] = []
 errors_by (event ∷ earlier) = errors_next event.1 (errors_by earlier)
 
 -- a moment is one of those since an earlier one
-pub counts_now : (events : List Event) (t : ℕ) (c : List ℕ) → t ≤ length events → left_by events c → left_since events t c
+pub counts_now : (events : List AnsweredCall) (t : ℕ) (c : List ℕ) → t ≤ length events → left_by events c → left_since events t c
 counts_now [] t c le left = left
 counts_now (event ∷ earlier) t c le left = inl left
 
 -- and the only one since itself
-pub only_now : (events : List Event) (c : List ℕ) → left_since events (length events) c → left_by events c
+pub only_now : (events : List AnsweredCall) (c : List ℕ) → left_since events (length events) c → left_by events c
 only_now [] c left = left
 only_now (event ∷ earlier) c (inl left) = left
 only_now (event ∷ earlier) c (inr since) = absurd (omega (arith, since.0))

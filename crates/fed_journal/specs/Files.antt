@@ -1,10 +1,10 @@
 -- What a file on the machine's disk shows.
 use Rattle.std.specs.Prelude.{ℕ, List, reverse}
-use Rattle.fed_journal.specs.Calls.{Event, left_by, seen_by}
+use Rattle.fed_journal.specs.Calls.{AnsweredCall, left_by, seen_by}
 use Rattle.fed_journal.specs.declared.files.FileDevice.{FileDevice}
 
 -- the calls on it, the newest first
-abbrev pub calls_of : FileDevice → List Event
+abbrev pub calls_of : FileDevice → List AnsweredCall
 calls_of device = reverse device.calls.items
 
 -- its members `seen` and `may_leave`

@@ -1,12 +1,12 @@
 -- What a file in memory shows.
 use Rattle.std.specs.Prelude.{ℕ, Bool, List, reverse, Vec}
 use Rattle.std.specs.declared.alloc.Global.{Global}
-use Rattle.fed_journal.specs.Calls.{Event, left_by, seen_by}
+use Rattle.fed_journal.specs.Calls.{AnsweredCall, left_by, seen_by}
 use Rattle.fed_journal.specs.declared.memory.Memory.{Memory}
 use Rattle.fed_journal.specs.declared.memory.Tear.{Tear}
 
 -- the calls on it, the newest first
-abbrev pub calls_of : Memory → List Event
+abbrev pub calls_of : Memory → List AnsweredCall
 calls_of memory = reverse memory.calls.items
 
 -- its members `seen` and `may_leave`

@@ -8,7 +8,7 @@ use thiserror::Error;
 /// Why a call of a device fails.
 #[derive(Clone, Copy, Debug, Drop, Error)]
 pub enum DeviceFault {
-    /// 1: a growth was refused memory.
+    /// 1: an allocation failed.
     #[error("out of memory")]
     NoMemory,
     /// 2: the disk failed, with this error.
@@ -53,7 +53,7 @@ impl<T: Drop> From<AllocFailed<T>> for DeviceFault {
 /// Why a journal isn't opened, or a group not added.
 #[derive(Clone, Copy, Debug, Drop, Error)]
 pub enum JournalFault {
-    /// 1: a growth was refused memory.
+    /// 1: an allocation failed.
     #[error("out of memory")]
     NoMemory,
     /// 2: the disk failed, with this error.
@@ -119,7 +119,7 @@ impl From<DeviceFault> for JournalFault {
 /// Why a file isn't opened.
 #[derive(Clone, Copy, Debug, Drop, Error)]
 pub enum OpenFault {
-    /// A growth was refused memory.
+    /// An allocation failed.
     #[error("out of memory")]
     NoMemory,
     /// Another open of the file has its lock.

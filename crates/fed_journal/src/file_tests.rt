@@ -189,9 +189,9 @@ fn attempt(rt: &HostRuntime, directory: &str) -> Option<Recovered> {
     }
 }
 
-// Whichever growth is refused, the group can be added by a second attempt, and is there once.
+// Whichever allocation fails, the group can be added by a second attempt, and is there once.
 #[test]
-fn refused_growths_in_a_file(rt: HostRuntime) -> Result<(), Fail> {
+fn failed_allocations_in_a_file(rt: HostRuntime) -> Result<(), Fail> {
     let directory = "journal_refused";
     if fresh(&rt, directory).is_err() {
         fresh(&rt, directory)?;

@@ -270,9 +270,9 @@ fn opened_again(alloc: Global, file: &[u8]) -> Result<Recovered, JournalFault> {
     }
 }
 
-// Whichever growth is refused, what was acknowledged is there, and the rest can be added.
+// Whichever allocation fails, what was acknowledged is there, and the rest can be added.
 #[test]
-fn refused_growths_of_groups(rt: HostRuntime) -> Result<(), Fail> {
+fn failed_allocations_of_groups(rt: HostRuntime) -> Result<(), Fail> {
     let alloc = rt.alloc();
     if let Ok((groups, disk)) = stopped(alloc, FILE, usize::MAX, Tear::Front(0)) {
         let recovered = opened_again(alloc, &disk)?;

@@ -1,5 +1,5 @@
 -- Whole numbers. A number that serde_json gives as a float is of another shape.
-use Rattle.std.specs.Prelude.{ℕ, ◌≤◌, ℤ, pos, negsuc, ◌&&◌, nat_le, if◌then◌else◌, Ok, Err}
+use Rattle.std.specs.Prelude.{ℕ, ℤ, pos, negsuc, ◌&&◌, nat_le, if◌then◌else◌, Ok, Err}
 use Rattle.serde_json.specs.Data.{Data, number, unsigned, negative}
 use Rattle.serde_json.specs.Find.{of_integer}
 use Rattle.fed_json.specs.declared.flaws.Flaw.TheVariants.{Shape, Range}
@@ -21,6 +21,3 @@ abbrev pub integer_of : Data → Reading ℤ
 integer_of (number (unsigned n)) = Ok (pos n)
 integer_of (number (negative (negsuc n))) = Ok (negsuc n)
 integer_of _ = Err Shape
-
-abbrev pub IsFrom : ℕ → ℕ → ℕ → Type 0
-IsFrom least most n = (least ≤ n) × (n ≤ most)

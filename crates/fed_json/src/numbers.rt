@@ -1,4 +1,4 @@
-//! Whole numbers.
+//! How whole numbers are read of JSON values.
 ghost use Rattle.std.specs.Prelude.{◌≡◌};
 ghost use Rattle.serde_json.specs.View.{view};
 ghost use Rattle.fed_json.specs.Numbers.{natural_in, integer_of};

@@ -1,4 +1,4 @@
-//! Objects.
+//! How the members of a JSON object are looked up and told to be all.
 ghost use Rattle.std.specs.Prelude.{◌≡◌, map};
 ghost use Rattle.serde_json.specs.View.{view};
 ghost use Rattle.serde_json.specs.Find.{get};

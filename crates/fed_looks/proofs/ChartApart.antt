@@ -7,9 +7,9 @@ use Rattle.std.proofs.lemmas.List.Elements.{All-cons, All-nil, All-push, All-wea
 use Rattle.std.proofs.lemmas.List.Quantifiers.{all_pairs_push}
 use Rattle.std.proofs.lemmas.Option.{slice_get-get_or}
 use Rattle.fed_stamp.specs.Stamp.{StampValue}
-use Rattle.fed_record.specs.JobView.{JobView}
-use Rattle.fed_record.specs.Letter.{is_submitted}
-use Rattle.fed_board.specs.View.{View}
+use Rattle.fed_model.specs.JobView.{JobView}
+use Rattle.fed_model.specs.Letter.{is_submitted}
+use Rattle.fed_model.specs.View.{View}
 use Rattle.fed_easy.specs.Plan.{PlanValue}
 use Rattle.fed_looks.specs.declared.chart_bars.Bar.{Bar}
 use Rattle.fed_looks.specs.declared.chart_bars.Kind.TheVariants.{Head}

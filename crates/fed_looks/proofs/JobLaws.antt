@@ -10,17 +10,17 @@ use Rattle.serde_json.specs.View.{items_of}
 use Rattle.serde_json.specs.Written.{compact_text, has_float, items_have_float, members_have_float}
 use Rattle.fed_stamp.specs.Stamp.{StampValue}
 use Rattle.fed_lattice.specs.Latest.{stamp_cmp}
-use Rattle.fed_record.specs.declared.grants.GrantStage.{GrantStage}
-use Rattle.fed_record.specs.declared.grants.GrantStage.TheVariants.{Open, Returned}
-use Rattle.fed_record.specs.declared.letters.Letter.{Letter}
-use Rattle.fed_record.specs.declared.progress.Beginning.{Beginning}
-use Rattle.fed_record.specs.declared.progress.Ending.{Ending}
-use Rattle.fed_record.specs.JobRecord.{JobRecordValue, reads as reads_job}
-use Rattle.fed_record.specs.JobView.{JobView}
-use Rattle.fed_record.specs.Letter.{letter}
-use Rattle.fed_board.specs.Board.{BoardValue, no_operation, reads}
-use Rattle.fed_board.specs.Names.{jobs_in}
-use Rattle.fed_board.specs.View.{View}
+use Rattle.fed_model.specs.declared.grants.GrantStage.{GrantStage}
+use Rattle.fed_model.specs.declared.grants.GrantStage.TheVariants.{Open, Returned}
+use Rattle.fed_model.specs.declared.letters.Letter.{Letter}
+use Rattle.fed_model.specs.declared.beginnings.Beginning.{Beginning}
+use Rattle.fed_model.specs.declared.beginnings.Ending.{Ending}
+use Rattle.fed_record.specs.JobRecord.{JobRecordValue, job_reads}
+use Rattle.fed_model.specs.JobView.{JobView}
+use Rattle.fed_model.specs.Letter.{letter}
+use Rattle.fed_board.specs.Board.{BoardValue, no_operation, board_reads}
+use Rattle.fed_model.specs.Names.{jobs_in}
+use Rattle.fed_model.specs.View.{View}
 use Rattle.fed_easy.proofs.BoardEntries.{entry_found}
 use Rattle.fed_json.specs.Numbers.{integer_value}
 use Rattle.fed_json.specs.Objects.{Named, members_from}
@@ -125,15 +125,15 @@ text_is roster id j d bytes e h = h (ap has_float e ∙ job_plain roster id j) �
 
 -- ---- the jobs of a board
 abbrev pub known_from : List (List ℕ × ℕ) → List (StampValue × JobRecordValue) → List ℕ
-known_from roster es = flat_map (λ e. known_line roster e.0 (reads_job e.1)) es
+known_from roster es = flat_map (λ e. known_line roster e.0 (job_reads e.1)) es
 
-pub known_done : (roster : List (List ℕ × ℕ)) (b : BoardValue) → IsStrictlySortedBy stamp_cmp (keys_of b.jobs) → keys_of b.jobs ≡ jobs_in (reads b)
-    → (written : List ℕ) (rest : List (StampValue × JobRecordValue)) → written ++ known_from roster rest ≡ known_from roster b.jobs → rest ≡ [] → written ≡ lines_of_jobs roster (reads b) (jobs_in (reads b))
+pub known_done : (roster : List (List ℕ × ℕ)) (b : BoardValue) → IsStrictlySortedBy stamp_cmp (keys_of b.jobs) → keys_of b.jobs ≡ jobs_in (board_reads b)
+    → (written : List ℕ) (rest : List (StampValue × JobRecordValue)) → written ++ known_from roster rest ≡ known_from roster b.jobs → rest ≡ [] → written ≡ lines_of_jobs roster (board_reads b) (jobs_in (board_reads b))
 known_done roster b sorted names written rest under none =
     sym (append-nil written) ∙ ap (λ l. written ++ known_from roster l) (sym none) ∙ under
-    ∙ sym (names_said (λ job. known_line roster job ((reads b).job job)) (λ e. known_line roster e.0 (reads_job e.1)) b.jobs
-    (λ e h. ap (λ (o : Option JobRecordValue). known_line roster e.0 (reads_job (unwrap_or o no_operation))) (entry_found b.jobs e sorted h)))
-    ∙ ap (lines_of_jobs roster (reads b)) names
+    ∙ sym (names_said (λ job. known_line roster job ((board_reads b).job job)) (λ e. known_line roster e.0 (job_reads e.1)) b.jobs
+    (λ e h. ap (λ (o : Option JobRecordValue). known_line roster e.0 (job_reads (unwrap_or o no_operation))) (entry_found b.jobs e sorted h)))
+    ∙ ap (lines_of_jobs roster (board_reads b)) names
 
 pub asked_all : (v : View) (names : List StampValue) → true ≡ (length names == 0) → asked_jobs v names ≡ jobs_in v
 asked_all v [] e = refl

@@ -2,7 +2,7 @@
 use Rattle.std.specs.Prelude.{Result, IfOk}
 use Rattle.std.proofs.Common.{◌≡◌, ℕ, List, sym, subst}
 use Rattle.fed_stamp.specs.Stamp.{StampValue}
-use Rattle.fed_board.specs.Board.{BoardValue, reads}
+use Rattle.fed_board.specs.Board.{BoardValue, board_reads}
 use Rattle.fed_replica.specs.Replica.{ReplicaValue}
 use Rattle.fed_replica.specs.State.{state_of}
 use Rattle.fed_looks.specs.declared.looks.Look.{Look}
@@ -22,17 +22,17 @@ module _ {S F : Type 0} (bytes : S → List ℕ) (result : Result S F) (roster :
   of_look : (asked : Look) → look ≡ asked → Tells (look_text roster (state_of r) (asked_by asked)) → Tells (look_text roster (state_of r) (asked_by look))
   of_look asked is told = subst (λ (l : Look). Tells (look_text roster (state_of r) (asked_by l))) (sym is) told
 
-  pub why_told : (here moment : ℕ) (job : StampValue) → here ≡ r.site → look ≡ Why job moment → Tells (why_line roster (reads board) here job moment) → Tells (look_text roster (state_of r) (asked_by look))
+  pub why_told : (here moment : ℕ) (job : StampValue) → here ≡ r.site → look ≡ Why job moment → Tells (why_line roster (board_reads board) here job moment) → Tells (look_text roster (state_of r) (asked_by look))
   why_told here moment job site is told =
-      of_look (Why job moment) is (subst (λ (k : ℕ). Tells (why_line roster (reads r.board) k job moment)) site (subst (λ (b : BoardValue). Tells (why_line roster (reads b) here job moment)) at told))
+      of_look (Why job moment) is (subst (λ (k : ℕ). Tells (why_line roster (board_reads r.board) k job moment)) site (subst (λ (b : BoardValue). Tells (why_line roster (board_reads b) here job moment)) at told))
 
-  pub machine_told : (here moment : ℕ) → here ≡ r.site → look ≡ Machine moment → Tells (machine_lines roster (reads board) here moment) → Tells (look_text roster (state_of r) (asked_by look))
+  pub machine_told : (here moment : ℕ) → here ≡ r.site → look ≡ Machine moment → Tells (machine_lines roster (board_reads board) here moment) → Tells (look_text roster (state_of r) (asked_by look))
   machine_told here moment site is told =
-      of_look (Machine moment) is (subst (λ (k : ℕ). Tells (machine_lines roster (reads r.board) k moment)) site (subst (λ (b : BoardValue). Tells (machine_lines roster (reads b) here moment)) at told))
+      of_look (Machine moment) is (subst (λ (k : ℕ). Tells (machine_lines roster (board_reads r.board) k moment)) site (subst (λ (b : BoardValue). Tells (machine_lines roster (board_reads b) here moment)) at told))
 
-  pub chart_told : (here moment : ℕ) → here ≡ r.site → look ≡ Chart moment → Tells (chart_svg roster (reads board) here moment) → Tells (look_text roster (state_of r) (asked_by look))
+  pub chart_told : (here moment : ℕ) → here ≡ r.site → look ≡ Chart moment → Tells (chart_svg roster (board_reads board) here moment) → Tells (look_text roster (state_of r) (asked_by look))
   chart_told here moment site is told =
-      of_look (Chart moment) is (subst (λ (k : ℕ). Tells (chart_svg roster (reads r.board) k moment)) site (subst (λ (b : BoardValue). Tells (chart_svg roster (reads b) here moment)) at told))
+      of_look (Chart moment) is (subst (λ (k : ℕ). Tells (chart_svg roster (board_reads r.board) k moment)) site (subst (λ (b : BoardValue). Tells (chart_svg roster (board_reads b) here moment)) at told))
 
-  pub reservations_told : look ≡ Reservations → Tells (reservation_lines roster (reads board)) → Tells (look_text roster (state_of r) (asked_by look))
-  reservations_told is told = of_look Reservations is (subst (λ (b : BoardValue). Tells (reservation_lines roster (reads b))) at told)
+  pub reservations_told : look ≡ Reservations → Tells (reservation_lines roster (board_reads board)) → Tells (look_text roster (state_of r) (asked_by look))
+  reservations_told is told = of_look Reservations is (subst (λ (b : BoardValue). Tells (reservation_lines roster (board_reads b))) at told)

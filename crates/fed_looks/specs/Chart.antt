@@ -3,7 +3,7 @@ use Rattle.std.specs.Prelude.{ℕ, ◌+◌, ◌-◌, ◌*◌, ◌/◌, Bool, Lis
 use Rattle.std.specs.Fmt.{decimal}
 use Rattle.std.specs.List.{range_with_len}
 use Rattle.fed_stamp.specs.Roster.{nodes_at}
-use Rattle.fed_board.specs.View.{View}
+use Rattle.fed_model.specs.View.{View}
 use Rattle.fed_easy.specs.Plan.{PlanValue}
 use Rattle.fed_qstat.specs.Identifier.{site_text}
 use Rattle.fed_looks.specs.declared.chart_bars.Bar.{Bar}

@@ -6,9 +6,9 @@ use Rattle.std.specs.List.{fold}
 use Rattle.std.specs.Ordering.{bool_cmp, nat_cmp, ordering_then}
 use Rattle.fed_stamp.specs.Stamp.{StampValue}
 use Rattle.fed_lattice.specs.Latest.{stamp_cmp}
-use Rattle.fed_record.specs.JobView.{JobView}
-use Rattle.fed_record.specs.Letter.{is_submitted}
-use Rattle.fed_board.specs.View.{View}
+use Rattle.fed_model.specs.JobView.{JobView}
+use Rattle.fed_model.specs.Letter.{is_submitted}
+use Rattle.fed_model.specs.View.{View}
 use Rattle.fed_easy.specs.Plan.{PlanValue}
 use Rattle.fed_looks.specs.declared.chart_bars.Bar.{Bar}
 use Rattle.fed_looks.specs.declared.chart_bars.Kind.{Kind}

@@ -2,10 +2,10 @@
 use Rattle.std.specs.Prelude.{ℕ, List, codes}
 use Rattle.serde_json.specs.Data.{boolean, string, Members, put}
 use Rattle.fed_stamp.specs.Stamp.{StampValue}
-use Rattle.fed_record.specs.declared.holds.HoldKind.TheVariants.{User, Operator, System}
-use Rattle.fed_record.specs.Account.{text_of}
-use Rattle.fed_record.specs.JobView.{JobView}
-use Rattle.fed_record.specs.Letter.{has_hold, letter}
+use Rattle.fed_model.specs.declared.holds.HoldKind.TheVariants.{User, Operator, System}
+use Rattle.fed_model.specs.Account.{text_of}
+use Rattle.fed_model.specs.JobView.{JobView}
+use Rattle.fed_model.specs.Letter.{has_hold, letter}
 use Rattle.fed_json.specs.Numbers.{integer_value, natural_value}
 use Rattle.fed_qstat.specs.Identifier.{identifier_text}
 use Rattle.fed_looks.specs.JobObject.{begun_data, field_data, finished_data, grant_data, kinds_data, letter_data, sites_data}

@@ -3,17 +3,17 @@ use Rattle.std.specs.Prelude.{ℕ, Bool, List, [], ◌∷◌, ◌++◌, codes, f
 use Rattle.serde_json.specs.Data.{Data, boolean, null, string}
 use Rattle.serde_json.specs.Written.{compact_text}
 use Rattle.fed_stamp.specs.Stamp.{StampValue}
-use Rattle.fed_record.specs.declared.grants.GrantStage.{GrantStage}
-use Rattle.fed_record.specs.declared.holds.HoldKind.TheVariants.{User, Operator, System}
-use Rattle.fed_record.specs.declared.letters.Letter.{Letter}
-use Rattle.fed_record.specs.declared.progress.Beginning.{Beginning}
-use Rattle.fed_record.specs.declared.progress.Ending.{Ending}
-use Rattle.fed_record.specs.Account.{text_of}
-use Rattle.fed_record.specs.Grant.{holder_of, term_of}
-use Rattle.fed_record.specs.JobView.{JobView}
-use Rattle.fed_record.specs.Letter.{has_hold, is_submitted, letter}
-use Rattle.fed_board.specs.Names.{jobs_in}
-use Rattle.fed_board.specs.View.{View}
+use Rattle.fed_model.specs.declared.grants.GrantStage.{GrantStage}
+use Rattle.fed_model.specs.declared.holds.HoldKind.TheVariants.{User, Operator, System}
+use Rattle.fed_model.specs.declared.letters.Letter.{Letter}
+use Rattle.fed_model.specs.declared.beginnings.Beginning.{Beginning}
+use Rattle.fed_model.specs.declared.beginnings.Ending.{Ending}
+use Rattle.fed_model.specs.Account.{text_of}
+use Rattle.fed_model.specs.Grant.{holder_of, term_of}
+use Rattle.fed_model.specs.JobView.{JobView}
+use Rattle.fed_model.specs.Letter.{has_hold, is_submitted, letter}
+use Rattle.fed_model.specs.Names.{jobs_in}
+use Rattle.fed_model.specs.View.{View}
 use Rattle.fed_json.specs.Numbers.{integer_value, natural_value}
 use Rattle.fed_json.specs.Objects.{Named, object_value}
 use Rattle.fed_json.specs.Values.{list_value}

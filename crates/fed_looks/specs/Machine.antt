@@ -8,11 +8,11 @@ use Rattle.std.specs.Fmt.{decimal}
 use Rattle.fed_stamp.specs.Roster.{nodes_at}
 use Rattle.fed_stamp.specs.Stamp.{StampValue}
 use Rattle.fed_lattice.specs.Latest.{stamp_cmp}
-use Rattle.fed_record.specs.declared.windows.Window.{Window}
-use Rattle.fed_record.specs.JobView.{JobView}
-use Rattle.fed_record.specs.Reservation.{ReservationView}
-use Rattle.fed_board.specs.Names.{jobs_in, reservations_in}
-use Rattle.fed_board.specs.View.{View}
+use Rattle.fed_model.specs.declared.windows.Window.{Window}
+use Rattle.fed_model.specs.JobView.{JobView}
+use Rattle.fed_model.specs.Reservation.{ReservationView}
+use Rattle.fed_model.specs.Names.{jobs_in, reservations_in}
+use Rattle.fed_model.specs.View.{View}
 use Rattle.fed_easy.specs.Machine.{running_of}
 use Rattle.fed_qstat.specs.Identifier.{identifier_text}
 

@@ -1,7 +1,7 @@
 -- The plan of a site.
 use Rattle.std.specs.Prelude.{ℕ, List, Option, Some, None, is_none, if◌then◌else◌}
 use Rattle.fed_stamp.specs.Roster.{nodes_at}
-use Rattle.fed_board.specs.View.{View}
+use Rattle.fed_model.specs.View.{View}
 use Rattle.fed_easy.specs.Machine.{first_fault, running_in}
 use Rattle.fed_easy.specs.Plan.{PlanValue}
 use Rattle.fed_easy.specs.SitePlan.{site_plan}

@@ -3,10 +3,10 @@ use Rattle.std.specs.Prelude.{ℕ, List, [], ◌∷◌, ◌++◌, flat_map, Opti
 use Rattle.std.specs.List.{join_with_byte}
 use Rattle.std.specs.Fmt.{decimal}
 use Rattle.fed_stamp.specs.Stamp.{StampValue}
-use Rattle.fed_record.specs.declared.windows.Window.{Window}
-use Rattle.fed_record.specs.Reservation.{ReservationView}
-use Rattle.fed_board.specs.Names.{reservations_in}
-use Rattle.fed_board.specs.View.{View}
+use Rattle.fed_model.specs.declared.windows.Window.{Window}
+use Rattle.fed_model.specs.Reservation.{ReservationView}
+use Rattle.fed_model.specs.Names.{reservations_in}
+use Rattle.fed_model.specs.View.{View}
 use Rattle.fed_qstat.specs.Identifier.{identifier_text, site_text}
 
 -- the line of a reservation's window

@@ -4,11 +4,11 @@ use Rattle.std.specs.List.{list_any}
 use Rattle.std.specs.Fmt.{decimal}
 use Rattle.fed_stamp.specs.Roster.{nodes_at}
 use Rattle.fed_stamp.specs.Stamp.{StampValue, same_stamp}
-use Rattle.fed_record.specs.declared.progress.Beginning.{Beginning}
-use Rattle.fed_record.specs.declared.progress.Ending.{Ending}
-use Rattle.fed_record.specs.JobView.{JobView}
-use Rattle.fed_record.specs.Letter.{has_site, holder, is_granted, is_granted_to, is_held, is_submitted}
-use Rattle.fed_board.specs.View.{View}
+use Rattle.fed_model.specs.declared.beginnings.Beginning.{Beginning}
+use Rattle.fed_model.specs.declared.beginnings.Ending.{Ending}
+use Rattle.fed_model.specs.JobView.{JobView}
+use Rattle.fed_model.specs.Letter.{has_site, holder, is_granted, is_granted_to, is_held, is_submitted}
+use Rattle.fed_model.specs.View.{View}
 use Rattle.fed_easy.specs.Plan.{PlanValue}
 use Rattle.fed_qstat.specs.Identifier.{identifier_text, site_text}
 use Rattle.fed_qstat.specs.JobText.{field_text, holder_text, holds_text}

@@ -1,14 +1,14 @@
 //! A picture of a site's machine.
 ghost use Rattle.std.specs.Prelude.{◌≡◌, ◌<◌, ◌++◌, IfOk, flat_map, length, string_bytes};
 ghost use Rattle.std.specs.List.{AllPairs, range_with_len};
-ghost use Rattle.fed_board.specs.Board.{reads};
-ghost use Rattle.fed_easy.specs.Plan.{reads as reads_plan};
+ghost use Rattle.fed_board.specs.Board.{board_reads};
+ghost use Rattle.fed_easy.specs.Plan.{plan_reads};
 ghost use Rattle.fed_looks.specs.Chart.{chart_bars, chart_svg as svg_of_chart, foot_text as text_of_foot, ground_text as text_of_ground, head_text as text_of_head, heading_text as text_of_heading, level_line as level_line_at, nodes_text as text_of_nodes, picture as picture_of, plan_note as note_of_plan, style_text as text_of_style, tick_text as text_of_tick, upward_line as upward_line_at};
 ghost use Rattle.fed_looks.specs.ChartBars.{LiesBelow};
 
 use crate::chart_bars::{Bar, bars_at};
 use crate::chart_marks::{boxes_text, levels_of, rise, rows_text, span_of};
-use crate::plans::{nodes_of, plan_at};
+use crate::site_plans::{nodes_of, plan_at};
 use fed_board::Board;
 use fed_easy::Plan;
 use fed_lattice::NoMemory;
@@ -167,8 +167,8 @@ pub fn chart_svg(
     moment: Moment,
 ) -> Result<String, NoMemory>
     requires { here < length roster.now }
-    ensures picture { IfOk result (λ text. string_bytes text ≡ svg_of_chart roster.now (reads board.now) here moment) }
-    ensures apart { AllPairs LiesBelow (chart_bars roster.now (reads board.now) here moment) }
+    ensures picture { IfOk result (λ text. string_bytes text ≡ svg_of_chart roster.now (board_reads board.now) here moment) }
+    ensures apart { AllPairs LiesBelow (chart_bars roster.now (board_reads board.now) here moment) }
 {
     let second = moment.get();
     let found = plan_at(alloc, roster, board, here, moment)?;

@@ -1,8 +1,8 @@
 //! What a chart shows: nodes of a machine for a time.
 ghost use Rattle.std.specs.Prelude.{◌≡◌, [], IfOk, OnOk, option_map};
 ghost use Rattle.std.specs.List.{fold};
-ghost use Rattle.fed_board.specs.Board.{reads};
-ghost use Rattle.fed_easy.specs.Plan.{reads as reads_plan};
+ghost use Rattle.fed_board.specs.Board.{board_reads};
+ghost use Rattle.fed_easy.specs.Plan.{plan_reads};
 ghost use Rattle.fed_looks.specs.ChartBars.{bar_of, bars_in, end as end_of, last_top as last_top_in, level_over as level_above, meets as meets_bar, run_standing as standing_of_run, standing_in, start_standing as standing_of_start, top as top_of, with_bar, with_head, with_kept, with_run, with_standing, with_start};
 ghost use Rattle.fed_looks.specs.Machine.{runs_in};
 
@@ -58,10 +58,10 @@ fn run_standing(moment: u64, run: Run) -> Standing
 
 /// A job that starts.
 fn start_standing(board: &Board, job: JobId) -> Option<Standing>
-    ensures { result ≡ standing_of_start job ((reads board.now).job job) }
+    ensures { result ≡ standing_of_start job ((board_reads board.now).job job) }
 {
     match board.job(job) {
-        Some(held) => Some((held.limit().1.get(), job, held.nodes().1.get(), true)),
+        Some(known) => Some((known.limit().1.get(), job, known.nodes().1.get(), true)),
         None => None,
     }
 }
@@ -81,7 +81,7 @@ fn runs_standing(
     here: SiteId,
     moment: u64,
 ) -> Result<BTreeSet<Standing>, NoMemory>
-    ensures { IfOk result (λ all. all.keys ≡ fold (with_run moment) [] (runs_in here (reads board.now))) }
+    ensures { IfOk result (λ all. all.keys ≡ fold (with_run moment) [] (runs_in here (board_reads board.now))) }
 {
     let runs = runs_at(alloc, board, here)?;
     let mut all = BTreeSet::new(alloc);
@@ -93,7 +93,7 @@ fn runs_standing(
 
 /// Adds the jobs that start.
 fn add_starts(all: &mut BTreeSet<Standing>, board: &Board, starts: &[JobId]) -> Result<(), NoMemory>
-    ensures { OnOk result (all.new.keys ≡ fold (with_start (reads board.now)) all.old.keys starts.now) }
+    ensures { OnOk result (all.new.keys ≡ fold (with_start (board_reads board.now)) all.old.keys starts.now) }
 {
     for start in starts {
         if let Some(standing) = start_standing(board, *start) {
@@ -122,7 +122,7 @@ fn standing_at(
     moment: u64,
     starts: &[JobId],
 ) -> Result<Vec<Standing>, NoMemory>
-    ensures { IfOk result (λ row. row.items ≡ standing_in (reads board.now) here moment starts.now) }
+    ensures { IfOk result (λ row. row.items ≡ standing_in (board_reads board.now) here moment starts.now) }
 {
     let mut all = runs_standing(alloc, board, here, moment)?;
     add_starts(&mut all, board, starts)?;
@@ -242,16 +242,16 @@ fn add_head(
     moment: u64,
     head: Option<(JobId, u64)>,
 ) -> Result<(), NoMemory>
-    ensures { OnOk result (bars.new.items ≡ with_head (reads board.now) moment head bars.old.items) }
+    ensures { OnOk result (bars.new.items ≡ with_head (board_reads board.now) moment head bars.old.items) }
 {
     let Some((job, second)) = head else {
         return Ok(());
     };
-    let Some(held) = board.job(job) else {
+    let Some(known) = board.job(job) else {
         return Ok(());
     };
     let from = second.saturating_sub(moment);
-    let (seconds, nodes) = (held.limit().1.get(), held.nodes().1.get());
+    let (seconds, nodes) = (known.limit().1.get(), known.nodes().1.get());
     add_bar(bars, Kind::Head, job, from, seconds, nodes)
 }
 
@@ -286,7 +286,7 @@ pub(crate) fn bars_at(
     moment: u64,
     plan: &Plan,
 ) -> Result<Vec<Bar>, NoMemory>
-    ensures { IfOk result (λ bars. bars.items ≡ bars_in (reads board.now) here moment (reads_plan plan.now)) }
+    ensures { IfOk result (λ bars. bars.items ≡ bars_in (board_reads board.now) here moment (plan_reads plan.now)) }
 {
     let row = standing_at(alloc, board, here, moment, &plan.starts)?;
     let kept = kept_at(alloc, board, here, moment)?;

@@ -1,7 +1,7 @@
 //! Worked charts.
 use crate::chart_bars::{Bar, Kind, bars_at};
 use crate::chart_svg;
-use crate::plans::plan_at;
+use crate::site_plans::plan_at;
 use fed_board::Board;
 use fed_record::{
     Account, Beginning, JobValues, Limit, MAX_END, Moment, Nodes, Operation, Priority, Term, Window,

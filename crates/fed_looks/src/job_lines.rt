@@ -2,10 +2,10 @@
 ghost use Rattle.std.specs.Prelude.{◌≡◌, ◌≢◌, ◌++◌, ◌∷◌, [], IfOk, IsTrue, OnOk, flat_map, string_bytes};
 ghost use Rattle.serde_json.specs.View.{members_view, view};
 ghost use Rattle.serde_json.specs.Written.{compact_text};
-ghost use Rattle.fed_record.specs.JobRecord.{reads as reads_job};
-ghost use Rattle.fed_record.specs.Letter.{is_submitted};
-ghost use Rattle.fed_board.specs.Board.{reads};
-ghost use Rattle.fed_board.specs.Names.{jobs_in};
+ghost use Rattle.fed_record.specs.JobRecord.{job_reads};
+ghost use Rattle.fed_model.specs.Letter.{is_submitted};
+ghost use Rattle.fed_board.specs.Board.{board_reads};
+ghost use Rattle.fed_model.specs.Names.{jobs_in};
 ghost use Rattle.fed_looks.specs.JobMembers.{with_names, with_numbers, with_sets, with_stages};
 ghost use Rattle.fed_looks.specs.JobObject.{job_data, jobs_json as json_of_jobs, known_line, lines_of_jobs};
 
@@ -24,31 +24,31 @@ fn put_names(
     alloc: Global,
     roster: &Roster,
     id: JobId,
-    held: &JobRecord,
+    job: &JobRecord,
 ) -> Result<(), AllocError>
-    requires { IsTrue (is_submitted (reads_job held.now)) }
+    requires { IsTrue (is_submitted (job_reads job.now)) }
     ensures { OnOk result (members_view members.new.entries ≡
-        with_names roster.now id (reads_job held.now) (members_view members.old.entries)) }
+        with_names roster.now id (job_reads job.now) (members_view members.old.entries)) }
 {
     let name = identifier_text(alloc, roster, id)?;
     put(
         members,
         alloc,
         "account",
-        json!(in alloc; held.account().1.as_str())?,
+        json!(in alloc; job.account().1.as_str())?,
     )?;
     put(members, alloc, "id", json!(in alloc; name.as_str())?)?;
     put(
         members,
         alloc,
         "name",
-        json!(in alloc; held.name().1.as_str())?,
+        json!(in alloc; job.name().1.as_str())?,
     )?;
     put(
         members,
         alloc,
         "owner",
-        json!(in alloc; held.owner().1.as_str())?,
+        json!(in alloc; job.owner().1.as_str())?,
     )?;
     Ok(())
 }
@@ -57,19 +57,19 @@ fn put_names(
 fn put_numbers(
     members: &mut Map<String, Value>,
     alloc: Global,
-    held: &JobRecord,
+    job: &JobRecord,
 ) -> Result<(), AllocError>
-    requires { IsTrue (is_submitted (reads_job held.now)) }
+    requires { IsTrue (is_submitted (job_reads job.now)) }
     ensures { OnOk result (members_view members.new.entries ≡
-        with_numbers (reads_job held.now) (members_view members.old.entries)) }
+        with_numbers (job_reads job.now) (members_view members.old.entries)) }
 {
-    put(members, alloc, "limit", Value::from(held.limit().1.get()))?;
-    put(members, alloc, "nodes", Value::from(held.nodes().1.get()))?;
+    put(members, alloc, "limit", Value::from(job.limit().1.get()))?;
+    put(members, alloc, "nodes", Value::from(job.nodes().1.get()))?;
     put(
         members,
         alloc,
         "priority",
-        Value::from(held.priority().1.get()),
+        Value::from(job.priority().1.get()),
     )?;
     Ok(())
 }
@@ -79,26 +79,26 @@ fn put_stages(
     members: &mut Map<String, Value>,
     alloc: Global,
     roster: &Roster,
-    held: &JobRecord,
+    job: &JobRecord,
 ) -> Result<(), AllocError>
     ensures { OnOk result (members_view members.new.entries ≡
-        with_stages roster.now (reads_job held.now) (members_view members.old.entries)) }
+        with_stages roster.now (job_reads job.now) (members_view members.old.entries)) }
 {
-    let progress = held.progress();
+    let progress = job.progress();
     put(
         members,
         alloc,
         "begun",
         begun(alloc, roster, progress.begun)?,
     )?;
-    put(members, alloc, "deleted", Value::from(held.deleted()))?;
+    put(members, alloc, "deleted", Value::from(job.deleted()))?;
     put(
         members,
         alloc,
         "finished",
         finished(alloc, progress.finished)?,
     )?;
-    put(members, alloc, "grant", grant(alloc, roster, held.grant())?)?;
+    put(members, alloc, "grant", grant(alloc, roster, job.grant())?)?;
     Ok(())
 }
 
@@ -107,22 +107,22 @@ fn put_sets(
     members: &mut Map<String, Value>,
     alloc: Global,
     roster: &Roster,
-    held: &JobRecord,
+    job: &JobRecord,
 ) -> Result<(), AllocError>
     ensures { OnOk result (members_view members.new.entries ≡
-        with_sets roster.now (reads_job held.now) (members_view members.old.entries)) }
+        with_sets roster.now (job_reads job.now) (members_view members.old.entries)) }
 {
-    let user = held.has_hold(HoldKind::User);
-    let operator = held.has_hold(HoldKind::Operator);
-    let system = held.has_hold(HoldKind::System);
+    let user = job.has_hold(HoldKind::User);
+    let operator = job.has_hold(HoldKind::Operator);
+    let system = job.has_hold(HoldKind::System);
     put(
         members,
         alloc,
         "holds",
         kinds(alloc, user, operator, system)?,
     )?;
-    put(members, alloc, "letter", letter(alloc, held.letter())?)?;
-    put(members, alloc, "sites", sites(alloc, roster, held)?)?;
+    put(members, alloc, "letter", letter(alloc, job.letter())?)?;
+    put(members, alloc, "sites", sites(alloc, roster, job)?)?;
     Ok(())
 }
 
@@ -131,16 +131,16 @@ fn job_value(
     alloc: Global,
     roster: &Roster,
     id: JobId,
-    held: &JobRecord,
+    job: &JobRecord,
 ) -> Result<Value, AllocError>
-    requires { IsTrue (is_submitted (reads_job held.now)) }
-    ensures { IfOk result (λ v. view v ≡ job_data roster.now id (reads_job held.now)) }
+    requires { IsTrue (is_submitted (job_reads job.now)) }
+    ensures { IfOk result (λ v. view v ≡ job_data roster.now id (job_reads job.now)) }
 {
     let mut members = Map::new(alloc);
-    put_names(&mut members, alloc, roster, id, held)?;
-    put_numbers(&mut members, alloc, held)?;
-    put_stages(&mut members, alloc, roster, held)?;
-    put_sets(&mut members, alloc, roster, held)?;
+    put_names(&mut members, alloc, roster, id, job)?;
+    put_numbers(&mut members, alloc, job)?;
+    put_stages(&mut members, alloc, roster, job)?;
+    put_sets(&mut members, alloc, roster, job)?;
     Ok(Value::Object(members))
 }
 
@@ -149,12 +149,12 @@ fn job_text(
     alloc: Global,
     roster: &Roster,
     id: JobId,
-    held: &JobRecord,
+    job: &JobRecord,
 ) -> Result<String, AllocError>
-    requires { IsTrue (is_submitted (reads_job held.now)) }
-    ensures { IfOk result (λ text. string_bytes text ≡ compact_text (job_data roster.now id (reads_job held.now))) }
+    requires { IsTrue (is_submitted (job_reads job.now)) }
+    ensures { IfOk result (λ text. string_bytes text ≡ compact_text (job_data roster.now id (job_reads job.now))) }
 {
-    let value = job_value(alloc, roster, id, held)?;
+    let value = job_value(alloc, roster, id, job)?;
     value.to_string(alloc)
 }
 
@@ -164,14 +164,14 @@ fn push_job(
     text: &mut String,
     roster: &Roster,
     id: JobId,
-    held: &JobRecord,
+    job: &JobRecord,
 ) -> Result<(), AllocError>
-    ensures { OnOk result (string_bytes text.new ≡ string_bytes text.old ++ known_line roster.now id (reads_job held.now)) }
+    ensures { OnOk result (string_bytes text.new ≡ string_bytes text.old ++ known_line roster.now id (job_reads job.now)) }
 {
-    if !held.is_submitted() {
+    if !job.is_submitted() {
         return Ok(());
     }
-    let line = job_text(alloc, roster, id, held)?;
+    let line = job_text(alloc, roster, id, job)?;
     text.push_str(line.as_str())?;
     text.push_str("\n")
 }
@@ -185,21 +185,21 @@ fn push_named(
     id: JobId,
 ) -> Result<(), AllocError>
     ensures { OnOk result (string_bytes text.new ≡
-        string_bytes text.old ++ known_line roster.now id ((reads board.now).job id)) }
+        string_bytes text.old ++ known_line roster.now id ((board_reads board.now).job id)) }
 {
     match board.job(id) {
-        Some(held) => push_job(alloc, text, roster, id, held),
+        Some(job) => push_job(alloc, text, roster, id, job),
         None => Ok(()),
     }
 }
 
 /// The lines of all jobs.
 fn all_lines(alloc: Global, roster: &Roster, board: &Board) -> Result<String, AllocError>
-    ensures { IfOk result (λ text. string_bytes text ≡ lines_of_jobs roster.now (reads board.now) (jobs_in (reads board.now))) }
+    ensures { IfOk result (λ text. string_bytes text ≡ lines_of_jobs roster.now (board_reads board.now) (jobs_in (board_reads board.now))) }
 {
     let mut text = String::new(alloc);
-    for (id, held) in board.jobs() {
-        push_job(alloc, &mut text, roster, *id, held)?;
+    for (id, job) in board.jobs() {
+        push_job(alloc, &mut text, roster, *id, job)?;
     }
     Ok(text)
 }
@@ -211,7 +211,7 @@ fn named_lines(
     board: &Board,
     names: &[JobId],
 ) -> Result<String, AllocError>
-    ensures { IfOk result (λ text. string_bytes text ≡ lines_of_jobs roster.now (reads board.now) names.now) }
+    ensures { IfOk result (λ text. string_bytes text ≡ lines_of_jobs roster.now (board_reads board.now) names.now) }
 {
     let mut text = String::new(alloc);
     for name in names {
@@ -229,7 +229,7 @@ pub fn jobs_json(
     board: &Board,
     jobs: &[JobId],
 ) -> Result<String, NoMemory>
-    ensures { IfOk result (λ text. string_bytes text ≡ json_of_jobs roster.now (reads board.now) jobs.now) }
+    ensures { IfOk result (λ text. string_bytes text ≡ json_of_jobs roster.now (board_reads board.now) jobs.now) }
 {
     if jobs.is_empty() {
         Ok(all_lines(alloc, roster, board)?)

@@ -1,8 +1,8 @@
 //! The values of the parts of a job.
 ghost use Rattle.std.specs.Prelude.{◌≡◌, ◌++◌, ◌∷◌, [], IfOk, OnOk, map, if◌then◌else◌};
 ghost use Rattle.serde_json.specs.View.{view};
-ghost use Rattle.fed_record.specs.JobRecord.{reads as reads_job};
-ghost use Rattle.fed_record.specs.Letter.{has_site};
+ghost use Rattle.fed_record.specs.JobRecord.{job_reads};
+ghost use Rattle.fed_model.specs.Letter.{has_site};
 ghost use Rattle.fed_qstat.specs.JobText.{letter_sign as sign_of_letter};
 ghost use Rattle.fed_looks.specs.JobObject.{begun_data, finished_data, grant_data, holder_data, kinds_data, letter_data, site_data, sites_data};
 
@@ -129,26 +129,26 @@ fn push_site(
     alloc: Global,
     values: &mut Vec<Value>,
     roster: &Roster,
-    held: &JobRecord,
+    job: &JobRecord,
     number: SiteId,
 ) -> Result<(), AllocError>
     ensures { OnOk result (map view values.new.items ≡ map view values.old.items
-        ++ (if has_site (reads_job held.now) number then site_data roster.now number ∷ [] else [])) }
+        ++ (if has_site (job_reads job.now) number then site_data roster.now number ∷ [] else [])) }
 {
-    if held.has_site(number) {
+    if job.has_site(number) {
         values.push(site(alloc, roster, number)?)?;
     }
     Ok(())
 }
 
 /// The names of the sites that a job may run at, in the order of their numbers.
-pub(crate) fn sites(alloc: Global, roster: &Roster, held: &JobRecord) -> Result<Value, AllocError>
-    ensures { IfOk result (λ v. view v ≡ sites_data roster.now (reads_job held.now)) }
+pub(crate) fn sites(alloc: Global, roster: &Roster, job: &JobRecord) -> Result<Value, AllocError>
+    ensures { IfOk result (λ v. view v ≡ sites_data roster.now (job_reads job.now)) }
 {
     let mut values = Vec::new(alloc);
     for number in 0..SITES as u8 {
         let site = SiteId::new(number).unwrap();
-        push_site(alloc, &mut values, roster, held, site)?;
+        push_site(alloc, &mut values, roster, job, site)?;
     }
     Ok(Value::Array(values))
 }

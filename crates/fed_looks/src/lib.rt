@@ -22,12 +22,12 @@ mod look_texts;
 pub mod looks;
 /// What is said of a site's machine.
 mod machines;
-/// The plan of a site.
-mod plans;
 /// What is reserved.
 mod reserved;
 /// What a site has seen of the others.
 mod seen;
+/// The plan of a site.
+mod site_plans;
 /// Why a job stands where it does.
 mod whys;
 

@@ -1,10 +1,10 @@
 //! What is said of a site's machine.
 ghost use Rattle.std.specs.Prelude.{◌≡◌, ◌<◌, ◌++◌, [], IfOk, flat_map, length, map, string_bytes};
-ghost use Rattle.fed_record.specs.JobRecord.{reads as reads_job};
-ghost use Rattle.fed_board.specs.Board.{reads};
+ghost use Rattle.fed_record.specs.JobRecord.{job_reads};
+ghost use Rattle.fed_board.specs.Board.{board_reads};
 ghost use Rattle.fed_looks.specs.Machine.{free_beside, kept_in, kept_line as line_of_kept, kept_of as kept_from, left_by, machine_lines as lines_of_machine, nodes_line as line_of_nodes, run_line as line_of_run, run_of as run_from, runs_in, taken_at, taken_by};
 
-use crate::plans::nodes_of;
+use crate::site_plans::nodes_of;
 use fed_board::Board;
 use fed_lattice::NoMemory;
 use fed_qstat::identifier_text;
@@ -20,17 +20,17 @@ pub(crate) type Run = (u64, JobId, u64);
 pub(crate) type Kept = (u64, Stamp, u64, u64);
 
 /// The job, if the site has begun it and it is not finished.
-fn run_of(here: SiteId, job: JobId, held: &JobRecord) -> Option<Run>
-    ensures { result ≡ run_from here job (reads_job held.now) }
+fn run_of(here: SiteId, id: JobId, job: &JobRecord) -> Option<Run>
+    ensures { result ≡ run_from here id (job_reads job.now) }
 {
-    let progress = held.progress();
+    let progress = job.progress();
     if progress.finished.is_some() {
         return None;
     }
     match progress.begun {
         Some((stamp, beginning)) => {
             if stamp.site() == here {
-                Some((beginning.end, job, beginning.nodes.get()))
+                Some((beginning.end, id, beginning.nodes.get()))
             } else {
                 None
             }
@@ -56,11 +56,11 @@ fn kept_of(here: SiteId, moment: u64, name: Stamp, reservation: &Reservation) ->
 
 /// The jobs that run at a site, in the order of their ends.
 pub(crate) fn runs_at(alloc: Global, board: &Board, here: SiteId) -> Result<BTreeSet<Run>, NoMemory>
-    ensures { IfOk result (λ runs. runs.keys ≡ runs_in here (reads board.now)) }
+    ensures { IfOk result (λ runs. runs.keys ≡ runs_in here (board_reads board.now)) }
 {
     let mut runs = BTreeSet::new(alloc);
-    for (job, held) in board.jobs() {
-        if let Some(run) = run_of(here, *job, held) {
+    for (id, job) in board.jobs() {
+        if let Some(run) = run_of(here, *id, job) {
             runs.insert(run)?;
         }
     }
@@ -74,7 +74,7 @@ pub(crate) fn kept_at(
     here: SiteId,
     moment: u64,
 ) -> Result<BTreeSet<Kept>, NoMemory>
-    ensures { IfOk result (λ kept. kept.keys ≡ kept_in here moment (reads board.now)) }
+    ensures { IfOk result (λ kept. kept.keys ≡ kept_in here moment (board_reads board.now)) }
 {
     let mut all = BTreeSet::new(alloc);
     for (name, reservation) in board.reservations() {
@@ -118,8 +118,8 @@ fn nodes_line(alloc: Global, nodes: u64, free: u64) -> Result<String, AllocError
 fn run_line(alloc: Global, roster: &Roster, run: Run) -> Result<String, AllocError>
     ensures { IfOk result (λ text. string_bytes text ≡ line_of_run roster.now run) }
 {
-    let (end, job, nodes) = run;
-    let id = identifier_text(alloc, roster, job)?;
+    let (end, id, nodes) = run;
+    let id = identifier_text(alloc, roster, id)?;
     format!(in alloc; "run {id} {nodes} {end}\n")
 }
 
@@ -165,7 +165,7 @@ pub fn machine_lines(
     moment: Moment,
 ) -> Result<String, NoMemory>
     requires { here < length roster.now }
-    ensures { IfOk result (λ text. string_bytes text ≡ lines_of_machine roster.now (reads board.now) here moment) }
+    ensures { IfOk result (λ text. string_bytes text ≡ lines_of_machine roster.now (board_reads board.now) here moment) }
 {
     let second = moment.get();
     let nodes = nodes_of(roster, here);

@@ -1,6 +1,6 @@
 //! What is reserved.
 ghost use Rattle.std.specs.Prelude.{◌≡◌, ◌++◌, IfOk, OnOk, string_bytes};
-ghost use Rattle.fed_board.specs.Board.{reads};
+ghost use Rattle.fed_board.specs.Board.{board_reads};
 ghost use Rattle.fed_looks.specs.Reserved.{reservation_line, reservation_lines as lines_of_reservations, window_line as line_of_window};
 
 use fed_board::Board;
@@ -50,7 +50,7 @@ fn push_reservation(
 
 /// A line `ID WHERE START END NODES` for each reservation that stands, in the order of their names.
 pub fn reservation_lines(alloc: Global, roster: &Roster, board: &Board) -> Result<String, NoMemory>
-    ensures { IfOk result (λ text. string_bytes text ≡ lines_of_reservations roster.now (reads board.now)) }
+    ensures { IfOk result (λ text. string_bytes text ≡ lines_of_reservations roster.now (board_reads board.now)) }
 {
     let mut text = String::new(alloc);
     for (name, reservation) in board.reservations() {

@@ -1,16 +1,16 @@
 //! Why a job stands where it does.
 ghost use Rattle.std.specs.Prelude.{◌≡◌, ◌<◌, ◌++◌, IfOk, IsTrue, Some, codes, length, option_map, string_bytes, unwrap_or};
 ghost use Rattle.std.specs.Fmt.{decimal};
-ghost use Rattle.fed_record.specs.JobRecord.{reads as reads_job};
-ghost use Rattle.fed_record.specs.Letter.{holder, is_submitted};
-ghost use Rattle.fed_board.specs.Board.{reads};
-ghost use Rattle.fed_easy.specs.Plan.{reads as reads_plan};
+ghost use Rattle.fed_record.specs.JobRecord.{job_reads};
+ghost use Rattle.fed_model.specs.Letter.{holder, is_submitted};
+ghost use Rattle.fed_board.specs.Board.{board_reads};
+ghost use Rattle.fed_easy.specs.Plan.{plan_reads};
 ghost use Rattle.fed_qstat.specs.Identifier.{site_text as text_of_site};
 ghost use Rattle.fed_qstat.specs.JobText.{hold_letters as letters_of_holds, holder_text as text_of_holder, holds_text as text_of_holds};
 ghost use Rattle.fed_looks.specs.Planned.{planned};
 ghost use Rattle.fed_looks.specs.Why.{behind_text as text_of_behind, begun_text as text_of_begun, job_text as text_of_job, obstacle as obstacle_of, place_text as text_of_place, why_line as line_of_why};
 
-use crate::plans::{nodes_of, plan_at};
+use crate::site_plans::{nodes_of, plan_at};
 use fed_board::Board;
 use fed_easy::Plan;
 use fed_lattice::NoMemory;
@@ -52,13 +52,13 @@ fn hold_letters(user: bool, operator: bool, system: bool) -> &'static str
 }
 
 /// The letters of a job's holds.
-fn holds_text(held: &JobRecord) -> &'static str
-    ensures { result.now ≡ text_of_holds (reads_job held.now) }
+fn holds_text(job: &JobRecord) -> &'static str
+    ensures { result.now ≡ text_of_holds (job_reads job.now) }
 {
     hold_letters(
-        held.has_hold(HoldKind::User),
-        held.has_hold(HoldKind::Operator),
-        held.has_hold(HoldKind::System),
+        job.has_hold(HoldKind::User),
+        job.has_hold(HoldKind::Operator),
+        job.has_hold(HoldKind::System),
     )
 }
 
@@ -66,13 +66,13 @@ fn holds_text(held: &JobRecord) -> &'static str
 fn behind_text(
     alloc: Global,
     roster: &Roster,
-    job: JobId,
+    id: JobId,
     head: JobId,
     second: u64,
 ) -> Result<String, AllocError>
-    ensures { IfOk result (λ text. string_bytes text ≡ text_of_behind roster.now job (head, second)) }
+    ensures { IfOk result (λ text. string_bytes text ≡ text_of_behind roster.now id (head, second)) }
 {
-    if job == head {
+    if id == head {
         return format!(in alloc; "head, at {second}");
     }
     let name = identifier_text(alloc, roster, head)?;
@@ -80,23 +80,23 @@ fn behind_text(
 }
 
 /// Where a job of the queue stands in the plan.
-fn place_text(alloc: Global, roster: &Roster, job: JobId, plan: &Plan) -> Result<String, AllocError>
-    ensures { IfOk result (λ text. string_bytes text ≡ text_of_place roster.now job (Some (reads_plan plan.now))) }
+fn place_text(alloc: Global, roster: &Roster, id: JobId, plan: &Plan) -> Result<String, AllocError>
+    ensures { IfOk result (λ text. string_bytes text ≡ text_of_place roster.now id (Some (plan_reads plan.now))) }
 {
     let Some((head, second)) = plan.head else {
         return String::from_str(alloc, "starts");
     };
-    if plan.starts.contains(&job) {
+    if plan.starts.contains(&id) {
         return String::from_str(alloc, "starts");
     }
-    behind_text(alloc, roster, job, head, second)
+    behind_text(alloc, roster, id, head, second)
 }
 
 /// The site that a job is granted to, or `-` where there is none.
-fn holder_text(alloc: Global, roster: &Roster, held: &JobRecord) -> Result<String, AllocError>
-    ensures { IfOk result (λ text. string_bytes text ≡ text_of_holder roster.now (holder (reads_job held.now))) }
+fn holder_text(alloc: Global, roster: &Roster, job: &JobRecord) -> Result<String, AllocError>
+    ensures { IfOk result (λ text. string_bytes text ≡ text_of_holder roster.now (holder (job_reads job.now))) }
 {
-    match held.holder() {
+    match job.holder() {
         Some(site) => site_text(alloc, roster, site),
         None => String::from_str(alloc, "-"),
     }
@@ -111,11 +111,11 @@ fn needs_text(alloc: Global, nodes: u64, capacity: u64) -> Result<String, AllocE
 }
 
 /// That a job is granted to another site.
-fn granted_text(alloc: Global, roster: &Roster, held: &JobRecord) -> Result<String, AllocError>
+fn granted_text(alloc: Global, roster: &Roster, job: &JobRecord) -> Result<String, AllocError>
     ensures { IfOk result (λ text. string_bytes text ≡
-        codes "granted to " ++ text_of_holder roster.now (holder (reads_job held.now))) }
+        codes "granted to " ++ text_of_holder roster.now (holder (job_reads job.now))) }
 {
-    let name = holder_text(alloc, roster, held)?;
+    let name = holder_text(alloc, roster, job)?;
     format!(in alloc; "granted to {name}")
 }
 
@@ -132,25 +132,25 @@ fn obstacle(
     alloc: Global,
     roster: &Roster,
     here: SiteId,
-    held: &JobRecord,
+    job: &JobRecord,
 ) -> Result<Option<String>, AllocError>
     requires site { here < length roster.now }
-    requires submitted { IsTrue (is_submitted (reads_job held.now)) }
-    ensures { IfOk result (λ text. option_map string_bytes text ≡ obstacle_of roster.now here (reads_job held.now)) }
+    requires submitted { IsTrue (is_submitted (job_reads job.now)) }
+    ensures { IfOk result (λ text. option_map string_bytes text ≡ obstacle_of roster.now here (job_reads job.now)) }
 {
-    if held.is_held() {
-        let text = format!(in alloc; "held {}", holds_text(held))?;
+    if job.is_held() {
+        let text = format!(in alloc; "held {}", holds_text(job))?;
         return Ok(Some(text));
     }
-    if held.holder().is_some() && !held.is_granted_to(here) {
-        let text = granted_text(alloc, roster, held)?;
+    if job.holder().is_some() && !job.is_granted_to(here) {
+        let text = granted_text(alloc, roster, job)?;
         return Ok(Some(text));
     }
-    if !held.has_site(here) {
+    if !job.has_site(here) {
         let text = elsewhere_text(alloc, roster, here)?;
         return Ok(Some(text));
     }
-    let nodes = held.nodes().1.get();
+    let nodes = job.nodes().1.get();
     let capacity = nodes_of(roster, here);
     if nodes <= capacity {
         return Ok(None);
@@ -165,20 +165,20 @@ fn waiting_text(
     roster: &Roster,
     board: &Board,
     here: SiteId,
-    job: JobId,
+    id: JobId,
     moment: Moment,
-    held: &JobRecord,
+    job: &JobRecord,
 ) -> Result<String, NoMemory>
     requires site { here < length roster.now }
-    requires submitted { IsTrue (is_submitted (reads_job held.now)) }
-    ensures { IfOk result (λ text. string_bytes text ≡ unwrap_or (obstacle_of roster.now here (reads_job held.now))
-        (text_of_place roster.now job (planned roster.now (reads board.now) here moment))) }
+    requires submitted { IsTrue (is_submitted (job_reads job.now)) }
+    ensures { IfOk result (λ text. string_bytes text ≡ unwrap_or (obstacle_of roster.now here (job_reads job.now))
+        (text_of_place roster.now id (planned roster.now (board_reads board.now) here moment))) }
 {
-    if let Some(text) = obstacle(alloc, roster, here, held)? {
+    if let Some(text) = obstacle(alloc, roster, here, job)? {
         return Ok(text);
     }
     match plan_at(alloc, roster, board, here, moment)? {
-        Some(plan) => Ok(place_text(alloc, roster, job, &plan)?),
+        Some(plan) => Ok(place_text(alloc, roster, id, &plan)?),
         None => Ok(String::from_str(alloc, "no plan")?),
     }
 }
@@ -189,26 +189,26 @@ fn job_text(
     roster: &Roster,
     board: &Board,
     here: SiteId,
-    job: JobId,
+    id: JobId,
     moment: Moment,
-    held: &JobRecord,
+    job: &JobRecord,
 ) -> Result<String, NoMemory>
     requires site { here < length roster.now }
-    requires submitted { IsTrue (is_submitted (reads_job held.now)) }
+    requires submitted { IsTrue (is_submitted (job_reads job.now)) }
     ensures { IfOk result (λ text. string_bytes text ≡
-        text_of_job roster.now here job (reads_job held.now) (planned roster.now (reads board.now) here moment)) }
+        text_of_job roster.now here id (job_reads job.now) (planned roster.now (board_reads board.now) here moment)) }
 {
-    if held.deleted() {
+    if job.deleted() {
         return Ok(String::from_str(alloc, "deleted")?);
     }
-    let progress = held.progress();
+    let progress = job.progress();
     if let Some((_, ending)) = progress.finished {
         return Ok(format!(in alloc; "finished {}", ending.status)?);
     }
     if let Some((stamp, beginning)) = progress.begun {
         return Ok(begun_text(alloc, roster, stamp, beginning)?);
     }
-    waiting_text(alloc, roster, board, here, job, moment, held)
+    waiting_text(alloc, roster, board, here, id, moment, job)
 }
 
 /// Why a job stands where it does at the site, in one line: the first that applies of `unknown`, `deleted`,
@@ -221,14 +221,14 @@ pub fn why_line(
     roster: &Roster,
     board: &Board,
     here: SiteId,
-    job: JobId,
+    id: JobId,
     moment: Moment,
 ) -> Result<String, NoMemory>
     requires { here < length roster.now }
-    ensures { IfOk result (λ text. string_bytes text ≡ line_of_why roster.now (reads board.now) here job moment) }
+    ensures { IfOk result (λ text. string_bytes text ≡ line_of_why roster.now (board_reads board.now) here id moment) }
 {
-    let mut text = match board.job(job) {
-        Some(held) => job_text(alloc, roster, board, here, job, moment, held)?,
+    let mut text = match board.job(id) {
+        Some(job) => job_text(alloc, roster, board, here, id, moment, job)?,
         None => String::from_str(alloc, "unknown")?,
     };
     text.push_str("\n")?;

@@ -1,14 +1,10 @@
 -- What has been written when a script ends.
-use Rattle.std.specs.Prelude.{◌≡◌, ℕ, List, Option, Some, None, Result, Ok, Err}
-use Rattle.std.specs.Io.KnownBytes.{Appends, Keeps}
-use Rattle.fed_main.specs.Said.{Said, said, said_first}
+use Rattle.std.specs.Prelude.{ℕ, List, Option, Some, None, Result, Ok, Err}
+use Rattle.std.specs.Io.KnownBytes.{Keeps}
+use Rattle.fed_replay.specs.Said.{said, said_first}
 use Rattle.fed_main.specs.declared.fault.RunFault.{RunFault}
 use Rattle.fed_main.specs.declared.fault.RunFault.TheVariants.{Line, Read, Write, NoMemory, Close, Behind}
-
--- this has been said, and no more was written
-pub record HasSaid (before after : Option (List ℕ)) (said : Said) (unread : Option ℕ) : Type 0 where
-  pub ended : said.unread ≡ unread
-  pub written : Appends before after said.text
+pub use Rattle.fed_replay.specs.Ends.{HasSaid}
 
 -- all was said; or what is said before the first line that can't be read; or nothing; or what is said to some first
 -- lines, each of which can be read. Only sites that run at the same time meet the last two faults

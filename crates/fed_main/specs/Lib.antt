@@ -1,10 +1,8 @@
--- What is said to a script.
+-- What is said to a script, and how its lines run at the same time.
+pub use Rattle.fed_replay.specs.Said
+pub use Rattle.fed_replay.specs.Script
 pub mod Ends
 pub mod Fault
-pub mod Federation
 pub mod Live
-pub mod Reading
-pub mod Said
 pub mod Reports
-pub mod Script
 pub mod Thread

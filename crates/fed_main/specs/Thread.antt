@@ -1,10 +1,10 @@
 -- What a thread of a site answers to the lines that ask the site.
 use Rattle.std.specs.Prelude.{◌≡◌, ℕ, ◌==◌, Bool, false, List, [], ◌∷◌, ◌++◌, codes, string_bytes}
 use Rattle.std.specs.List.{filter}
-use Rattle.fed_record.specs.declared.askers.Who.{Who}
-use Rattle.fed_record.specs.declared.commands.Command.{Command}
-use Rattle.fed_board.specs.View.{View}
-use Rattle.fed_world.specs.declared.outcomes.Outcome.{Outcome}
+use Rattle.fed_model.specs.declared.askers.Who.{Who}
+use Rattle.fed_model.specs.declared.commands.Command.{Command}
+use Rattle.fed_model.specs.View.{View}
+use Rattle.fed_model.specs.declared.outcomes.Outcome.{Outcome}
 use Rattle.fed_threads.specs.declared.journal.Asked.TheVariants.{Do, Ship}
 use Rattle.fed_threads.specs.Calls.{AddsClaim, Looks}
 use Rattle.fed_threads.specs.Seat.{Known, known_by}

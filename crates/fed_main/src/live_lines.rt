@@ -5,14 +5,14 @@ ghost use Rattle.fed_main.specs.Live.{TellsUnread, is_run, sites_after, sites_to
 
 use crate::fault::RunFault;
 use fed_lattice::NoMemory;
-use fed_script::{HeldRoster, Line, read_first_line, read_later_line, split_line};
+use fed_script::{BoxedRoster, Line, read_first_line, read_later_line, split_line};
 use std::alloc::Global;
 
 /// A script that runs live, as far as it was read.
 #[derive(Drop)]
 pub(crate) struct LiveScript {
     /// The sites, once a line has named them.
-    pub(crate) sites: Option<HeldRoster>,
+    pub(crate) sites: Option<BoxedRoster>,
     /// The lines behind that one, in order, without those that are skipped.
     pub(crate) lines: Vec<Line>,
 }

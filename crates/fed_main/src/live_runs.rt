@@ -8,9 +8,8 @@ ghost use Rattle.fed_main.specs.Reports.{answers_of, first_fault as first_fault_
 use crate::fault::RunFault;
 use crate::live_lines::{LiveScript, read_lines};
 use crate::live_sites::{Report, Sites, run_lines, take_all};
-use crate::run::ended;
-use crate::script::{MAX_SCRIPT_BYTES, read_script};
 use fed_lattice::NoMemory;
+use fed_replay::{MAX_SCRIPT_BYTES, ended, read_script};
 use fed_script::Line;
 use fed_stamp::Roster;
 use fed_threads::{CallFault, Federation, Gate, OpenGate, Seat};
@@ -178,7 +177,7 @@ pub fn live_with<R: Threads + Wait + Sync, I: Read, O: Write, G: Gate + Sync>(
 {
     let script = match read_script(alloc, reader) {
         Ok(script) => script,
-        Err(fault) => return Err(fault),
+        Err(fault) => return Err(fault.into()),
     };
     run_script(rt, alloc, &script, writer, gate)
 }
@@ -228,5 +227,5 @@ fn run_script<R: Threads + Wait + Sync, O: Write, G: Gate + Sync>(
     writer
         .write_all(text.as_bytes())
         .map_err(|_| RunFault::Write)?;
-    ended(Ok(()), writer.flush())
+    ended(Ok(()), RunFault::Write, writer.flush())
 }

@@ -1,7 +1,7 @@
 //! What the threads of a site do.
 ghost use Rattle.std.specs.Prelude.{◌≡◌, ◌<◌, ◌≤◌, ◌++◌, [], IfOk, IfSome, IsNone, OnOk, None, codes, length, map, string_bytes};
 ghost use Rattle.std.specs.Result.{result_err};
-ghost use Rattle.fed_board.specs.Board.{reads as reads_board};
+ghost use Rattle.fed_board.specs.Board.{board_reads};
 ghost use Rattle.fed_script.specs.LineView.{said_by};
 ghost use Rattle.fed_threads.specs.Calls.{Looks};
 ghost use Rattle.fed_threads.specs.Seat.{known_by, starts};
@@ -124,7 +124,7 @@ impl<'a, R: Wait, G: Gate> Place<'a, R, G> {
 
     /// A copy of the site's board.
     fn board(&self, log: &mut Log) -> Result<Board, CallFault>
-        ensures looks { IfOk result (λ b. Looks (reads log.old).known (reads log.new).known self.now.here (reads_board b)) }
+        ensures looks { IfOk result (λ b. Looks (reads log.old).known (reads log.new).known self.now.here (board_reads b)) }
         ensures text { (reads log.new).text ≡ (reads log.old).text }
     {
         self.sites

@@ -18,13 +18,13 @@ use Rattle.fed_lattice.specs.LatestLaws.{stamp_total}
 use Rattle.fed_lattice.specs.Sets.{Has}
 use Rattle.fed_lattice.specs.SetLaws.{found, any_from}
 use Rattle.fed_lattice.proofs.FilterLaws.{Has-filter, filter-Has}
-use Rattle.fed_record.specs.JobRecord.{JobRecordValue, reads as reads_job}
-use Rattle.fed_record.specs.JobView.{JobView}
-use Rattle.fed_record.specs.Letter.{is_submitted, letter}
-use Rattle.fed_board.specs.Board.{BoardValue, IsBoard, no_operation, reads}
-use Rattle.fed_board.specs.Names.{covered_stamps, jobs_in}
-use Rattle.fed_board.specs.View.{View}
-use Rattle.fed_board.proofs.CoveredStamps.{covered_ascend, covered_has, same_stamps}
+use Rattle.fed_record.specs.JobRecord.{JobRecordValue, job_reads}
+use Rattle.fed_model.specs.JobView.{JobView}
+use Rattle.fed_model.specs.Letter.{is_submitted, letter}
+use Rattle.fed_board.specs.Board.{BoardValue, IsBoard, no_operation, board_reads}
+use Rattle.fed_model.specs.Names.{covered_stamps, jobs_in}
+use Rattle.fed_model.specs.View.{View}
+use Rattle.fed_theory.proofs.CoveredStamps.{covered_ascend, covered_has, same_stamps}
 use Rattle.fed_board.proofs.ListedNames.{known_job}
 use Rattle.fed_qstat.specs.Listing.{is_asked, is_shown, listing, shown_text}
 
@@ -33,12 +33,12 @@ use Rattle.fed_qstat.specs.Listing.{is_asked, is_shown, listing, shown_text}
 pub record IsListed (b : BoardValue) : Type 0 where
   pub board : IsBoard b
   pub ascending : IsStrictlySortedBy stamp_cmp (keys_of b.jobs)
-  pub names : keys_of b.jobs ≡ jobs_in (reads b)
+  pub names : keys_of b.jobs ≡ jobs_in (board_reads b)
 
-there : (b : BoardValue) → IsListed b → (job : StampValue) → is_submitted ((reads b).job job) ≡ true → Has (jobs_in (reads b)) job
+there : (b : BoardValue) → IsListed b → (job : StampValue) → is_submitted ((board_reads b).job job) ≡ true → Has (jobs_in (board_reads b)) job
 there b p job s =
     let k = known_job b.version job (lookup (is_at (stamp_cmp job)) b.jobs) (p.board.jobs job) s in
-    filter-Has (λ j. is_submitted ((reads b).job j)) (covered_stamps b.version) job (covered_has b.version job k.0 k.1) s
+    filter-Has (λ j. is_submitted ((board_reads b).job j)) (covered_stamps b.version) job (covered_has b.version job k.0 k.1) s
 
 pub submitted : (v : View) (job : StampValue) → Has (jobs_in v) job → is_submitted (v.job job) ≡ true
 submitted v job h = (Has-filter (λ j. is_submitted (v.job j)) (covered_stamps v.version) job h).1
@@ -63,7 +63,7 @@ flat_map_where p q f (x ∷ xs) same = head_where f x (filter q xs) _ (p x) (q x
 module _ (lines : StampValue → JobView → List ℕ) where
   -- the lines of jobs with their records
   abbrev pub texts : List (StampValue × JobRecordValue) → List ℕ
-  texts jobs = flat_map (λ e. shown_text lines e.0 (reads_job e.1)) jobs
+  texts jobs = flat_map (λ e. shown_text lines e.0 (job_reads e.1)) jobs
 
   -- the lines of named jobs
   abbrev pub named_texts : View → List StampValue → List ℕ
@@ -71,20 +71,20 @@ module _ (lines : StampValue → JobView → List ℕ) where
 
   -- the record of an entry reads as a view has it
   abbrev IsRead : View → StampValue × JobRecordValue → Type 0
-  IsRead v e = reads_job e.1 ≡ v.job e.0
+  IsRead v e = job_reads e.1 ≡ v.job e.0
 
   texts-read : (v : View) (jobs : List (StampValue × JobRecordValue)) → All (IsRead v) jobs → texts jobs ≡ named_texts v (keys_of jobs)
   texts-read v [] p = refl
   texts-read v (e ∷ jobs) p =
-      let here : reads_job e.1 ≡ v.job e.0 = All-head (IsRead v) e jobs p in
+      let here : job_reads e.1 ≡ v.job e.0 = All-head (IsRead v) e jobs p in
       ap₂ (λ x y. x ++ y) (λ i. shown_text lines e.0 (here i)) (texts-read v jobs (All-tail (IsRead v) e jobs p))
 
-  read_at : (b : BoardValue) (e : StampValue × JobRecordValue) → lookup (is_at (stamp_cmp e.0)) b.jobs ≡ Some e.1 → IsRead (reads b) e
-  read_at b e h = ap (λ (o : Option JobRecordValue). reads_job (unwrap_or o no_operation)) (sym h)
+  read_at : (b : BoardValue) (e : StampValue × JobRecordValue) → lookup (is_at (stamp_cmp e.0)) b.jobs ≡ Some e.1 → IsRead (board_reads b) e
+  read_at b e h = ap (λ (o : Option JobRecordValue). job_reads (unwrap_or o no_operation)) (sym h)
 
-  pub all_listed : (b : BoardValue) → IsListed b → texts b.jobs ≡ listing lines (reads b) []
+  pub all_listed : (b : BoardValue) → IsListed b → texts b.jobs ≡ listing lines (board_reads b) []
   all_listed b p =
-      let v : View = reads b in
+      let v : View = board_reads b in
       texts-read v b.jobs (All-weaker _ (IsRead v) (λ e h. read_at b e (lookup-from_Contains (eq_by_cmp_equiv stamp_total) e.0 e.1 b.jobs (IsDistinct-from_sorted stamp_cmp (keys_of b.jobs) p.ascending) h)) b.jobs (All-contains_itself b.jobs))
       ∙ ap (named_texts v) p.names
       ∙ flat_map_where (λ job. is_submitted (v.job job) && is_some (letter (v.job job))) (is_shown v []) (λ job. lines job (v.job job)) (jobs_in v)
@@ -100,9 +100,9 @@ module _ (lines : StampValue → JobView → List ℕ) where
       let f = found (same_stamp job) (name ∷ asked) e in subst (Has (name ∷ asked)) (sym (same_stamp_is job f.0 f.2)) f.1
 
   pub some_listed : (b : BoardValue) (names asked : List StampValue) → IsListed b → IsStrictlySortedBy stamp_cmp names → asked ≢ []
-      → ((job : StampValue) → Has names job ↔ Has asked job) → named_texts (reads b) names ≡ listing lines (reads b) asked
+      → ((job : StampValue) → Has names job ↔ Has asked job) → named_texts (board_reads b) names ≡ listing lines (board_reads b) asked
   some_listed b names asked p ascending some same =
-      let v : View = reads b in
+      let v : View = board_reads b in
       let shows : StampValue → Bool = λ job. is_submitted (v.job job) && is_some (letter (v.job job)) in
       flat_map_where shows shows (λ job. lines job (v.job job)) names (λ job h. refl)
       ∙ ap (flat_map (λ job. lines job (v.job job))) (same_stamps (filter shows names) (filter (is_shown v asked) (jobs_in v))
@@ -123,7 +123,7 @@ module _ (lines : StampValue → JobView → List ℕ) where
   abbrev pub IsUnderWay : List (StampValue × JobRecordValue) → List ℕ → List (StampValue × JobRecordValue) → Type 0
   IsUnderWay jobs written rest = written ++ texts rest ≡ texts jobs
 
-  pub all_written : (b : BoardValue) (written : List ℕ) (s : List (StampValue × JobRecordValue)) → IsListed b → IsUnderWay b.jobs written s → s ≡ [] → written ≡ listing lines (reads b) []
+  pub all_written : (b : BoardValue) (written : List ℕ) (s : List (StampValue × JobRecordValue)) → IsListed b → IsUnderWay b.jobs written s → s ≡ [] → written ≡ listing lines (board_reads b) []
   all_written b written s p under none =
       sym (append-nil written) ∙ ap (λ l. written ++ texts l) (sym none) ∙ under ∙ all_listed b p
 
@@ -139,6 +139,6 @@ module _ (lines : StampValue → JobView → List ℕ) where
       ∙ ap (named_texts v) (sym grown)
 
   pub named_written : (b : BoardValue) (written : List ℕ) (seen names asked : List StampValue) → IsListed b → IsStrictlySortedBy stamp_cmp names → asked ≢ []
-      → ((job : StampValue) → Has names job ↔ Has asked job) → AreWritten (reads b) written seen → seen ≡ names → written ≡ listing lines (reads b) asked
+      → ((job : StampValue) → Has names job ↔ Has asked job) → AreWritten (board_reads b) written seen → seen ≡ names → written ≡ listing lines (board_reads b) asked
   named_written b written seen names asked p ascending some same before whole =
-      before ∙ ap (named_texts (reads b)) whole ∙ some_listed b names asked p ascending some same
+      before ∙ ap (named_texts (board_reads b)) whole ∙ some_listed b names asked p ascending some same

@@ -11,14 +11,12 @@ use Rattle.std.proofs.lemmas.List.Kept.{Contains-dedup, Contains-from_dedup, IsS
 use Rattle.std.proofs.lemmas.List.Sorted.{Contains-permutation, IsPermutation-sym}
 use Rattle.std.proofs.lemmas.Map.Views.{Contains-from_any, list_any-from_Contains, tells_apart}
 use Rattle.fed_easy.proofs.Fits.{same_test}
-use Rattle.fed_stamp.specs.Stamp.{StampValue}
-use Rattle.fed_lattice.specs.ExactLaws.{exact_stamp}
+use Rattle.fed_stamp.specs.Stamp.{StampValue, same_stamp}
+use Rattle.fed_lattice.specs.ExactLaws.{exact_stamp, same_stamp_is, same_stamp_itself}
 use Rattle.fed_lattice.specs.Latest.{stamp_cmp}
 use Rattle.fed_lattice.specs.LatestLaws.{stamp_total}
 use Rattle.fed_lattice.specs.Sets.{Has}
 use Rattle.fed_lattice.specs.SetLaws.{found, any_from}
-use Rattle.fed_stamp.specs.Stamp.{same_stamp}
-use Rattle.fed_lattice.specs.ExactLaws.{same_stamp_is, same_stamp_itself}
 
 tied : (s : StampValue) → eq_by_cmp stamp_cmp s s ≡ true
 tied s = ap is_eq (tied_itself stamp_total s)

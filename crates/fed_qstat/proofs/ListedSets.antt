@@ -6,14 +6,14 @@ use Rattle.fed_lattice.specs.History.{History}
 use Rattle.fed_lattice.specs.Sets.{Has}
 use Rattle.fed_lattice.specs.VersionOf.{version_of}
 use Rattle.fed_lattice.proofs.VersionOfLaws.{version_of-covers}
-use Rattle.fed_record.specs.Body.{Body, Body.Submit}
-use Rattle.fed_record.specs.Letter.{is_submitted}
-use Rattle.fed_board.specs.Lawful.{IsLawful}
-use Rattle.fed_board.specs.View.{HasSubmit, view}
-use Rattle.fed_board.proofs.SubmitLaws.{submit_of, submitted_by}
-use Rattle.fed_board.specs.Names.{covered_stamps, jobs_in}
+use Rattle.fed_model.specs.Body.{Body, Body.Submit}
+use Rattle.fed_model.specs.Letter.{is_submitted}
+use Rattle.fed_model.specs.Lawful.{IsLawful}
+use Rattle.fed_model.specs.View.{HasSubmit, view}
+use Rattle.fed_theory.proofs.SubmitLaws.{submit_of, submitted_by}
+use Rattle.fed_model.specs.Names.{covered_stamps, jobs_in}
 use Rattle.fed_qstat.proofs.BoardJobs.{submitted}
-use Rattle.fed_board.proofs.CoveredStamps.{covered_has}
+use Rattle.fed_theory.proofs.CoveredStamps.{covered_has}
 
 pub set_listed : (ops : History Body) (job : StampValue) → IsLawful ops → Has (jobs_in (view ops)) job ↔ HasSubmit ops job
 set_listed ops job lawful = (

@@ -3,9 +3,9 @@ use Rattle.std.proofs.Common.{◌≡◌, ℕ, ℤ, List, [], ◌∷◌, ◌++◌
 use Rattle.std.specs.Fmt.{decimal, signed_decimal}
 use Rattle.std.specs.List.{join_with_byte}
 use Rattle.fed_stamp.specs.Stamp.{StampValue}
-use Rattle.fed_record.specs.declared.letters.Letter.{Letter}
-use Rattle.fed_record.specs.JobView.{JobView}
-use Rattle.fed_record.specs.Letter.{holder, letter}
+use Rattle.fed_model.specs.declared.letters.Letter.{Letter}
+use Rattle.fed_model.specs.JobView.{JobView}
+use Rattle.fed_model.specs.Letter.{holder, letter}
 use Rattle.fed_qstat.specs.Columns.{left_in, right_in}
 use Rattle.fed_qstat.specs.Identifier.{identifier_text}
 use Rattle.fed_qstat.specs.JobText.{field_text, holder_text, letter_sign, letter_text}

@@ -2,9 +2,9 @@
 use Rattle.std.specs.Prelude.{ℕ, List, [], ◌∷◌, ◌++◌, codes}
 use Rattle.std.specs.Fmt.{decimal, signed_decimal}
 use Rattle.fed_stamp.specs.Stamp.{StampValue}
-use Rattle.fed_record.specs.Account.{text_of}
-use Rattle.fed_record.specs.JobView.{JobView}
-use Rattle.fed_record.specs.Letter.{holder, letter}
+use Rattle.fed_model.specs.Account.{text_of}
+use Rattle.fed_model.specs.JobView.{JobView}
+use Rattle.fed_model.specs.Letter.{holder, letter}
 use Rattle.fed_qstat.specs.Identifier.{identifier_text}
 use Rattle.fed_qstat.specs.JobText.{begun_text, field_text, holder_text, holds_text, letter_text, or_dash, sites_text}
 

@@ -4,12 +4,12 @@ use Rattle.std.specs.List.{join_with_byte, range_with_len}
 use Rattle.std.specs.Fmt.{decimal}
 use Rattle.fed_stamp.specs.declared.sites.TheConstants.{SITES}
 use Rattle.fed_stamp.specs.Stamp.{StampValue}
-use Rattle.fed_record.specs.declared.holds.HoldKind.TheVariants.{User, Operator, System}
-use Rattle.fed_record.specs.declared.letters.Letter.{Letter}
-use Rattle.fed_record.specs.declared.letters.Letter.TheVariants.{Exiting, Running, Held, Granted, Queued}
-use Rattle.fed_record.specs.declared.progress.Beginning.{Beginning}
-use Rattle.fed_record.specs.JobView.{JobView}
-use Rattle.fed_record.specs.Letter.{has_site, has_hold}
+use Rattle.fed_model.specs.declared.holds.HoldKind.TheVariants.{User, Operator, System}
+use Rattle.fed_model.specs.declared.letters.Letter.{Letter}
+use Rattle.fed_model.specs.declared.letters.Letter.TheVariants.{Exiting, Running, Held, Granted, Queued}
+use Rattle.fed_model.specs.declared.beginnings.Beginning.{Beginning}
+use Rattle.fed_model.specs.JobView.{JobView}
+use Rattle.fed_model.specs.Letter.{has_site, has_hold}
 use Rattle.fed_qstat.specs.Identifier.{site_text}
 
 -- what stands where there is nothing to show

@@ -1,7 +1,7 @@
 -- The two forms of a listing.
 use Rattle.std.specs.Prelude.{ℕ, List}
 use Rattle.fed_stamp.specs.Stamp.{StampValue}
-use Rattle.fed_record.specs.JobView.{JobView}
+use Rattle.fed_model.specs.JobView.{JobView}
 use Rattle.fed_qstat.specs.Full.{full_lines}
 use Rattle.fed_qstat.specs.Short.{short_line}
 use Rattle.fed_qstat.specs.declared.listings.Layout.{Layout}

@@ -2,10 +2,10 @@
 use Rattle.std.specs.Prelude.{ℕ, Bool, true, ◌&&◌, List, [], ◌∷◌, filter, flat_map, is_some, if◌then◌else◌}
 use Rattle.std.specs.List.{list_any}
 use Rattle.fed_stamp.specs.Stamp.{StampValue, same_stamp}
-use Rattle.fed_record.specs.JobView.{JobView}
-use Rattle.fed_record.specs.Letter.{is_submitted, letter}
-use Rattle.fed_board.specs.Names.{jobs_in}
-use Rattle.fed_board.specs.View.{View}
+use Rattle.fed_model.specs.JobView.{JobView}
+use Rattle.fed_model.specs.Letter.{is_submitted, letter}
+use Rattle.fed_model.specs.Names.{jobs_in}
+use Rattle.fed_model.specs.View.{View}
 
 -- a job is asked for where it is named; where none is named all are
 abbrev pub is_asked : List StampValue → StampValue → Bool

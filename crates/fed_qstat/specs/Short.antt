@@ -3,8 +3,8 @@ use Rattle.std.specs.Prelude.{ℕ, List, [], ◌∷◌, ◌++◌}
 use Rattle.std.specs.List.{join_with_byte}
 use Rattle.std.specs.Fmt.{decimal, signed_decimal}
 use Rattle.fed_stamp.specs.Stamp.{StampValue}
-use Rattle.fed_record.specs.JobView.{JobView}
-use Rattle.fed_record.specs.Letter.{holder, letter}
+use Rattle.fed_model.specs.JobView.{JobView}
+use Rattle.fed_model.specs.Letter.{holder, letter}
 use Rattle.fed_qstat.specs.Columns.{left_in, right_in}
 use Rattle.fed_qstat.specs.Identifier.{identifier_text}
 use Rattle.fed_qstat.specs.JobText.{field_text, holder_text, letter_text}

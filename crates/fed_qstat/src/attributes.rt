@@ -1,7 +1,7 @@
 //! What listings show of a job, piece by piece.
 ghost use Rattle.std.specs.Prelude.{◌≡◌, ◌∷◌, ◌++◌, IfOk, OnOk, Some, string_bytes, if◌then◌else◌};
-ghost use Rattle.fed_record.specs.JobRecord.{reads};
-ghost use Rattle.fed_record.specs.Letter.{holder};
+ghost use Rattle.fed_record.specs.JobRecord.{job_reads};
+ghost use Rattle.fed_model.specs.Letter.{holder};
 ghost use Rattle.fed_qstat.specs.JobText.{begun_text as text_of_begun, hold_letters as letters_of_holds, holder_text as text_of_holder, holds_text as text_of_holds, letter_sign as sign_of_letter, or_dash as text_or_dash, sites_text as text_of_sites};
 
 use crate::identifiers::{push_site, site_text};
@@ -33,12 +33,12 @@ pub(crate) fn letter_sign(letter: Letter) -> &'static str
 pub(crate) fn push_holder(
     text: &mut String,
     roster: &Roster,
-    held: &JobRecord,
+    job: &JobRecord,
 ) -> Result<(), AllocError>
     ensures { OnOk result (string_bytes text.new ≡
-        string_bytes text.old ++ text_of_holder roster.now (holder (reads held.now))) }
+        string_bytes text.old ++ text_of_holder roster.now (holder (job_reads job.now))) }
 {
-    match held.holder() {
+    match job.holder() {
         Some(site) => push_site(text, roster, site),
         None => text.push_str("-"),
     }
@@ -48,20 +48,20 @@ pub(crate) fn push_holder(
 pub(crate) fn holder_text(
     alloc: Global,
     roster: &Roster,
-    held: &JobRecord,
+    job: &JobRecord,
 ) -> Result<String, AllocError>
-    ensures { IfOk result (λ text. string_bytes text ≡ text_of_holder roster.now (holder (reads held.now))) }
+    ensures { IfOk result (λ text. string_bytes text ≡ text_of_holder roster.now (holder (job_reads job.now))) }
 {
     let mut text = String::new(alloc);
-    push_holder(&mut text, roster, held)?;
+    push_holder(&mut text, roster, job)?;
     Ok(text)
 }
 
 /// The moment of the Begin, or `-` where the job has not begun.
-pub(crate) fn begun_text(alloc: Global, held: &JobRecord) -> Result<String, AllocError>
-    ensures { IfOk result (λ text. string_bytes text ≡ text_of_begun (reads held.now).begun) }
+pub(crate) fn begun_text(alloc: Global, job: &JobRecord) -> Result<String, AllocError>
+    ensures { IfOk result (λ text. string_bytes text ≡ text_of_begun (job_reads job.now).begun) }
 {
-    match held.progress().begun {
+    match job.progress().begun {
         Some((_, beginning)) => format!(in alloc; "{}", beginning.moment.get()),
         None => String::from_str(alloc, "-"),
     }
@@ -84,13 +84,13 @@ fn hold_letters(user: bool, operator: bool, system: bool) -> &'static str
 }
 
 /// The letters of a job's holds.
-pub(crate) fn holds_text(held: &JobRecord) -> &'static str
-    ensures { result.now ≡ text_of_holds (reads held.now) }
+pub(crate) fn holds_text(job: &JobRecord) -> &'static str
+    ensures { result.now ≡ text_of_holds (job_reads job.now) }
 {
     hold_letters(
-        held.has_hold(HoldKind::User),
-        held.has_hold(HoldKind::Operator),
-        held.has_hold(HoldKind::System),
+        job.has_hold(HoldKind::User),
+        job.has_hold(HoldKind::Operator),
+        job.has_hold(HoldKind::System),
     )
 }
 
@@ -110,15 +110,15 @@ fn push_name(text: &mut String, is_first: bool, name: &str) -> Result<(), AllocE
 pub(crate) fn sites_text(
     alloc: Global,
     roster: &Roster,
-    held: &JobRecord,
+    job: &JobRecord,
 ) -> Result<String, AllocError>
-    ensures { IfOk result (λ text. string_bytes text ≡ text_of_sites roster.now (reads held.now)) }
+    ensures { IfOk result (λ text. string_bytes text ≡ text_of_sites roster.now (job_reads job.now)) }
 {
     let mut text = String::new(alloc);
     let mut is_first = true;
     for number in 0..SITES as u8 {
         let site = SiteId::new(number).unwrap();
-        if held.has_site(site) {
+        if job.has_site(site) {
             let name = site_text(alloc, roster, site)?;
             push_name(&mut text, is_first, name.as_str())?;
             is_first = false;

@@ -1,7 +1,7 @@
 //! The full listing.
 ghost use Rattle.std.specs.Prelude.{◌≡◌, ◌++◌, IfOk, OnOk, IsTrue, Some, string_bytes};
-ghost use Rattle.fed_record.specs.JobRecord.{reads};
-ghost use Rattle.fed_record.specs.Letter.{is_submitted, letter as letter_of};
+ghost use Rattle.fed_record.specs.JobRecord.{job_reads};
+ghost use Rattle.fed_model.specs.Letter.{is_submitted, letter as letter_of};
 ghost use Rattle.fed_qstat.specs.Full.{attribute, full_lines as lines_of, head_line, naming, resources, running, standing};
 
 use crate::attributes::{begun_text, holder_text, holds_text, letter_sign, or_dash, sites_text};
@@ -42,15 +42,15 @@ fn naming_text(
     alloc: Global,
     roster: &Roster,
     id: JobId,
-    held: &JobRecord,
+    job: &JobRecord,
 ) -> Result<String, AllocError>
-    requires { IsTrue (is_submitted (reads held.now)) }
-    ensures { IfOk result (λ text. string_bytes text ≡ naming roster.now id (reads held.now)) }
+    requires { IsTrue (is_submitted (job_reads job.now)) }
+    ensures { IfOk result (λ text. string_bytes text ≡ naming roster.now id (job_reads job.now)) }
 {
     let identifier = identifier_text(alloc, roster, id)?;
-    let (_, name) = held.name();
-    let (_, owner) = held.owner();
-    let (_, account) = held.account();
+    let (_, name) = job.name();
+    let (_, owner) = job.owner();
+    let (_, account) = job.account();
     let mut text = head_text(alloc, identifier.as_str())?;
     push_attribute(alloc, &mut text, "Job_Name", name.as_str())?;
     push_attribute(alloc, &mut text, "Job_Owner", owner.as_str())?;
@@ -59,29 +59,29 @@ fn naming_text(
 }
 
 /// Where a job with this letter stands in the queue.
-fn standing_text(alloc: Global, held: &JobRecord, letter: Letter) -> Result<String, AllocError>
-    requires submitted { IsTrue (is_submitted (reads held.now)) }
-    requires letter { letter_of (reads held.now) ≡ Some letter }
-    ensures { IfOk result (λ text. string_bytes text ≡ standing (reads held.now)) }
+fn standing_text(alloc: Global, job: &JobRecord, letter: Letter) -> Result<String, AllocError>
+    requires submitted { IsTrue (is_submitted (job_reads job.now)) }
+    requires letter { letter_of (job_reads job.now) ≡ Some letter }
+    ensures { IfOk result (λ text. string_bytes text ≡ standing (job_reads job.now)) }
 {
-    let priority = held.priority().1.get();
+    let priority = job.priority().1.get();
     let value = format!(in alloc; "{priority}")?;
     let mut text = attribute_text(alloc, "job_state", letter_sign(letter))?;
     push_attribute(alloc, &mut text, "Priority", value.as_str())?;
-    push_attribute(alloc, &mut text, "Hold_Types", holds_text(held))?;
+    push_attribute(alloc, &mut text, "Hold_Types", holds_text(job))?;
     Ok(text)
 }
 
 /// What the job asks for.
-fn resources_text(alloc: Global, roster: &Roster, held: &JobRecord) -> Result<String, AllocError>
-    requires { IsTrue (is_submitted (reads held.now)) }
-    ensures { IfOk result (λ text. string_bytes text ≡ resources roster.now (reads held.now)) }
+fn resources_text(alloc: Global, roster: &Roster, job: &JobRecord) -> Result<String, AllocError>
+    requires { IsTrue (is_submitted (job_reads job.now)) }
+    ensures { IfOk result (λ text. string_bytes text ≡ resources roster.now (job_reads job.now)) }
 {
-    let nodes = held.nodes().1.get();
-    let limit = held.limit().1.get();
+    let nodes = job.nodes().1.get();
+    let limit = job.limit().1.get();
     let nodes_value = format!(in alloc; "{nodes}")?;
     let limit_value = format!(in alloc; "{limit}")?;
-    let sites = sites_text(alloc, roster, held)?;
+    let sites = sites_text(alloc, roster, job)?;
     let mut text = attribute_text(alloc, "Resource_List.nodes", nodes_value.as_str())?;
     push_attribute(
         alloc,
@@ -94,11 +94,11 @@ fn resources_text(alloc: Global, roster: &Roster, held: &JobRecord) -> Result<St
 }
 
 /// Where and when the job runs.
-fn running_text(alloc: Global, roster: &Roster, held: &JobRecord) -> Result<String, AllocError>
-    ensures { IfOk result (λ text. string_bytes text ≡ running roster.now (reads held.now)) }
+fn running_text(alloc: Global, roster: &Roster, job: &JobRecord) -> Result<String, AllocError>
+    ensures { IfOk result (λ text. string_bytes text ≡ running roster.now (job_reads job.now)) }
 {
-    let holder = holder_text(alloc, roster, held)?;
-    let begun = begun_text(alloc, held)?;
+    let holder = holder_text(alloc, roster, job)?;
+    let begun = begun_text(alloc, job)?;
     let mut text = attribute_text(alloc, "granted", holder.as_str())?;
     push_attribute(alloc, &mut text, "begun", begun.as_str())?;
     Ok(text)
@@ -109,19 +109,19 @@ pub(crate) fn full_lines(
     alloc: Global,
     roster: &Roster,
     id: JobId,
-    held: &JobRecord,
+    job: &JobRecord,
     letter: Letter,
 ) -> Result<String, AllocError>
-    requires submitted { IsTrue (is_submitted (reads held.now)) }
-    requires letter { letter_of (reads held.now) ≡ Some letter }
-    ensures { IfOk result (λ text. string_bytes text ≡ lines_of roster.now id (reads held.now)) }
+    requires submitted { IsTrue (is_submitted (job_reads job.now)) }
+    requires letter { letter_of (job_reads job.now) ≡ Some letter }
+    ensures { IfOk result (λ text. string_bytes text ≡ lines_of roster.now id (job_reads job.now)) }
 {
-    let mut text = naming_text(alloc, roster, id, held)?;
-    let standing = standing_text(alloc, held, letter)?;
+    let mut text = naming_text(alloc, roster, id, job)?;
+    let standing = standing_text(alloc, job, letter)?;
     text.push_str(standing.as_str())?;
-    let resources = resources_text(alloc, roster, held)?;
+    let resources = resources_text(alloc, roster, job)?;
     text.push_str(resources.as_str())?;
-    let running = running_text(alloc, roster, held)?;
+    let running = running_text(alloc, roster, job)?;
     text.push_str(running.as_str())?;
     Ok(text)
 }

@@ -3,6 +3,7 @@ ghost use Rattle.std.specs.Prelude.{◌≡◌, ◌++◌, IfOk, OnOk, string_byte
 ghost use Rattle.fed_qstat.specs.Identifier.{identifier_text as text_of_identifier, site_text as text_of_site};
 
 use fed_stamp::{JobId, Roster, SiteId};
+use itoa::Buffer;
 use std::alloc::{AllocError, Global};
 
 /// The room that is made for an identifier: a counter has up to 10 digits, a dot and a name of up to 15 characters stand
@@ -28,12 +29,25 @@ pub fn site_text(alloc: Global, roster: &Roster, site: SiteId) -> Result<String,
     Ok(text)
 }
 
+/// Adds the identifier of a job or of a reservation: its counter in decimal, a dot and its site.
+pub(crate) fn push_identifier(
+    text: &mut String,
+    roster: &Roster,
+    id: JobId,
+) -> Result<(), AllocError>
+    ensures { OnOk result (string_bytes text.new ≡ string_bytes text.old ++ text_of_identifier roster.now id) }
+{
+    let mut counter = Buffer::new();
+    text.push_str(counter.format(id.counter()))?;
+    text.push('.')?;
+    push_site(text, roster, id.site())
+}
+
 /// The identifier of a job or of a reservation: its counter in decimal, a dot and its site.
 pub fn identifier_text(alloc: Global, roster: &Roster, id: JobId) -> Result<String, AllocError>
     ensures { IfOk result (λ text. string_bytes text ≡ text_of_identifier roster.now id) }
 {
     let mut text = String::with_capacity(alloc, IDENTIFIER_BYTES)?;
-    write!(text, "{}.", id.counter())?;
-    push_site(&mut text, roster, id.site())?;
+    push_identifier(&mut text, roster, id)?;
     Ok(text)
 }

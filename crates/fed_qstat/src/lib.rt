@@ -11,6 +11,8 @@ pub mod identifiers;
 pub mod laws;
 /// Listings of the jobs of a board.
 pub mod listings;
+/// The columns of the short listing.
+mod padding;
 /// The text of a plan.
 pub mod plan_texts;
 /// The short listing.

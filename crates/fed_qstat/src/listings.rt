@@ -4,9 +4,9 @@ ghost use Rattle.std.specs.List.Sorted.{IsStrictlySortedBy};
 ghost use Rattle.fed_stamp.specs.Stamp.{StampValue};
 ghost use Rattle.fed_lattice.specs.Latest.{stamp_cmp};
 ghost use Rattle.fed_lattice.specs.Sets.{Has};
-ghost use Rattle.fed_record.specs.JobRecord.{reads as reads_job};
-ghost use Rattle.fed_record.specs.Letter.{is_submitted, letter as letter_of};
-ghost use Rattle.fed_board.specs.Board.{reads};
+ghost use Rattle.fed_record.specs.JobRecord.{job_reads};
+ghost use Rattle.fed_model.specs.Letter.{is_submitted, letter as letter_of};
+ghost use Rattle.fed_board.specs.Board.{board_reads};
 ghost use Rattle.fed_qstat.specs.Full.{full_lines as lines_of_full};
 ghost use Rattle.fed_qstat.specs.Layout.{lines_in};
 ghost use Rattle.fed_qstat.specs.Listing.{listing, shown_text};
@@ -14,11 +14,14 @@ ghost use Rattle.fed_qstat.specs.Short.{short_line as line_of_short};
 
 use crate::full_lines::full_lines;
 use crate::short_lines::push_short_line;
-use fed_board::Board;
+use fed_board::{Board, board_is_covered, board_is_in_order};
 use fed_lattice::NoMemory;
 use fed_record::{JobRecord, Letter};
 use fed_stamp::{JobId, Roster};
 use std::alloc::{AllocError, Global};
+
+/// The room that is made for the lines of jobs that are named: most listings that name a job name one, by one line.
+const NAMED_BYTES: usize = 112;
 
 /// How a listing shows a job.
 #[derive(Clone, Copy, PartialEq, Eq, Debug)]
@@ -36,18 +39,18 @@ fn push_lines(
     roster: &Roster,
     layout: Layout,
     id: JobId,
-    held: &JobRecord,
+    job: &JobRecord,
     letter: Letter,
 ) -> Result<(), AllocError>
-    requires submitted { IsTrue (is_submitted (reads_job held.now)) }
-    requires letter { letter_of (reads_job held.now) ≡ Some letter }
+    requires submitted { IsTrue (is_submitted (job_reads job.now)) }
+    requires letter { letter_of (job_reads job.now) ≡ Some letter }
     ensures { OnOk result (string_bytes text.new ≡
-        string_bytes text.old ++ lines_in layout roster.now id (reads_job held.now)) }
+        string_bytes text.old ++ lines_in layout roster.now id (job_reads job.now)) }
 {
     match layout {
-        Layout::Short => push_short_line(alloc, text, roster, id, held, letter),
+        Layout::Short => push_short_line(text, roster, id, job, letter),
         Layout::Full => {
-            let lines = full_lines(alloc, roster, id, held, letter)?;
+            let lines = full_lines(alloc, roster, id, job, letter)?;
             text.push_str(lines.as_str())
         }
     }
@@ -60,16 +63,16 @@ fn push_job(
     roster: &Roster,
     layout: Layout,
     id: JobId,
-    held: &JobRecord,
+    job: &JobRecord,
 ) -> Result<(), AllocError>
     ensures { OnOk result (string_bytes text.new ≡
-        string_bytes text.old ++ shown_text (lines_in layout roster.now) id (reads_job held.now)) }
+        string_bytes text.old ++ shown_text (lines_in layout roster.now) id (job_reads job.now)) }
 {
-    if !held.is_submitted() {
+    if !job.is_submitted() {
         return Ok(());
     }
-    match held.letter() {
-        Some(letter) => push_lines(alloc, text, roster, layout, id, held, letter),
+    match job.letter() {
+        Some(letter) => push_lines(alloc, text, roster, layout, id, job, letter),
         None => Ok(()),
     }
 }
@@ -84,10 +87,10 @@ fn push_named(
     id: JobId,
 ) -> Result<(), AllocError>
     ensures { OnOk result (string_bytes text.new ≡
-        string_bytes text.old ++ shown_text (lines_in layout roster.now) id ((reads board.now).job id)) }
+        string_bytes text.old ++ shown_text (lines_in layout roster.now) id ((board_reads board.now).job id)) }
 {
     match board.job(id) {
-        Some(held) => push_job(alloc, text, roster, layout, id, held),
+        Some(job) => push_job(alloc, text, roster, layout, id, job),
         None => Ok(()),
     }
 }
@@ -110,13 +113,12 @@ fn list_all(
     layout: Layout,
     board: &Board,
 ) -> Result<String, AllocError>
-    ensures { IfOk result (λ text. string_bytes text ≡ listing (lines_in layout roster.now) (reads board.now) []) }
+    ensures { IfOk result (λ text. string_bytes text ≡ listing (lines_in layout roster.now) (board_reads board.now) []) }
 {
-    // what `version` ensures is the invariant of a board
-    let _version = board.version();
+    board_is_covered(board);
     let mut text = String::new(alloc);
-    for (id, held) in board.jobs() {
-        push_job(alloc, &mut text, roster, layout, *id, held)?;
+    for (id, job) in board.jobs() {
+        push_job(alloc, &mut text, roster, layout, *id, job)?;
     }
     Ok(text)
 }
@@ -130,12 +132,11 @@ fn list_named(
     asked: &[JobId],
 ) -> Result<String, AllocError>
     requires { asked.now ≢ [] }
-    ensures { IfOk result (λ text. string_bytes text ≡ listing (lines_in layout roster.now) (reads board.now) asked.now) }
+    ensures { IfOk result (λ text. string_bytes text ≡ listing (lines_in layout roster.now) (board_reads board.now) asked.now) }
 {
-    // what these ensure tells what a board is, and in what order its jobs stand
-    let _version = board.version();
-    let _jobs = board.jobs();
-    let mut text = String::new(alloc);
+    board_is_covered(board);
+    board_is_in_order(board);
+    let mut text = String::with_capacity(alloc, NAMED_BYTES)?;
     let names = distinct(alloc, asked)?;
     for name in &names {
         push_named(alloc, &mut text, roster, layout, board, *name)?;
@@ -150,7 +151,7 @@ fn lines_of(
     board: &Board,
     names: &[JobId],
 ) -> Result<String, NoMemory>
-    ensures { IfOk result (λ text. string_bytes text ≡ listing (lines_in layout roster.now) (reads board.now) names.now) }
+    ensures { IfOk result (λ text. string_bytes text ≡ listing (lines_in layout roster.now) (board_reads board.now) names.now) }
 {
     if names.is_empty() {
         Ok(list_all(alloc, roster, layout, board)?)
@@ -168,7 +169,7 @@ pub fn list(
     roster: &Roster,
     names: &[JobId],
 ) -> Result<String, NoMemory>
-    ensures { IfOk result (λ text. string_bytes text ≡ listing (line_of_short roster.now) (reads board.now) names.now) }
+    ensures { IfOk result (λ text. string_bytes text ≡ listing (line_of_short roster.now) (board_reads board.now) names.now) }
 {
     lines_of(alloc, roster, Layout::Short, board, names)
 }
@@ -180,7 +181,7 @@ pub fn full(
     roster: &Roster,
     names: &[JobId],
 ) -> Result<String, NoMemory>
-    ensures { IfOk result (λ text. string_bytes text ≡ listing (lines_of_full roster.now) (reads board.now) names.now) }
+    ensures { IfOk result (λ text. string_bytes text ≡ listing (lines_of_full roster.now) (board_reads board.now) names.now) }
 {
     lines_of(alloc, roster, Layout::Full, board, names)
 }

@@ -1,6 +1,6 @@
 //! The text of a plan.
 ghost use Rattle.std.specs.Prelude.{◌≡◌, IfOk, flat_map, string_bytes};
-ghost use Rattle.fed_easy.specs.Plan.{reads as reads_plan};
+ghost use Rattle.fed_easy.specs.Plan.{plan_reads};
 ghost use Rattle.fed_qstat.specs.PlanText.{head_of, plan_lines, start_line as line_of_start};
 
 use crate::identifiers::identifier_text;
@@ -49,7 +49,7 @@ fn start_lines(alloc: Global, roster: &Roster, starts: &[JobId]) -> Result<Strin
 /// The text of a plan: a line `start ID` for each job that starts, in the order of the queue, then a line
 /// `head ID SECOND` where there is a head.
 pub fn plan_text(alloc: Global, plan: &Plan, roster: &Roster) -> Result<String, NoMemory>
-    ensures { IfOk result (λ text. string_bytes text ≡ plan_lines roster.now (reads_plan plan.now)) }
+    ensures { IfOk result (λ text. string_bytes text ≡ plan_lines roster.now (plan_reads plan.now)) }
 {
     let mut text = start_lines(alloc, roster, &plan.starts)?;
     let head = head_line(alloc, roster, plan.head)?;

@@ -9,7 +9,7 @@ use Rattle.fed_lattice.specs.Part.{part}
 use Rattle.fed_lattice.specs.Stamped.{stamped}
 use Rattle.fed_lattice.specs.VersionOf.{version_of}
 use Rattle.fed_record.specs.declared.operations.Operation.{Operation}
-use Rattle.fed_record.specs.Body.{Body}
+use Rattle.fed_model.specs.Body.{Body}
 use Rattle.fed_record.specs.Changes.{always}
 use Rattle.fed_record.specs.Operation.{body_of, bodies}
 

@@ -11,7 +11,8 @@ use Rattle.fed_lattice.specs.Sets.{Has}
 use Rattle.fed_lattice.specs.SetLaws.{Has-push}
 use Rattle.fed_lattice.proofs.EntryLoops.{Has-item}
 use Rattle.fed_lattice.proofs.VersionOfLaws.{raised_cases}
-use Rattle.fed_tags.specs.Tags.{has, stamped, applied_tags, joined_tags, stays}
+use Rattle.fed_tags.specs.Tags.{has, stamped, applied_tags, joined_tags}
+use Rattle.fed_lattice.specs.Stays.{stays}
 use Rattle.fed_tags.specs.TagLaws.{has_member, member, has_joined, has_applied, stamped_at}
 use Rattle.fed_record.specs.Record.{IsCoveredStamp, AreCovered}
 

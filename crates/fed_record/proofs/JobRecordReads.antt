@@ -8,18 +8,18 @@ use Rattle.fed_lattice.specs.Register.{joined_registers}
 use Rattle.fed_tags.specs.Tags.{pair_cmp}
 use Rattle.fed_tags.specs.TagLaws.{has_joined}
 use Rattle.fed_record.specs.declared.operations.Operation.{Operation}
-use Rattle.fed_record.specs.Field.{owner_in, name_in, priority_in, nodes_in, limit_in, account_in, deletion_in, begin_in, finish_in}
-use Rattle.fed_record.specs.Grant.{grant_cmp, grant_in}
-use Rattle.fed_record.specs.Hold.{kind_cmp}
-use Rattle.fed_record.specs.JobRecord.{JobRecordValue, reads}
+use Rattle.fed_model.specs.Field.{owner_in, name_in, priority_in, nodes_in, limit_in, account_in, deletion_in, begin_in, finish_in}
+use Rattle.fed_model.specs.Grant.{grant_cmp, grant_in}
+use Rattle.fed_model.specs.Hold.{kind_cmp}
+use Rattle.fed_record.specs.JobRecord.{JobRecordValue, job_reads}
 use Rattle.fed_record.specs.JobRecordSteps.{changed_record, joined_record}
-use Rattle.fed_record.specs.JobSteps.{add_to_job, join_jobs}
+use Rattle.fed_theory.specs.JobSteps.{add_to_job, join_jobs}
 use Rattle.fed_record.specs.Operation.{body_of}
 use Rattle.fed_record.specs.RecordLaws.{hold_order, hold_exact, site_order, site_exact}
-use Rattle.fed_record.specs.ValueOrders.{name_cmp, account_cmp, beginning_cmp, ending_cmp}
+use Rattle.fed_theory.specs.ValueOrders.{name_cmp, account_cmp, beginning_cmp, ending_cmp}
 use Rattle.fed_record.proofs.RecordReads.{applied_register, applied_stage, applied_flag, hold_applied, site_applied}
 
-pub applied_job_reads : (r : JobRecordValue) (s : StampValue) (d : Operation) → reads (changed_record r s d) ≡ add_to_job s (body_of d) (reads r)
+pub applied_job_reads : (r : JobRecordValue) (s : StampValue) (d : Operation) → job_reads (changed_record r s d) ≡ add_to_job s (body_of d) (job_reads r)
 unfolding add_to_job
 applied_job_reads r s d =
     let b = body_of d in
@@ -49,7 +49,7 @@ applied_job_reads r s d =
       touched = raised r.touched s;
     }
 
-pub joined_jobs_read : (r q : JobRecordValue) (v w : List ℕ) → reads (joined_record r v q w) ≡ join_jobs v (reads r) w (reads q)
+pub joined_jobs_read : (r q : JobRecordValue) (v w : List ℕ) → job_reads (joined_record r v q w) ≡ join_jobs v (job_reads r) w (job_reads q)
 unfolding join_jobs
 joined_jobs_read r q v w = λ i. record {
   owner = joined_registers name_cmp r.fields.owner q.fields.owner;

@@ -7,13 +7,13 @@ use Rattle.fed_stamp.specs.Stamp.{StampValue}
 use Rattle.fed_stamp.specs.Version.{counter_of}
 use Rattle.fed_tags.specs.Tags.{pair_cmp, has, IsElement}
 use Rattle.fed_tags.specs.TagLaws.{pair_total, exact_pair, has_member, member}
-use Rattle.fed_record.specs.declared.holds.HoldKind.{HoldKind}
-use Rattle.fed_record.specs.declared.holds.HoldKind.TheVariants.{User, Operator, System}
-use Rattle.fed_record.specs.Hold.{kind_cmp}
-use Rattle.fed_record.specs.HoldLaws.{kind_total, exact_kind}
-use Rattle.fed_record.specs.Letter.{any_covered}
+use Rattle.fed_model.specs.declared.holds.HoldKind.{HoldKind}
+use Rattle.fed_model.specs.declared.holds.HoldKind.TheVariants.{User, Operator, System}
+use Rattle.fed_model.specs.Hold.{kind_cmp}
+use Rattle.fed_model.specs.HoldLaws.{kind_total, exact_kind}
+use Rattle.fed_model.specs.Letter.{any_covered}
 use Rattle.fed_record.specs.Record.{AreCovered}
-use Rattle.fed_record.proofs.PresenceLaws.{any_covered_from, any_covered_found}
+use Rattle.fed_theory.proofs.PresenceLaws.{any_covered_from, any_covered_found}
 
 module _ {E : Type 0} (cmp : E → E → Ordering) (o : IsTotalOrder cmp) (exact : CmpEqualImpliesEq cmp) where
   pub present_is : (v : List ℕ) (xs : List (E × StampValue)) → AreCovered v xs → (e : E) → (any_covered v (λ tag. has (pair_cmp cmp) xs (e, tag)) ≡ true) ↔ IsElement xs e

@@ -19,15 +19,16 @@ use Rattle.fed_lattice.specs.Sets.{Has}
 use Rattle.fed_lattice.specs.Stamped.{with_stamp}
 use Rattle.fed_tags.specs.Tags.{pair_cmp, has, stamped, applied_tags}
 use Rattle.fed_tags.specs.TagLaws.{pair_total, exact_pair, has_member, member, has_applied, stamped_at}
-use Rattle.fed_record.specs.declared.holds.HoldKind.{HoldKind}
-use Rattle.fed_record.specs.declared.holds.HoldKind.TheVariants.{User, Operator, System}
+use Rattle.fed_model.specs.declared.holds.HoldKind.{HoldKind}
+use Rattle.fed_model.specs.declared.holds.HoldKind.TheVariants.{User, Operator, System}
 use Rattle.fed_record.specs.declared.operations.Operation.{Operation}
-use Rattle.fed_record.specs.Body.{Body, Body.Submit, Body.Set}
-use Rattle.fed_record.specs.Changes.{all_kinds, removed_holds, removed_sites, hold_change, site_change}
-use Rattle.fed_record.specs.Hold.{same_kind, kind_cmp}
-use Rattle.fed_record.specs.HoldLaws.{kind_total, exact_kind}
+use Rattle.fed_model.specs.Body.{Body, Body.Submit, Body.Set}
+use Rattle.fed_model.specs.Hold.{all_kinds, same_kind, kind_cmp}
+use Rattle.fed_record.specs.Changes.{removed_holds, removed_sites, hold_change, site_change}
+use Rattle.fed_model.specs.HoldLaws.{kind_total, exact_kind}
 use Rattle.fed_record.specs.Operation.{body_of}
-use Rattle.fed_record.specs.Pairs.{adds_pair, add_live, adds_site, removes_site, adds_hold, removes_hold, is_site_named}
+use Rattle.fed_model.specs.Pairs.{adds_pair, adds_site, removes_site, adds_hold, removes_hold, is_site_named}
+use Rattle.fed_theory.specs.JobSteps.{add_live}
 
 -- ---- registers, stages and marks, of which an operation may say nothing
 pub max_none : {T : Type 0} (cmp : T → T → Ordering) (x : Option T) → ord_max (option_cmp cmp) x None ≡ x

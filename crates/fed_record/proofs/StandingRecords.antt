@@ -17,19 +17,19 @@ use Rattle.fed_lattice.specs.StageLaws.{stage_stands_for_greatest, stage_from_st
 use Rattle.fed_lattice.specs.Stamped.{stamped}
 use Rattle.fed_tags.specs.Tags.{pair_cmp}
 use Rattle.fed_tags.specs.TagLaws.{has_member, member}
-use Rattle.fed_record.specs.declared.grants.GrantStage.{GrantStage}
-use Rattle.fed_record.specs.declared.holds.HoldKind.{HoldKind}
+use Rattle.fed_model.specs.declared.grants.GrantStage.{GrantStage}
+use Rattle.fed_model.specs.declared.holds.HoldKind.{HoldKind}
 use Rattle.fed_record.specs.declared.operations.Operation.{Operation}
-use Rattle.fed_record.specs.Body.{Body}
-use Rattle.fed_record.specs.Changes.{always, all_kinds, field_changes_of, stage_changes_of, hold_change, site_change, removed_holds, removed_sites, field_changes, stage_changes}
+use Rattle.fed_model.specs.Body.{Body}
+use Rattle.fed_record.specs.Changes.{always, field_changes_of, stage_changes_of, hold_change, site_change, removed_holds, removed_sites, field_changes, stage_changes}
+use Rattle.fed_model.specs.Hold.{all_kinds, kind_cmp}
 use Rattle.fed_record.specs.Fields.{owner_change, name_change, priority_change, nodes_change, limit_change, account_change}
 use Rattle.fed_record.specs.Stages.{deleted_change, grant_change, begun_change, finished_change}
-use Rattle.fed_record.specs.Field.{owner_in, name_in, priority_in, nodes_in, limit_in, account_in, deletion_in, begin_in, finish_in, field}
-use Rattle.fed_record.specs.Grant.{grant_cmp, grant_in, grant_stage}
-use Rattle.fed_record.specs.GrantLaws.{grant_total, exact_grant}
-use Rattle.fed_record.specs.Hold.{kind_cmp}
+use Rattle.fed_model.specs.Field.{owner_in, name_in, priority_in, nodes_in, limit_in, account_in, deletion_in, begin_in, finish_in, field}
+use Rattle.fed_model.specs.Grant.{grant_cmp, grant_in, grant_stage}
+use Rattle.fed_model.specs.GrantLaws.{grant_total, exact_grant}
 use Rattle.fed_record.specs.Operation.{body_of, bodies}
-use Rattle.fed_record.specs.Pairs.{adds_site, removes_site, adds_hold, removes_hold}
+use Rattle.fed_model.specs.Pairs.{adds_site, removes_site, adds_hold, removes_hold}
 use Rattle.fed_record.specs.RecordLaws.{hold_order, hold_exact, site_order, site_exact}
 use Rattle.fed_record.proofs.BodyLaws.{part-always, part-bodies, part-stamped, part-stamped_bodies, one_each_bodies}
 use Rattle.fed_record.proofs.RecordReads.{every_kind, every_site, removed_hold, removed_site}

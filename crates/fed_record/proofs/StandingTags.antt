@@ -14,10 +14,10 @@ use Rattle.fed_lattice.specs.PartLaws.{source, Has-part}
 use Rattle.fed_tags.specs.Tags.{pair_cmp, has, IsAdded, IsRemoved, tags_stand_for}
 use Rattle.fed_tags.specs.TagLaws.{pair_total, exact_pair, has_member, member}
 use Rattle.fed_record.specs.declared.operations.Operation.{Operation}
-use Rattle.fed_record.specs.Body.{Body}
+use Rattle.fed_model.specs.Body.{Body}
 use Rattle.fed_record.specs.Changes.{always}
 use Rattle.fed_record.specs.Operation.{body_of, bodies}
-use Rattle.fed_record.specs.Pairs.{adds_pair, removes_pair, is_live}
+use Rattle.fed_model.specs.Pairs.{adds_pair, removes_pair, is_live}
 use Rattle.fed_record.proofs.BodyLaws.{bodies-Has, Has-bodies}
 
 not_true : (b : Bool) → not b ≡ true → b ≡ true → ⊥

@@ -1,5 +1,5 @@
 -- What an operation changes in each part of a job's record.
-use Rattle.std.specs.Prelude.{ℕ, ℤ, List, [], ◌∷◌, Option, Some, filter}
+use Rattle.std.specs.Prelude.{ℕ, ℤ, List, [], Option, Some, filter}
 use Rattle.std.specs.List.{range_with_len}
 use Rattle.fed_stamp.specs.declared.sites.TheConstants.{SITES}
 use Rattle.fed_stamp.specs.Stamp.{StampValue}
@@ -7,17 +7,17 @@ use Rattle.fed_lattice.specs.History.{History}
 use Rattle.fed_lattice.specs.Part.{part}
 use Rattle.fed_lattice.specs.Stamped.{stamped}
 use Rattle.fed_record.specs.declared.fields.FieldChanges.{FieldChanges}
-use Rattle.fed_record.specs.declared.grants.GrantStage.{GrantStage}
-use Rattle.fed_record.specs.declared.holds.HoldKind.{HoldKind}
-use Rattle.fed_record.specs.declared.holds.HoldKind.TheVariants.{User, Operator, System}
-use Rattle.fed_record.specs.declared.progress.Beginning.{Beginning}
-use Rattle.fed_record.specs.declared.progress.Ending.{Ending}
+use Rattle.fed_model.specs.declared.grants.GrantStage.{GrantStage}
+use Rattle.fed_model.specs.declared.holds.HoldKind.{HoldKind}
+use Rattle.fed_model.specs.declared.beginnings.Beginning.{Beginning}
+use Rattle.fed_model.specs.declared.beginnings.Ending.{Ending}
 use Rattle.fed_record.specs.declared.stages.StageChanges.{StageChanges}
 use Rattle.fed_record.specs.declared.operations.Operation.{Operation}
-use Rattle.fed_record.specs.Field.{owner_in, name_in, priority_in, nodes_in, limit_in, account_in, deletion_in, begin_in, finish_in}
-use Rattle.fed_record.specs.Grant.{grant_in}
+use Rattle.fed_model.specs.Field.{owner_in, name_in, priority_in, nodes_in, limit_in, account_in, deletion_in, begin_in, finish_in}
+use Rattle.fed_model.specs.Grant.{grant_in}
+use Rattle.fed_model.specs.Hold.{all_kinds}
 use Rattle.fed_record.specs.Operation.{body_of}
-use Rattle.fed_record.specs.Pairs.{adds_site, adds_hold}
+use Rattle.fed_model.specs.Pairs.{adds_site, adds_hold}
 
 abbrev pub JobFieldChanges : Type 0
 JobFieldChanges = FieldChanges (List ℕ) (List ℕ) ℤ ℕ ℕ (Option (List ℕ))
@@ -52,9 +52,6 @@ removed_holds _ = []
 abbrev pub removed_sites : Operation → List (ℕ × StampValue)
 removed_sites (Operation.Set job changes removed) = removed.items
 removed_sites _ = []
-
-abbrev pub all_kinds : List HoldKind
-all_kinds = User ∷ Operator ∷ System ∷ []
 
 -- the holds that it adds, and the pairs that it removes
 abbrev pub hold_change : Operation → List HoldKind × List (HoldKind × StampValue)

@@ -18,14 +18,14 @@ use Rattle.fed_lattice.specs.RegisterLaws.{stamped_total, exact_stamped, registe
 use Rattle.fed_lattice.specs.Stage.{stage_stands_for}
 use Rattle.fed_lattice.specs.StageLaws.{stage_applied_stands, stage_joined_stands, stage_stands_same}
 use Rattle.fed_record.specs.Fields.{owner_change, name_change, priority_change, nodes_change, limit_change, account_change}
-use Rattle.fed_record.specs.Grant.{grant_cmp}
-use Rattle.fed_record.specs.GrantLaws.{grant_total, exact_grant}
+use Rattle.fed_model.specs.Grant.{grant_cmp}
+use Rattle.fed_model.specs.GrantLaws.{grant_total, exact_grant}
 use Rattle.fed_record.specs.JobRecordSteps.{always_holds, set_register, raise_stage, AreFields, empty_fields, changed_fields, joined_fields, IsFieldHistory, fields_stand_for, AreStages, empty_stages, changed_stages, joined_stages, IsStageHistory, stages_stand_for}
 use Rattle.fed_record.specs.NamedPartLaws.{part_adds_change, part_joins_histories, part_stands_for_sets}
 use Rattle.fed_record.specs.Stages.{deleted_change, grant_change, begun_change, finished_change}
-use Rattle.fed_record.specs.ValueLaws.{exact_account, exact_beginning, exact_ending}
-use Rattle.fed_record.specs.ValueOrderLaws.{name_total, priority_total, number_total, account_total, beginning_total, ending_total}
-use Rattle.fed_record.specs.ValueOrders.{name_cmp, account_cmp, beginning_cmp, ending_cmp}
+use Rattle.fed_model.specs.ValueLaws.{exact_account, exact_beginning, exact_ending}
+use Rattle.fed_theory.specs.ValueOrderLaws.{name_total, priority_total, number_total, account_total, beginning_total, ending_total}
+use Rattle.fed_theory.specs.ValueOrders.{name_cmp, account_cmp, beginning_cmp, ending_cmp}
 
 -- ---- one register
 module _ {T : Type 0} (cmp : T → T → Ordering) (total : IsTotalOrder cmp) (exact : CmpEqualImpliesEq cmp) where

@@ -4,12 +4,12 @@ use Rattle.std.specs.Ordering.{nat_cmp}
 use Rattle.fed_stamp.specs.Stamp.{StampValue}
 use Rattle.fed_tags.specs.Tags.{pair_cmp, has}
 use Rattle.fed_record.specs.declared.fields.Fields.{Fields}
-use Rattle.fed_record.specs.declared.grants.GrantStage.{GrantStage}
-use Rattle.fed_record.specs.declared.progress.Beginning.{Beginning}
-use Rattle.fed_record.specs.declared.progress.Ending.{Ending}
+use Rattle.fed_model.specs.declared.grants.GrantStage.{GrantStage}
+use Rattle.fed_model.specs.declared.beginnings.Beginning.{Beginning}
+use Rattle.fed_model.specs.declared.beginnings.Ending.{Ending}
 use Rattle.fed_record.specs.declared.stages.Stages.{Stages}
-use Rattle.fed_record.specs.Hold.{kind_cmp}
-use Rattle.fed_record.specs.JobView.{JobView}
+use Rattle.fed_model.specs.Hold.{kind_cmp}
+use Rattle.fed_model.specs.JobView.{JobView}
 use Rattle.fed_record.specs.Record.{RecordValue}
 
 -- the registers of the owner, the name, the priority, the nodes, the limit and the account
@@ -25,8 +25,8 @@ abbrev pub JobRecordValue : Type 0
 JobRecordValue = RecordValue FieldsValue StagesValue
 
 -- a pair is live where the record keeps it
-abbrev pub reads : JobRecordValue → JobView
-reads r = record {
+abbrev pub job_reads : JobRecordValue → JobView
+job_reads r = record {
   owner = r.fields.owner;
   name = r.fields.name;
   priority = r.fields.priority;

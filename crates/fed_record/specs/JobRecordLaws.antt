@@ -12,11 +12,11 @@ use Rattle.fed_stamp.specs.Stamp.{StampValue, same_stamp}
 use Rattle.fed_lattice.specs.Exact.{TellsApart}
 use Rattle.fed_lattice.specs.Laws.{IsAssociative, IsCommutative, IsIdempotent, JoinsWellFormed, BottomsJoin, AddsChange, JoinsHistories, StandsForSets}
 use Rattle.fed_lattice.specs.ExactLaws.{tells_booleans, tells_numbers, tells_stamps, tells_options, tells_pairs, tells_lists, tells_by_order}
-use Rattle.fed_record.specs.declared.progress.Beginning.{Beginning}
-use Rattle.fed_record.specs.declared.progress.Ending.{Ending}
+use Rattle.fed_model.specs.declared.beginnings.Beginning.{Beginning}
+use Rattle.fed_model.specs.declared.beginnings.Ending.{Ending}
 use Rattle.fed_record.specs.FieldsLaws.{same_fields, tells_fields}
-use Rattle.fed_record.specs.Grant.{grant_cmp}
-use Rattle.fed_record.specs.GrantLaws.{grant_total, exact_grant}
+use Rattle.fed_model.specs.Grant.{grant_cmp}
+use Rattle.fed_model.specs.GrantLaws.{grant_total, exact_grant}
 use Rattle.fed_record.specs.declared.operations.Operation.{Operation}
 use Rattle.fed_record.specs.JobPartLaws.{joined_are_fields, fields_assoc, fields_comm, fields_itself, empty_fields_join, fields_add_change, fields_join_histories, fields_stand_for_sets, joined_are_stages, stages_assoc, stages_comm, stages_itself, empty_stages_join, stages_add_change, stages_join_histories, stages_stand_for_sets}
 use Rattle.fed_record.specs.JobRecord.{FieldsValue, StagesValue, JobRecordValue}

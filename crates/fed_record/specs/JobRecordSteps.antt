@@ -14,11 +14,11 @@ use Rattle.fed_lattice.specs.Stage.{stage_stands_for}
 use Rattle.fed_record.specs.declared.operations.Operation.{Operation}
 use Rattle.fed_record.specs.Changes.{JobFieldChanges, JobStageChanges}
 use Rattle.fed_record.specs.Fields.{owner_change, name_change, priority_change, nodes_change, limit_change, account_change}
-use Rattle.fed_record.specs.Grant.{grant_cmp}
+use Rattle.fed_model.specs.Grant.{grant_cmp}
 use Rattle.fed_record.specs.JobRecord.{FieldsValue, StagesValue, JobRecordValue}
 use Rattle.fed_record.specs.RecordSteps.{IsRecord, applied_record, joined_records, record_stands_for, IsRecordHistory}
 use Rattle.fed_record.specs.Stages.{deleted_change, grant_change, begun_change, finished_change}
-use Rattle.fed_record.specs.ValueOrders.{name_cmp, account_cmp, beginning_cmp, ending_cmp}
+use Rattle.fed_theory.specs.ValueOrders.{name_cmp, account_cmp, beginning_cmp, ending_cmp}
 
 -- what is asked of registers, flags and stages, and of their histories: nothing
 abbrev pub always_holds : {X : Type 0} → X → Type 0

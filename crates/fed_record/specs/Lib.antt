@@ -1,19 +1,6 @@
 -- What the contracts of this crate cite.
-pub mod Account
-pub mod Hold
-pub mod Refusal
-pub mod Body
 pub mod Operation
-pub mod Field
-pub mod Grant
-pub mod Pairs
-pub mod JobView
-pub mod Letter
-pub mod JobSteps
 pub mod Reservation
-pub mod GrantLaws
-pub mod ValueLaws
-pub mod HoldLaws
 pub mod Changes
 pub mod NamedPartLaws
 pub mod Fields
@@ -28,6 +15,4 @@ pub mod RecordLaws
 pub mod JobRecordSteps
 pub mod JobPartLaws
 pub mod JobRecordLaws
-pub mod ValueOrders
-pub mod ValueOrderLaws
 pub mod ReservationLaws

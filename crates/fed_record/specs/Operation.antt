@@ -3,10 +3,10 @@ use Rattle.std.specs.Prelude.{ℕ, Bool, ◌&&◌, ◌==◌, List, map}
 use Rattle.std.specs.List.{list_any}
 use Rattle.fed_stamp.specs.Stamp.{StampValue, same_stamp}
 use Rattle.fed_lattice.specs.History.{History}
-use Rattle.fed_record.specs.declared.holds.HoldKind.{HoldKind}
+use Rattle.fed_model.specs.declared.holds.HoldKind.{HoldKind}
 use Rattle.fed_record.specs.declared.operations.Operation.{Operation}
-use Rattle.fed_record.specs.Hold.{same_kind}
-use Rattle.fed_record.specs.Body.{Body, Body.Submit, Body.Set, Body.Hold, Body.Release, Body.Delete, Body.Grant, Body.HandBack, Body.Begin, Body.Finish, Body.Reserve, Body.Cancel}
+use Rattle.fed_model.specs.Hold.{same_kind}
+use Rattle.fed_model.specs.Body.{Body, Body.Submit, Body.Set, Body.Hold, Body.Release, Body.Delete, Body.Grant, Body.HandBack, Body.Begin, Body.Finish, Body.Reserve, Body.Cancel}
 
 -- the list has the pair
 abbrev pub has_site_pair : List (ℕ × StampValue) → ℕ → StampValue → Bool

@@ -4,7 +4,7 @@ use Rattle.fed_stamp.specs.declared.sites.TheConstants.{SITES}
 use Rattle.fed_stamp.specs.Stamp.{StampValue}
 use Rattle.fed_stamp.specs.Version.{covers}
 use Rattle.fed_lattice.specs.Sets.{Has}
-use Rattle.fed_record.specs.declared.holds.HoldKind.{HoldKind}
+use Rattle.fed_model.specs.declared.holds.HoldKind.{HoldKind}
 
 -- the live pairs of holds and sites stand by element and then by stamp
 pub record RecordValue (F G : Type 0) : Type 0 where

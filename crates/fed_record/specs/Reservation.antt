@@ -1,24 +1,16 @@
--- What the operations of one reservation say of it.
+-- Reservations, which are registers: what they are after an operation and joined, and what they stand for.
 use Rattle.std.specs.Prelude.{ℕ, List, Option}
 use Rattle.fed_stamp.specs.Stamp.{StampValue}
 use Rattle.fed_lattice.specs.History.{History}
 use Rattle.fed_lattice.specs.Part.{part}
 use Rattle.fed_lattice.specs.Register.{joined_registers, register_stands_for}
 use Rattle.fed_lattice.specs.Stamped.{with_stamp}
-use Rattle.fed_record.specs.declared.windows.Window.{Window}
+use Rattle.fed_model.specs.declared.windows.Window.{Window}
 use Rattle.fed_record.specs.declared.operations.Operation.{Operation}
-use Rattle.fed_record.specs.Body.{Body}
-use Rattle.fed_record.specs.Field.{window_in, field}
+use Rattle.fed_model.specs.Field.{window_in}
+use Rattle.fed_model.specs.Reservation.{ReservationView}
 use Rattle.fed_record.specs.Operation.{body_of}
-use Rattle.fed_record.specs.ValueOrders.{option_window_cmp}
-
--- its greatest stamp and its window, or no window where the greatest stamped operation is a Cancel
-abbrev pub ReservationView : Type 0
-ReservationView = Option (StampValue × Option Window)
-
--- what is read of the operations of one reservation
-abbrev pub reservation_view : History Body → ReservationView
-reservation_view ops = field window_in ops
+use Rattle.fed_theory.specs.ValueOrders.{option_window_cmp}
 
 -- the window that an operation of the code gives its reservation, or none
 abbrev pub window_change : Operation → Option (Option Window)

@@ -14,11 +14,12 @@ use Rattle.fed_lattice.specs.PartLaws.{part-append, same_part}
 use Rattle.fed_lattice.specs.Register.{stamped_cmp, joined_registers, register_stands_for}
 use Rattle.fed_lattice.specs.RegisterLaws.{stamped_total, exact_stamped, register_applied_stands, register_joined_stands, register_stands_same}
 use Rattle.fed_lattice.specs.Stamped.{with_stamp}
-use Rattle.fed_record.specs.declared.windows.Window.{Window}
-use Rattle.fed_record.specs.Reservation.{ReservationView, window_change, applied_reservation, joined_reservations, reservation_stands_for}
-use Rattle.fed_record.specs.ValueLaws.{exact_window}
-use Rattle.fed_record.specs.ValueOrders.{window_cmp, option_window_cmp}
-use Rattle.fed_record.specs.ValueOrderLaws.{option_window_total}
+use Rattle.fed_model.specs.declared.windows.Window.{Window}
+use Rattle.fed_model.specs.Reservation.{ReservationView}
+use Rattle.fed_record.specs.Reservation.{window_change, applied_reservation, joined_reservations, reservation_stands_for}
+use Rattle.fed_model.specs.ValueLaws.{exact_window}
+use Rattle.fed_theory.specs.ValueOrders.{window_cmp, option_window_cmp}
+use Rattle.fed_theory.specs.ValueOrderLaws.{option_window_total}
 
 -- windows are equal where their parts are
 abbrev pub same_window : Window → Window → Bool

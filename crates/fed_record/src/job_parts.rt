@@ -3,25 +3,19 @@ ghost use Rattle.std.specs.Prelude.{◌≡◌, ◌↔◌, Some, IfOk, IsTrue};
 ghost use Rattle.std.specs.List.Sorted.{IsStrictlySortedBy};
 ghost use Rattle.std.specs.Ordering.{nat_cmp};
 ghost use Rattle.fed_tags.specs.Tags.{pair_cmp};
-ghost use Rattle.fed_record.specs.Hold.{kind_cmp};
+ghost use Rattle.fed_model.specs.Hold.{kind_cmp};
 ghost use Rattle.fed_record.specs.Record.{AreCovered};
 ghost use Rattle.fed_record.specs.JobParts.{IsMadeOf, AreRecordParts};
-ghost use Rattle.fed_record.specs.JobRecord.{reads};
-ghost use Rattle.fed_record.specs.Letter.{is_submitted};
+ghost use Rattle.fed_record.specs.JobRecord.{job_reads};
+ghost use Rattle.fed_model.specs.Letter.{is_submitted};
 
-use crate::accounts::Account;
 use crate::fields::Fields;
-use crate::grants::GrantStage;
-use crate::holds::HoldKind;
 use crate::job_readers::Progress;
-use crate::job_records::{JobFields, JobStages};
-use crate::limits::Limit;
-use crate::node_counts::Nodes;
-use crate::priorities::Priority;
-use crate::records::JobRecord;
+use crate::records::{JobFields, JobRecord, JobStages};
 use crate::stages::Stages;
 use fed_lattice::{Causal, Flag, NoMemory, Register, Stage};
-use fed_stamp::{SiteId, Stamp, Version, Word};
+use fed_model::{Account, GrantStage, HoldKind, Limit, Nodes, Priority};
+use fed_stamp::{SiteId, Stamp, Version, Word, site_is_of_sixteen};
 use fed_tags::TagSet;
 use std::alloc::Global;
 
@@ -61,8 +55,7 @@ fn covers_pairs<T: Copy>(version: &Version, pairs: &[(T, Stamp)]) -> bool
 {
     for pair in pairs {
         let stamp = pair.1;
-        // it is read, which tells that it is one of the 16 sites
-        let _site = stamp.site().get();
+        site_is_of_sixteen(stamp.site());
         if !version.covers(stamp) {
             return false;
         }
@@ -128,7 +121,7 @@ impl JobRecord {
         requires sites_covered { AreCovered parts.now.touched parts.now.site_tags.now }
         ensures made { IfOk result (λ r. IsMadeOf r parts.now) }
         ensures well_formed { IfOk result ⟦<JobRecord as Causal>⟧.well_formed }
-        ensures submitted { IfOk result (λ r. IsTrue (is_submitted (reads r))) }
+        ensures submitted { IfOk result (λ r. IsTrue (is_submitted (job_reads r))) }
     {
         Ok(JobRecord {
             alloc,

@@ -1,44 +1,41 @@
-//! Laws of what is read of the operations of one job, over every set of them that is as the law asks. Each function
-//! does nothing: its contract is the law.
-ghost use Rattle.std.specs.Prelude.{◌≡◌, ◌↔◌, ℕ, List, true, [], ◌∷◌, ◌++◌};
+//! What records of jobs and of reservations read as.
+ghost use Rattle.std.specs.Prelude.{◌≡◌, ℕ, List};
 ghost use Rattle.fed_stamp.specs.Stamp.{StampValue};
-ghost use Rattle.fed_lattice.specs.Sets.{IsSameSet};
-ghost use Rattle.fed_lattice.specs.History.{History, OneEach, IsFresh, Agree};
-ghost use Rattle.fed_lattice.specs.VersionOf.{HasSites};
-ghost use Rattle.fed_record.specs.declared.holds.HoldKind.{HoldKind};
-ghost use Rattle.fed_record.specs.Body.{Body};
-ghost use Rattle.fed_record.specs.JobView.{job_view};
-ghost use Rattle.fed_record.specs.JobSteps.{add_to_job, join_jobs};
-ghost use Rattle.fed_record.specs.Letter.{has_site, has_hold};
-ghost use Rattle.fed_record.specs.Pairs.{IsJobHistory};
+ghost use Rattle.fed_lattice.specs.History.{History, OneEach};
+ghost use Rattle.fed_record.specs.Operation.{body_of, bodies};
+ghost use Rattle.fed_model.specs.JobView.{job_view};
+ghost use Rattle.fed_model.specs.Reservation.{ReservationView, reservation_view};
+ghost use Rattle.fed_record.specs.JobRecord.{JobRecordValue, job_reads};
+ghost use Rattle.fed_theory.specs.JobSteps.{add_to_job, join_jobs};
+ghost use Rattle.fed_record.specs.declared.operations.Operation.{Operation};
 
-/// What is read of a job depends on the members of the set of its operations alone, where different operations have
-/// different stamps: their order and their repeats don't matter.
-pub fn members_alone_are_read()
-    ensures { (ops others : History Body) → OneEach ops → IsSameSet ops others → job_view ops ≡ job_view others }
+use crate::records::JobRecord;
+use crate::reservations::Reservation;
+use fed_lattice::Causal;
+
+/// A record with one operation more reads as its view with the operation added.
+pub fn applied_records_read()
+    ensures { (r : JobRecordValue) (s : StampValue) (c : Operation) →
+        job_reads (⟦<JobRecord as Causal>⟧.applied r s c) ≡ add_to_job s (body_of c) (job_reads r) }
 {}
 
-/// One operation more, of a stamp that no operation has, is read by adding it to what was read before, where different
-/// operations have different stamps and each pair that the operations before remove was added by one of them.
-pub fn additions_are_read()
-    ensures { (ops : History Body) (e : StampValue × Body) → OneEach (e ∷ ops) → IsFresh e.0 ops → IsJobHistory ops →
-        job_view (e ∷ ops) ≡ add_to_job e.0 e.1 (job_view ops) }
+/// Records that are joined read as their views joined.
+pub fn joined_records_read()
+    ensures { (r q : JobRecordValue) (v w : List ℕ) →
+        job_reads (⟦<JobRecord as Causal>⟧.joined r v q w) ≡ join_jobs v (job_reads r) w (job_reads q) }
 {}
 
-/// Where two sets agree beside their versions, and each removes only pairs that it added, their union is read by
-/// joining what is read of each. Sets agree where each version covers its set, each operation of one that the other's
-/// version covers is in the other, and different operations, of one set or of both, have different stamps.
-pub fn agreeing_sets_join()
-    ensures { (v w : List ℕ) (ops others : History Body) → Agree v ops w others →
-        IsJobHistory ops → IsJobHistory others →
-        job_view (ops ++ others) ≡ join_jobs v (job_view ops) w (job_view others) }
+/// A record that stands for the operations of a job, of which different ones have different stamps, reads as their
+/// view.
+pub fn standing_records_read()
+    ensures { (r : JobRecordValue) (h : History Operation) → OneEach h → ⟦<JobRecord as Causal>⟧.stands_for r h →
+        job_reads r ≡ job_view (bodies h) }
 {}
 
-/// A site or a kind of hold is present exactly where it has a live pair, where each operation was made at one of the 16
-/// sites.
-pub fn present_where_live()
-    ensures sites { (ops : History Body) (site : ℕ) → HasSites ops →
-        (has_site (job_view ops) site ≡ true) ↔ ((tag : StampValue) × ((job_view ops).sites site tag ≡ true)) }
-    ensures holds { (ops : History Body) (kind : HoldKind) → HasSites ops →
-        (has_hold (job_view ops) kind ≡ true) ↔ ((tag : StampValue) × ((job_view ops).holds kind tag ≡ true)) }
+/// A reservation that stands for a history of operations, of which different ones have different stamps, is their
+/// view: the greatest stamp among those that reserve or cancel, with the window of that operation, or with no window
+/// where it cancels. Where none of them reserves or cancels, the reservation is not made.
+pub fn standing_reservations_read()
+    ensures { (r : ReservationView) (h : History Operation) → OneEach h → ⟦<Reservation as Causal>⟧.stands_for r h →
+        r ≡ reservation_view (bodies h) }
 {}

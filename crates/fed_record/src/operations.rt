@@ -1,13 +1,9 @@
 //! Operations: what is done to jobs and reservations.
 ghost use Rattle.std.specs.Prelude.{◌≡◌};
-ghost use Rattle.fed_record.specs.Body.{job_of, reservation_of};
+ghost use Rattle.fed_model.specs.Body.{job_of, reservation_of};
 ghost use Rattle.fed_record.specs.Operation.{body_of};
 
-use crate::holds::{HoldKind, HoldKinds};
-use crate::progress::{Beginning, Ending};
-use crate::terms::Term;
-use crate::values::{Changes, JobValues};
-use crate::windows::Window;
+use fed_model::{Beginning, Changes, Ending, HoldKind, HoldKinds, JobValues, Term, Window};
 use fed_stamp::{JobId, SiteId, Stamp, Word};
 
 /// What is done, under a stamp, to a job or a reservation. A job is named by the stamp of its `Submit`, a reservation

@@ -1,14 +1,13 @@
 //! Reservations of nodes.
 ghost use Rattle.std.specs.Prelude.{◌≡◌, ◌↔◌, None, Some, IsTrue, IsSome, IfSome, refl};
-ghost use Rattle.fed_lattice.specs.History.{History, OneEach};
-ghost use Rattle.fed_record.specs.Operation.{bodies};
-ghost use Rattle.fed_record.specs.Reservation.{ReservationView, reservation_view, applied_reservation, joined_reservations, reservation_stands_for};
+ghost use Rattle.fed_model.specs.Reservation.{ReservationView};
+ghost use Rattle.fed_record.specs.Reservation.{applied_reservation, joined_reservations, reservation_stands_for};
 ghost use Rattle.fed_record.specs.ReservationLaws.{tells_reservations, joined_reservations_assoc, joined_reservations_comm, joined_reservations_itself, reservation_adds_change, reservation_joins_histories, reservation_stands_for_sets};
 ghost use Rattle.fed_record.specs.declared.operations.Operation.{Operation};
 
 use crate::operations::Operation;
-use crate::windows::Window;
 use fed_lattice::{Causal, ExactEq, NoMemory, Register};
+use fed_model::Window;
 use fed_stamp::{Stamp, Version};
 use std::alloc::Global;
 use std::marker::Model;
@@ -22,7 +21,7 @@ pub struct Reservation {
 }
 
 impl Model for Reservation {
-    ghost use Rattle.fed_record.specs.Reservation.{ReservationView};
+    ghost use Rattle.fed_model.specs.Reservation.{ReservationView};
 
     ghost Value = { ReservationView };
 
@@ -138,11 +137,3 @@ impl Causal for Reservation {
 
     ghost stands_same = { reservation_stands_for_sets };
 }
-
-/// A reservation that stands for a history of operations, of which different ones have different stamps, is their
-/// view: the greatest stamp among those that reserve or cancel, with the window of that operation, or with no window
-/// where it cancels. Where none of them reserves or cancels, the reservation is not made.
-pub fn standing_reservations_read()
-    ensures { (r : ReservationView) (h : History Operation) → OneEach h → ⟦<Reservation as Causal>⟧.stands_for r h →
-        r ≡ reservation_view (bodies h) }
-{}

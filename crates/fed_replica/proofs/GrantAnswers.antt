@@ -5,21 +5,21 @@ use Rattle.std.proofs.Common.{◌≡◌, ℕ, ◌+◌, List, [], ◌∷◌, ◌+
 use Rattle.std.proofs.lemmas.Bool.Decides.{nat_tests}
 use Rattle.fed_stamp.specs.Stamp.{StampValue}
 use Rattle.fed_stamp.specs.Version.{next_stamp}
-use Rattle.fed_record.specs.declared.askers.Who.{Who}
-use Rattle.fed_record.specs.declared.commands.Command.{Command}
-use Rattle.fed_record.specs.declared.grants.GrantStage.{GrantStage}
-use Rattle.fed_record.specs.declared.grants.GrantStage.TheVariants.{Open, Returned}
-use Rattle.fed_record.specs.declared.refusals.Refusal.{Refusal}
-use Rattle.fed_record.specs.declared.replies.Reply.{Reply}
-use Rattle.fed_record.specs.declared.terms.TheConstants.{MAX_TERM}
-use Rattle.fed_record.specs.Body.{Body}
-use Rattle.fed_record.specs.Letter.{holder_in, is_granted_to}
-use Rattle.fed_board.specs.View.{View}
-use Rattle.fed_desk.specs.declared.decisions.Decision.{Decision}
-use Rattle.fed_desk.specs.Desk.{Case, decision, decision_unless, first_of, grant_refusals}
-use Rattle.fed_replica.specs.Answer.{Answer.Refuses, Answer.Replies, answer_to, effect, term_in}
-use Rattle.fed_replica.specs.Refusals.{is_last_term, refusals}
-use Rattle.fed_replica.proofs.Allowed.{clear}
+use Rattle.fed_model.specs.declared.askers.Who.{Who}
+use Rattle.fed_model.specs.declared.commands.Command.{Command}
+use Rattle.fed_model.specs.declared.grants.GrantStage.{GrantStage}
+use Rattle.fed_model.specs.declared.grants.GrantStage.TheVariants.{Open, Returned}
+use Rattle.fed_model.specs.declared.refusals.Refusal.{Refusal}
+use Rattle.fed_model.specs.declared.replies.Reply.{Reply}
+use Rattle.fed_model.specs.declared.terms.TheConstants.{MAX_TERM}
+use Rattle.fed_model.specs.Body.{Body}
+use Rattle.fed_model.specs.Letter.{holder_in, is_granted_to}
+use Rattle.fed_model.specs.View.{View}
+use Rattle.fed_model.specs.declared.decisions.Decision.{Decision}
+use Rattle.fed_model.specs.Desk.{Case, decision, decision_unless, first_of, grant_refusals}
+use Rattle.fed_model.specs.Answer.{Answer.Refuses, Answer.Replies, answer_to, effect, term_in}
+use Rattle.fed_model.specs.Refusals.{is_last_term, refusals}
+use Rattle.fed_theory.proofs.Allowed.{clear}
 use Rattle.fed_replica.proofs.StepLaws.{refused, nothing_added, full, added}
 
 -- ---- a table with one more row

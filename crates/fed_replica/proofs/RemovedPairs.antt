@@ -5,18 +5,17 @@ use Rattle.std.specs.Ordering.{nat_cmp}
 use Rattle.std.proofs.Common.{◌≡◌, ℕ, List, true, ◌&&◌, ◌==◌, refl, ap₂, subst}
 use Rattle.std.proofs.lemmas.Bool.{and_parts, and_from, eqb-true, eq-eqb}
 use Rattle.std.proofs.lemmas.Map.Lookups.{exact_unsigned}
-use Rattle.fed_stamp.specs.Stamp.{StampValue}
+use Rattle.fed_stamp.specs.Stamp.{StampValue, same_stamp}
 use Rattle.fed_lattice.proofs.FilterLaws.{Has-filter, filter-Has}
 use Rattle.fed_lattice.specs.Sets.{Has}
 use Rattle.fed_lattice.specs.SetLaws.{found, any_from}
 use Rattle.fed_tags.specs.Tags.{pair_cmp, has}
 use Rattle.fed_tags.specs.TagLaws.{pair_total, exact_pair, has_member, member}
-use Rattle.fed_record.specs.declared.holds.HoldKind.{HoldKind}
-use Rattle.fed_record.specs.declared.holds.HoldKind.TheVariants.{User, Operator, System}
-use Rattle.fed_record.specs.declared.holds.HoldKinds.{HoldKinds}
-use Rattle.fed_stamp.specs.Stamp.{same_stamp}
-use Rattle.fed_record.specs.Hold.{has_kind, kind_cmp, same_kind}
-use Rattle.fed_record.specs.HoldLaws.{kind_total, exact_kind}
+use Rattle.fed_model.specs.declared.holds.HoldKind.{HoldKind}
+use Rattle.fed_model.specs.declared.holds.HoldKind.TheVariants.{User, Operator, System}
+use Rattle.fed_model.specs.declared.holds.HoldKinds.{HoldKinds}
+use Rattle.fed_model.specs.Hold.{has_kind, kind_cmp, same_kind}
+use Rattle.fed_model.specs.HoldLaws.{kind_total, exact_kind}
 use Rattle.fed_record.specs.Operation.{has_site_pair, has_hold_pair}
 use Rattle.fed_lattice.specs.ExactLaws.{same_stamp_is, same_stamp_itself}
 

@@ -5,18 +5,18 @@ use Rattle.std.proofs.Common.{◌≡◌, ℕ, refl, sym, subst, ap, ◌∙◌}
 use Rattle.fed_stamp.specs.declared.versions.ClockFull.{ClockFull}
 use Rattle.fed_stamp.specs.Stamp.{StampValue}
 use Rattle.fed_stamp.specs.Version.{next_stamp}
-use Rattle.fed_record.specs.declared.askers.Who.{Who}
-use Rattle.fed_record.specs.declared.commands.Command.{Command}
+use Rattle.fed_model.specs.declared.askers.Who.{Who}
+use Rattle.fed_model.specs.declared.commands.Command.{Command}
 use Rattle.fed_record.specs.declared.operations.Operation.{Operation}
-use Rattle.fed_record.specs.declared.refusals.Refusal.{Refusal}
-use Rattle.fed_record.specs.declared.replies.Reply.{Reply}
-use Rattle.fed_record.specs.Body.{Body}
+use Rattle.fed_model.specs.declared.refusals.Refusal.{Refusal}
+use Rattle.fed_model.specs.declared.replies.Reply.{Reply}
+use Rattle.fed_model.specs.Body.{Body}
 use Rattle.fed_record.specs.Operation.{body_of}
-use Rattle.fed_board.specs.View.{View}
-use Rattle.fed_desk.specs.Desk.{first_of}
+use Rattle.fed_model.specs.View.{View}
+use Rattle.fed_model.specs.Desk.{first_of}
 use Rattle.fed_replica.specs.declared.steps.Step.{Step}
-use Rattle.fed_replica.specs.Answer.{Answer, Answer.Refuses, Answer.Replies, answer_to, answer_unless, effect, replies, reply_with, reply_without}
-use Rattle.fed_replica.specs.Refusals.{refusals}
+use Rattle.fed_model.specs.Answer.{Answer, Answer.Refuses, Answer.Replies, answer_to, answer_unless, effect, replies, reply_with, reply_without}
+use Rattle.fed_model.specs.Refusals.{refusals}
 use Rattle.fed_replica.specs.Step.{IsStep, answer_by}
 
 -- ---- a step that says its answer is one of it

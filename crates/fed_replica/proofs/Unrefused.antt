@@ -6,20 +6,20 @@ use Rattle.std.proofs.Common.{◌≡◌, ℕ, Bool, true, false, Option, Some, N
 use Rattle.std.proofs.lemmas.Bool.{not-false}
 use Rattle.fed_stamp.specs.Stamp.{StampValue}
 use Rattle.fed_lattice.specs.Latest.{stamp_cmp}
-use Rattle.fed_record.specs.declared.askers.Who.{Who}
-use Rattle.fed_record.specs.declared.commands.Command.{Command}
-use Rattle.fed_record.specs.declared.holds.HoldKinds.{HoldKinds}
-use Rattle.fed_record.specs.declared.values.Changes.{Changes}
-use Rattle.fed_record.specs.Body.{Body}
-use Rattle.fed_record.specs.JobRecord.{JobRecordValue, reads as reads_job}
-use Rattle.fed_record.specs.Letter.{is_submitted}
-use Rattle.fed_record.specs.Reservation.{ReservationView}
-use Rattle.fed_board.specs.Board.{BoardValue, HasJob, HasNamed, HasReservation, no_operation, reads}
-use Rattle.fed_board.specs.View.{View}
-use Rattle.fed_replica.specs.Answer.{effect}
-use Rattle.fed_desk.specs.Desk.{first_of}
-use Rattle.fed_replica.specs.Refusals.{is_standing, refusals}
-use Rattle.fed_replica.proofs.Allowed.{AreClear, clear}
+use Rattle.fed_model.specs.declared.askers.Who.{Who}
+use Rattle.fed_model.specs.declared.commands.Command.{Command}
+use Rattle.fed_model.specs.declared.holds.HoldKinds.{HoldKinds}
+use Rattle.fed_model.specs.declared.values.Changes.{Changes}
+use Rattle.fed_model.specs.Body.{Body}
+use Rattle.fed_record.specs.JobRecord.{JobRecordValue, job_reads}
+use Rattle.fed_model.specs.Letter.{is_submitted}
+use Rattle.fed_model.specs.Reservation.{ReservationView}
+use Rattle.fed_board.specs.Board.{BoardValue, HasJob, HasNamed, HasReservation, no_operation, board_reads}
+use Rattle.fed_model.specs.View.{View}
+use Rattle.fed_model.specs.Answer.{effect}
+use Rattle.fed_model.specs.Desk.{first_of}
+use Rattle.fed_model.specs.Refusals.{is_standing, refusals}
+use Rattle.fed_theory.proofs.Allowed.{AreClear, clear}
 
 -- no refusal of the table applies to the command, where somebody asks some site
 abbrev MayBeDone : View → Command → Type 0
@@ -54,14 +54,14 @@ pub known_finish : (v : View) (job : StampValue) (moment status : ℕ) → MayBe
 known_finish v job moment status d = not-false _ (spared v (Command.Finish job moment status) d).0
 
 -- ---- what the operation is of is on the board
-has_job : (b : BoardValue) (job : StampValue) → is_submitted ((reads b).job job) ≡ true → HasJob b job
+has_job : (b : BoardValue) (job : StampValue) → is_submitted ((board_reads b).job job) ≡ true → HasJob b job
 has_job b job = go (lookup (is_at (stamp_cmp job)) b.jobs)
   where
-    go : (a : Option JobRecordValue) → is_submitted (reads_job (unwrap_or a no_operation)) ≡ true → IsSome a
+    go : (a : Option JobRecordValue) → is_submitted (job_reads (unwrap_or a no_operation)) ≡ true → IsSome a
     go None e = cc
     go (Some r) e = refl
 
-has_reservation : (b : BoardValue) (name : StampValue) → is_standing ((reads b).reservation name) ≡ true → HasReservation b name
+has_reservation : (b : BoardValue) (name : StampValue) → is_standing ((board_reads b).reservation name) ≡ true → HasReservation b name
 has_reservation b name = go (lookup (is_at (stamp_cmp name)) b.reservations)
   where
     go : (a : Option ReservationView) → is_standing (unwrap_or a None) ≡ true → IsSome a
@@ -80,15 +80,15 @@ body_unless : (P : Body → Type 0) (t : Bool) (a b : Body) → cond t None (Som
 body_unless P true a b e p = cc
 body_unless P false a b e p = is_body P a b e p
 
-pub named : (b : BoardValue) (who : Who) (command : Command) (body : Body) → MayBeDone (reads b) command → effect (reads b) who command ≡ Some body → HasNamed b body
+pub named : (b : BoardValue) (who : Who) (command : Command) (body : Body) → MayBeDone (board_reads b) command → effect (board_reads b) who command ≡ Some body → HasNamed b body
 named b who (Command.Submit values held) body d e = is_body (HasNamed b) _ body e tt
-named b who (Command.Alter job changes) body d e = is_body (HasNamed b) _ body e (has_job b job (known_alter (reads b) job changes d))
-named b who (Command.Hold job kinds) body d e = is_body (HasNamed b) _ body e (has_job b job (known_hold (reads b) job kinds d))
-named b who (Command.Release job kinds) body d e = body_if (HasNamed b) _ _ body e (has_job b job (known_release (reads b) job kinds d))
-named b who (Command.Delete job) body d e = is_body (HasNamed b) _ body e (has_job b job (known_delete (reads b) job d))
-named b who (Command.Grant job asker) body d e = body_unless (HasNamed b) _ _ body e (has_job b job (known_grant (reads b) job asker d))
-named b who (Command.HandBack job) body d e = is_body (HasNamed b) _ body e (has_job b job (known_hand_back (reads b) job d))
-named b who (Command.Begin job moment) body d e = is_body (HasNamed b) _ body e (has_job b job (known_begin (reads b) job moment d))
-named b who (Command.Finish job moment status) body d e = is_body (HasNamed b) _ body e (has_job b job (known_finish (reads b) job moment status d))
+named b who (Command.Alter job changes) body d e = is_body (HasNamed b) _ body e (has_job b job (known_alter (board_reads b) job changes d))
+named b who (Command.Hold job kinds) body d e = is_body (HasNamed b) _ body e (has_job b job (known_hold (board_reads b) job kinds d))
+named b who (Command.Release job kinds) body d e = body_if (HasNamed b) _ _ body e (has_job b job (known_release (board_reads b) job kinds d))
+named b who (Command.Delete job) body d e = is_body (HasNamed b) _ body e (has_job b job (known_delete (board_reads b) job d))
+named b who (Command.Grant job asker) body d e = body_unless (HasNamed b) _ _ body e (has_job b job (known_grant (board_reads b) job asker d))
+named b who (Command.HandBack job) body d e = is_body (HasNamed b) _ body e (has_job b job (known_hand_back (board_reads b) job d))
+named b who (Command.Begin job moment) body d e = is_body (HasNamed b) _ body e (has_job b job (known_begin (board_reads b) job moment d))
+named b who (Command.Finish job moment status) body d e = is_body (HasNamed b) _ body e (has_job b job (known_finish (board_reads b) job moment status d))
 named b who (Command.Reserve window) body d e = is_body (HasNamed b) _ body e tt
-named b who (Command.Cancel name) body d e = is_body (HasNamed b) _ body e (has_reservation b name (not-false _ (spared (reads b) (Command.Cancel name) d).1.0))
+named b who (Command.Cancel name) body d e = is_body (HasNamed b) _ body e (has_reservation b name (not-false _ (spared (board_reads b) (Command.Cancel name) d).1.0))

@@ -1,6 +1,6 @@
 -- Which operations want memory.
 use Rattle.std.specs.Prelude.{IsSome}
-use Rattle.fed_record.specs.declared.commands.Command.{Command}
+use Rattle.fed_model.specs.declared.commands.Command.{Command}
 
 -- the operation that the command adds has a list: of the sites that an Alter replaces, or of the holds that a Release ends
 abbrev pub HasList : Command → Type 0

@@ -1,12 +1,12 @@
 -- Replicas: what a site keeps, and what is left where it answers a command.
 use Rattle.std.specs.Prelude.{◌≡◌, ℕ, replicate, List, Some, None, Result, Ok, Err, MatchResult, slice_index_or}
 use Rattle.fed_stamp.specs.declared.sites.TheConstants.{SITES}
-use Rattle.fed_record.specs.declared.refusals.Refusal.{Refusal}
-use Rattle.fed_record.specs.declared.replies.Reply.{Reply}
+use Rattle.fed_model.specs.declared.refusals.Refusal.{Refusal}
+use Rattle.fed_model.specs.declared.replies.Reply.{Reply}
 use Rattle.fed_board.specs.Board.{BoardValue}
-use Rattle.fed_board.specs.View.{View}
-use Rattle.fed_board.specs.ViewSteps.{add_to_view}
-use Rattle.fed_replica.specs.Answer.{Answer, Answer.Refuses, Answer.Replies}
+use Rattle.fed_model.specs.View.{View}
+use Rattle.fed_theory.specs.ViewSteps.{add_to_view}
+use Rattle.fed_model.specs.Answer.{Answer, Answer.Refuses, Answer.Replies}
 
 -- the site, its board, and for each site the version that was heard from it
 pub record ReplicaValue : Type 0 where

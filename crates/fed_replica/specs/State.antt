@@ -3,13 +3,13 @@ use Rattle.std.specs.Prelude.{◌≡◌, ℕ, ◌<◌, nat_lt, replicate, List, 
 use Rattle.fed_stamp.specs.declared.sites.TheConstants.{SITES}
 use Rattle.fed_stamp.specs.Indexes.{put}
 use Rattle.fed_stamp.specs.Version.{joined, met}
-use Rattle.fed_board.specs.Board.{reads}
-use Rattle.fed_board.specs.View.{View, view}
-use Rattle.fed_board.specs.ViewSteps.{add_to_view, join_records}
+use Rattle.fed_board.specs.Board.{board_reads}
+use Rattle.fed_model.specs.View.{View, view}
+use Rattle.fed_theory.specs.ViewSteps.{add_to_view, join_records}
 use Rattle.fed_delta.specs.Cut.{cut}
 use Rattle.fed_wire.specs.Packet.{PacketValue}
-use Rattle.fed_replica.specs.Answer.{Answer, Answer.Refuses, Answer.Replies}
-use Rattle.fed_replica.specs.Packet.{missing}
+use Rattle.fed_model.specs.Answer.{Answer, Answer.Refuses, Answer.Replies}
+use Rattle.fed_model.specs.Packet.{missing}
 use Rattle.fed_replica.specs.Replica.{ReplicaValue, heard_from}
 
 -- its site, its board, and of each site the version that was heard from it
@@ -21,14 +21,14 @@ pub record State : Type 0 where
 -- a replica reads as the state
 pub record IsState (r : ReplicaValue) (s : State) : Type 0 where
   pub site : r.site ≡ s.site
-  pub board : reads r.board ≡ s.view
+  pub board : board_reads r.board ≡ s.view
   pub heard : (from : ℕ) → from < SITES → heard_from r from ≡ s.heard from
 
 -- what is read of a replica; beyond the 16 sites nothing was heard
 abbrev pub state_of : ReplicaValue → State
 state_of r = record {
   site = r.site;
-  view = reads r.board;
+  view = board_reads r.board;
   heard = λ from. if nat_lt from SITES then heard_from r from else replicate SITES 0;
 }
 
@@ -51,7 +51,7 @@ abbrev pub after_packet_unless : Option ℕ → State → PacketValue → State
 after_packet_unless (Some lacks) s p = s
 after_packet_unless None s p = record {
   site = s.site;
-  view = join_records s.view (reads p.delta.changes);
+  view = join_records s.view (board_reads p.delta.changes);
   heard = put s.heard p.sender (joined (s.heard p.sender) p.delta.changes.version);
 }
 
@@ -60,4 +60,4 @@ pub record IsMadeFor (s : State) (to : ℕ) (p : PacketValue) : Type 0 where
   pub sender : p.sender ≡ s.site
   pub need : p.delta.need ≡ met (s.heard to) s.view.version
   pub reached : p.delta.changes.version ≡ s.view.version
-  pub cut_is : reads p.delta.changes ≡ cut s.view p.delta.need
+  pub cut_is : board_reads p.delta.changes ≡ cut s.view p.delta.need

@@ -1,13 +1,13 @@
 -- What a site does next by its answer.
 use Rattle.std.specs.Prelude.{◌≡◌, Some, None, Result, Ok, Err, MatchResult}
 use Rattle.fed_stamp.specs.Stamp.{StampValue}
-use Rattle.fed_record.specs.declared.commands.Command.{Command}
-use Rattle.fed_record.specs.declared.refusals.Refusal.{Refusal}
-use Rattle.fed_record.specs.declared.replies.Reply.{Reply}
-use Rattle.fed_record.specs.Body.{Body}
+use Rattle.fed_model.specs.declared.commands.Command.{Command}
+use Rattle.fed_model.specs.declared.refusals.Refusal.{Refusal}
+use Rattle.fed_model.specs.declared.replies.Reply.{Reply}
+use Rattle.fed_model.specs.Body.{Body}
 use Rattle.fed_record.specs.Operation.{body_of}
 use Rattle.fed_replica.specs.declared.steps.Step.{Step}
-use Rattle.fed_replica.specs.Answer.{Answer, Answer.Refuses, Answer.Replies}
+use Rattle.fed_model.specs.Answer.{Answer, Answer.Refuses, Answer.Replies}
 use Rattle.fed_replica.specs.Growth.{HasList}
 
 -- the answer that a step or a refusal comes of

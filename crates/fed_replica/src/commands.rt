@@ -1,6 +1,6 @@
 //! What a site does where a command comes.
-ghost use Rattle.fed_board.specs.Board.{reads};
-ghost use Rattle.fed_replica.specs.Answer.{answer_to};
+ghost use Rattle.fed_board.specs.Board.{board_reads};
+ghost use Rattle.fed_model.specs.Answer.{answer_to};
 ghost use Rattle.fed_replica.specs.Step.{IsStep};
 
 use crate::grant_steps::{begin, finish, grant, hand_back};
@@ -21,7 +21,7 @@ pub(crate) fn next_step(
     who: &Who,
     command: &Command,
 ) -> Result<Step, Refusal>
-    ensures { IsStep (answer_to (reads board.now) here who.now command.now) command.now result }
+    ensures { IsStep (answer_to (board_reads board.now) here who.now command.now) command.now result }
 {
     match command {
         Command::Submit { values, held } => submit(board, here, who, values, *held),

@@ -1,9 +1,9 @@
 //! What is done where sites ask for something at a job: its grant, and what its holder does with it.
 ghost use Rattle.std.specs.Prelude.{◌≡◌, ℕ};
-ghost use Rattle.fed_record.specs.declared.askers.Who.{Who};
-ghost use Rattle.fed_record.specs.declared.commands.Command.{Command};
-ghost use Rattle.fed_board.specs.Board.{reads};
-ghost use Rattle.fed_replica.specs.Answer.{answer_to};
+ghost use Rattle.fed_model.specs.declared.askers.Who.{Who};
+ghost use Rattle.fed_model.specs.declared.commands.Command.{Command};
+ghost use Rattle.fed_board.specs.Board.{board_reads};
+ghost use Rattle.fed_model.specs.Answer.{answer_to};
 ghost use Rattle.fed_replica.specs.Step.{answer_by};
 
 use crate::effects::{beginning, granted_term};
@@ -15,9 +15,9 @@ use fed_record::{Ending, Moment, Operation, Refusal, Reply, Term};
 use fed_stamp::{JobId, SiteId};
 
 /// Grants the job to the site that asks, as the desk decides, unless the last term there is was handed back.
-#[tactic(auto, unfolding(crate::specs::Answer::answer_to))]
+#[tactic(auto, unfolding(fed_model::specs::Answer::answer_to))]
 pub(crate) fn grant(board: &Board, here: SiteId, job: JobId, asker: SiteId) -> Result<Step, Refusal>
-    ensures { (who : Who) → answer_by result ≡ answer_to (reads board.now) here who (Command.Grant job asker) }
+    ensures { (who : Who) → answer_by result ≡ answer_to (board_reads board.now) here who (Command.Grant job asker) }
 {
     let Some(record) = board.job(job) else {
         return Err(Refusal::UnknownJob);
@@ -43,9 +43,9 @@ pub(crate) fn grant(board: &Board, here: SiteId, job: JobId, asker: SiteId) -> R
 }
 
 /// Hands the grant back.
-#[tactic(auto, unfolding(crate::specs::Answer::answer_to))]
+#[tactic(auto, unfolding(fed_model::specs::Answer::answer_to))]
 pub(crate) fn hand_back(board: &Board, here: SiteId, job: JobId) -> Result<Step, Refusal>
-    ensures { (who : Who) → answer_by result ≡ answer_to (reads board.now) here who (Command.HandBack job) }
+    ensures { (who : Who) → answer_by result ≡ answer_to (board_reads board.now) here who (Command.HandBack job) }
 {
     let Some(record) = board.job(job) else {
         return Err(Refusal::UnknownJob);
@@ -71,14 +71,14 @@ pub(crate) fn hand_back(board: &Board, here: SiteId, job: JobId) -> Result<Step,
 }
 
 /// Begins the job.
-#[tactic(auto, unfolding(crate::specs::Answer::answer_to))]
+#[tactic(auto, unfolding(fed_model::specs::Answer::answer_to))]
 pub(crate) fn begin(
     board: &Board,
     here: SiteId,
     job: JobId,
     moment: Moment,
 ) -> Result<Step, Refusal>
-    ensures { (who : Who) → answer_by result ≡ answer_to (reads board.now) here who (Command.Begin job moment) }
+    ensures { (who : Who) → answer_by result ≡ answer_to (board_reads board.now) here who (Command.Begin job moment) }
 {
     let Some(record) = board.job(job) else {
         return Err(Refusal::UnknownJob);
@@ -107,7 +107,7 @@ pub(crate) fn begin(
 }
 
 /// Finishes the job.
-#[tactic(auto, unfolding(crate::specs::Answer::answer_to))]
+#[tactic(auto, unfolding(fed_model::specs::Answer::answer_to))]
 pub(crate) fn finish(
     board: &Board,
     here: SiteId,
@@ -116,7 +116,7 @@ pub(crate) fn finish(
     status: u8,
 ) -> Result<Step, Refusal>
     ensures { (who : Who) →
-        answer_by result ≡ answer_to (reads board.now) here who (Command.Finish job moment status) }
+        answer_by result ≡ answer_to (board_reads board.now) here who (Command.Finish job moment status) }
 {
     let Some(record) = board.job(job) else {
         return Err(Refusal::UnknownJob);

@@ -1,8 +1,8 @@
 //! What is done where users ask for something at a job.
 ghost use Rattle.std.specs.Prelude.{◌≡◌};
-ghost use Rattle.fed_record.specs.declared.commands.Command.{Command};
-ghost use Rattle.fed_board.specs.Board.{reads};
-ghost use Rattle.fed_replica.specs.Answer.{answer_to};
+ghost use Rattle.fed_model.specs.declared.commands.Command.{Command};
+ghost use Rattle.fed_board.specs.Board.{board_reads};
+ghost use Rattle.fed_model.specs.Answer.{answer_to};
 ghost use Rattle.fed_replica.specs.Step.{IsStep, answer_by};
 
 use crate::counts::jobs_at;
@@ -15,7 +15,7 @@ use fed_stamp::{JobId, SiteId};
 use std::alloc::Global;
 
 /// Submits a job.
-#[tactic(auto, unfolding(crate::specs::Answer::answer_to))]
+#[tactic(auto, unfolding(fed_model::specs::Answer::answer_to))]
 pub(crate) fn submit(
     board: &Board,
     here: SiteId,
@@ -23,7 +23,7 @@ pub(crate) fn submit(
     values: &JobValues,
     held: bool,
 ) -> Result<Step, Refusal>
-    ensures { answer_by result ≡ answer_to (reads board.now) here who.now (Command.Submit values.now held) }
+    ensures { answer_by result ≡ answer_to (board_reads board.now) here who.now (Command.Submit values.now held) }
 {
     if jobs_at(board, here) >= MAX_JOBS {
         return Err(Refusal::SiteFull);
@@ -41,7 +41,7 @@ pub(crate) fn submit(
 }
 
 /// Sets the values named. Memory is wanted only where they name sites.
-#[tactic(auto, unfolding(crate::specs::Answer::answer_to))]
+#[tactic(auto, unfolding(fed_model::specs::Answer::answer_to))]
 pub(crate) fn alter(
     alloc: Global,
     board: &Board,
@@ -51,7 +51,7 @@ pub(crate) fn alter(
     changes: &Changes,
 ) -> Result<Step, Refusal>
     ensures { let command = Command.Alter job changes.now in
-        IsStep (answer_to (reads board.now) here who.now command) command result }
+        IsStep (answer_to (board_reads board.now) here who.now command) command result }
 {
     let Some(record) = board.job(job) else {
         return Err(Refusal::UnknownJob);
@@ -79,7 +79,7 @@ pub(crate) fn alter(
 }
 
 /// Adds holds of the kinds.
-#[tactic(auto, unfolding(crate::specs::Answer::answer_to))]
+#[tactic(auto, unfolding(fed_model::specs::Answer::answer_to))]
 pub(crate) fn hold(
     board: &Board,
     here: SiteId,
@@ -87,7 +87,7 @@ pub(crate) fn hold(
     job: JobId,
     kinds: HoldKinds,
 ) -> Result<Step, Refusal>
-    ensures { answer_by result ≡ answer_to (reads board.now) here who.now (Command.Hold job kinds) }
+    ensures { answer_by result ≡ answer_to (board_reads board.now) here who.now (Command.Hold job kinds) }
 {
     let Some(record) = board.job(job) else {
         return Err(Refusal::UnknownJob);
@@ -110,7 +110,7 @@ pub(crate) fn hold(
 }
 
 /// Removes the live holds of the kinds, for which memory is wanted. Where there are none it adds nothing.
-#[tactic(auto, unfolding(crate::specs::Answer::answer_to))]
+#[tactic(auto, unfolding(fed_model::specs::Answer::answer_to))]
 pub(crate) fn release(
     alloc: Global,
     board: &Board,
@@ -120,7 +120,7 @@ pub(crate) fn release(
     kinds: HoldKinds,
 ) -> Result<Step, Refusal>
     ensures { let command = Command.Release job kinds in
-        IsStep (answer_to (reads board.now) here who.now command) command result }
+        IsStep (answer_to (board_reads board.now) here who.now command) command result }
 {
     let Some(record) = board.job(job) else {
         return Err(Refusal::UnknownJob);
@@ -144,9 +144,9 @@ pub(crate) fn release(
 }
 
 /// Deletes the job.
-#[tactic(auto, unfolding(crate::specs::Answer::answer_to))]
+#[tactic(auto, unfolding(fed_model::specs::Answer::answer_to))]
 pub(crate) fn delete(board: &Board, here: SiteId, who: &Who, job: JobId) -> Result<Step, Refusal>
-    ensures { answer_by result ≡ answer_to (reads board.now) here who.now (Command.Delete job) }
+    ensures { answer_by result ≡ answer_to (board_reads board.now) here who.now (Command.Delete job) }
 {
     let Some(record) = board.job(job) else {
         return Err(Refusal::UnknownJob);

@@ -13,22 +13,15 @@ pub mod grant_steps;
 pub mod job_steps;
 /// What is looked at of a job.
 pub mod jobs;
-/// Laws of what sites answer.
-pub mod laws;
 /// Who may do what.
 pub mod permissions;
-/// That the values of commands are in range.
-pub mod ranges;
 /// Replicas: the boards of sites, and what was heard from other sites.
 pub mod replicas;
 /// What is done where a reservation is asked for.
 pub mod reservation_steps;
 /// What a site does next where it doesn't refuse a command.
 pub mod steps;
-/// Taken packets.
-pub mod taken;
 
 pub use counts::counts_are_read;
-pub use ranges::commands_are_ranged;
+pub use fed_model::Taken;
 pub use replicas::Replica;
-pub use taken::Taken;

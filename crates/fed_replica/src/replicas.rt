@@ -3,22 +3,22 @@ ghost use Rattle.std.specs.Prelude.{◌≡◌, ◌<◌, ◌++◌, ℕ, [], not, 
 ghost use Rattle.fed_stamp.specs.declared.sites.TheConstants.{SITES};
 ghost use Rattle.fed_stamp.specs.Version.{is_below, joined, met};
 ghost use Rattle.fed_lattice.specs.History.{History};
-ghost use Rattle.fed_record.specs.Body.{Body};
-ghost use Rattle.fed_board.specs.Board.{reads};
-ghost use Rattle.fed_board.specs.Lawful.{AreKin};
-ghost use Rattle.fed_board.specs.View.{view};
-ghost use Rattle.fed_board.specs.ViewSteps.{join_records};
+ghost use Rattle.fed_model.specs.Body.{Body};
+ghost use Rattle.fed_board.specs.Board.{board_reads};
+ghost use Rattle.fed_model.specs.Lawful.{AreKin};
+ghost use Rattle.fed_model.specs.View.{view};
+ghost use Rattle.fed_theory.specs.ViewSteps.{join_records};
 ghost use Rattle.fed_delta.specs.Absorb.{IsFaultOf};
 ghost use Rattle.fed_delta.specs.Cut.{cut};
-ghost use Rattle.fed_replica.specs.Answer.{answer_to};
+ghost use Rattle.fed_model.specs.Answer.{answer_to};
 ghost use Rattle.fed_stamp.specs.Indexes.{put};
 
 use crate::commands::next_step;
 use crate::steps::Step;
-use crate::taken::Taken;
 use fed_board::Board;
 use fed_delta::{Absorb, absorb, delta_since};
 use fed_lattice::NoMemory;
+use fed_model::Taken;
 use fed_record::{Command, Refusal, Reply, Who};
 use fed_stamp::{SITES, SiteId, Version};
 use fed_wire::Packet;
@@ -55,7 +55,7 @@ impl Replica {
         ensures site { result.site ≡ site }
         ensures board { result.board ≡ record { version = replicate SITES 0; jobs = []; reservations = [] } }
         ensures heard { result.heard ≡ replicate SITES (replicate SITES 0) }
-        ensures stands { reads result.board ≡ view [] }
+        ensures stands { board_reads result.board ≡ view [] }
     {
         Replica {
             alloc,
@@ -99,11 +99,11 @@ impl Replica {
     }
 
     /// Does the command, if no refusal applies, and replies to it; else it answers the refusal with the least number. A
-    /// refusal, and a command that adds no operation, is decided before any growth, so that `NoMemory` is answered only
+    /// refusal, and a command that adds no operation, is decided before any allocation, so that `NoMemory` is answered only
     /// where an operation would be added. On an error the replica is as before.
     pub fn act(&mut self, who: &Who, command: &Command) -> Result<Reply, Refusal>
-        ensures done { IsDone (answer_to (reads self.old.board) self.old.site who.now command.now)
-            (reads self.old.board) result (reads self.new.board) }
+        ensures done { IsDone (answer_to (board_reads self.old.board) self.old.site who.now command.now)
+            (board_reads self.old.board) result (board_reads self.new.board) }
         ensures site { self.new.site ≡ self.old.site }
         ensures heard { self.new.heard ≡ self.old.heard }
         ensures unchanged { OnErr result (self.new ≡ self.old) }
@@ -126,7 +126,7 @@ impl Replica {
         ensures sender { IfOk result (λ p. p.sender ≡ self.now.site) }
         ensures need { IfOk result (λ p. p.delta.need ≡ met (heard_from self.now to) self.now.board.version) }
         ensures reached { IfOk result (λ p. p.delta.changes.version ≡ self.now.board.version) }
-        ensures cut { IfOk result (λ p. reads p.delta.changes ≡ cut (reads self.now.board) p.delta.need) }
+        ensures cut { IfOk result (λ p. board_reads p.delta.changes ≡ cut (board_reads self.now.board) p.delta.need) }
     {
         let delta = delta_since(self.alloc, &self.board, &self.heard(to))?;
         Ok(Packet::new(self.site, delta))
@@ -135,10 +135,10 @@ impl Replica {
     /// Takes the packet in, where the board has seen all that it needs. On an error the replica is as before.
     pub fn take(&mut self, packet: &Packet) -> Result<Taken, Absorb>
         ensures joined { OnOk result
-            (reads self.new.board ≡ join_records (reads self.old.board) (reads packet.now.delta.changes)) }
+            (board_reads self.new.board ≡ join_records (board_reads self.old.board) (board_reads packet.now.delta.changes)) }
         ensures stands { OnOk result ((ops others : History Body) → AreKin ops others →
-            reads self.old.board ≡ view ops → reads packet.now.delta.changes ≡ cut (view others) packet.now.delta.need →
-            reads self.new.board ≡ view (ops ++ others)) }
+            board_reads self.old.board ≡ view ops → board_reads packet.now.delta.changes ≡ cut (view others) packet.now.delta.need →
+            board_reads self.new.board ≡ view (ops ++ others)) }
         ensures heard { OnOk result ((from : ℕ) → from < SITES → heard_from self.new from ≡
             put (heard_from self.old) packet.now.sender
             (joined (heard_from self.old packet.now.sender) packet.now.delta.changes.version) from) }

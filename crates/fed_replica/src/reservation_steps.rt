@@ -1,9 +1,9 @@
 //! What is done where a reservation is asked for.
 ghost use Rattle.std.specs.Prelude.{◌≡◌};
-ghost use Rattle.fed_record.specs.declared.commands.Command.{Command};
-ghost use Rattle.fed_board.specs.Board.{reads};
-ghost use Rattle.fed_replica.specs.Answer.{answer_to};
-ghost use Rattle.fed_replica.specs.Refusals.{is_bad_window as is_window_bad, is_standing as is_reservation_standing};
+ghost use Rattle.fed_model.specs.declared.commands.Command.{Command};
+ghost use Rattle.fed_board.specs.Board.{board_reads};
+ghost use Rattle.fed_model.specs.Answer.{answer_to};
+ghost use Rattle.fed_model.specs.Refusals.{is_bad_window as is_window_bad, is_standing as is_reservation_standing};
 ghost use Rattle.fed_replica.specs.Step.{answer_by};
 
 use crate::counts::reservations_at;
@@ -25,7 +25,7 @@ fn is_bad_window(window: &Window) -> bool
 
 /// Whether the reservation is made and not cancelled.
 fn is_standing(board: &Board, name: Stamp) -> bool
-    ensures { result ≡ is_reservation_standing ((reads board.now).reservation name) }
+    ensures { result ≡ is_reservation_standing ((board_reads board.now).reservation name) }
 {
     match board.reservation(name) {
         Some(reservation) => reservation.window().is_some(),
@@ -34,14 +34,14 @@ fn is_standing(board: &Board, name: Stamp) -> bool
 }
 
 /// Makes a reservation.
-#[tactic(auto, unfolding(crate::specs::Answer::answer_to))]
+#[tactic(auto, unfolding(fed_model::specs::Answer::answer_to))]
 pub(crate) fn reserve(
     board: &Board,
     here: SiteId,
     who: &Who,
     window: &Window,
 ) -> Result<Step, Refusal>
-    ensures { answer_by result ≡ answer_to (reads board.now) here who.now (Command.Reserve window.now) }
+    ensures { answer_by result ≡ answer_to (board_reads board.now) here who.now (Command.Reserve window.now) }
 {
     if !is_operator(who.role) {
         return Err(Refusal::NotPermitted);
@@ -61,9 +61,9 @@ pub(crate) fn reserve(
 }
 
 /// Cancels the reservation.
-#[tactic(auto, unfolding(crate::specs::Answer::answer_to))]
+#[tactic(auto, unfolding(fed_model::specs::Answer::answer_to))]
 pub(crate) fn cancel(board: &Board, here: SiteId, who: &Who, name: Stamp) -> Result<Step, Refusal>
-    ensures { answer_by result ≡ answer_to (reads board.now) here who.now (Command.Cancel name) }
+    ensures { answer_by result ≡ answer_to (board_reads board.now) here who.now (Command.Cancel name) }
 {
     if !is_operator(who.role) {
         return Err(Refusal::NotPermitted);

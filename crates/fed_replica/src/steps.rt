@@ -1,7 +1,7 @@
 //! What a site does next where it doesn't refuse a command.
 ghost use Rattle.std.specs.Prelude.{◌≡◌, Ok, Err, MatchResult};
 ghost use Rattle.fed_stamp.specs.Version.{next_stamp as next_stamp_of};
-ghost use Rattle.fed_record.specs.declared.refusals.Refusal.{Refusal};
+ghost use Rattle.fed_model.specs.declared.refusals.Refusal.{Refusal};
 
 use fed_board::Board;
 use fed_record::{Operation, Refusal, Reply};

@@ -4,9 +4,9 @@ use Rattle.std.specs.Prelude.{codes, option_map, if◌then◌else◌}
 use Rattle.std.specs.Option.{option_map_or}
 use Rattle.std.specs.Str.{bytes_eq}
 use Rattle.fed_stamp.specs.Roster.{is_named}
-use Rattle.fed_record.specs.declared.askers.Who.{Who}
-use Rattle.fed_record.specs.declared.commands.Command.{Command}
-use Rattle.fed_words.specs.Fault.{Answer}
+use Rattle.fed_model.specs.declared.askers.Who.{Who}
+use Rattle.fed_model.specs.declared.commands.Command.{Command}
+use Rattle.fed_words.specs.Fault.{OrFault}
 use Rattle.fed_words.specs.Request.{Asked, acts as acts_of, list as list_of, request_in}
 use Rattle.fed_words.proofs.SiteNames.{found_in_range}
 use Rattle.fed_script.specs.declared.verbs.Verb.{Verb}
@@ -26,7 +26,7 @@ act_sites : (n here : ℕ) (who : Who) (command : Option Command) (line : Line) 
 act_sites n here who None line h e = cc
 act_sites n here who (Some command) line h e = let same : acts here who (command ∷ []) ≡ line = cc in subst (HasSites n) same h
 
-asked_sites : (n here : ℕ) (who : Who) (asked : Answer Asked) → here < n → HasSites n (asked_at here who asked)
+asked_sites : (n here : ℕ) (who : Who) (asked : OrFault Asked) → here < n → HasSites n (asked_at here who asked)
 asked_sites n here who (Ok (acts_of commands)) h = h
 asked_sites n here who (Ok (list_of full jobs)) h = h
 asked_sites n here who (Err fault) h = h

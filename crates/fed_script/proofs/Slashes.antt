@@ -5,8 +5,8 @@ use Rattle.std.specs.Prelude.{position}
 use Rattle.std.specs.List.{list_all, position_or_len}
 use Rattle.std.proofs.lemmas.Bool.Decides.{nat_tests}
 use Rattle.fed_stamp.specs.Word.{is_name, is_name_byte}
-use Rattle.fed_record.specs.declared.askers.Role.TheVariants.{User}
-use Rattle.fed_record.specs.declared.askers.Who.{Who}
+use Rattle.fed_model.specs.declared.askers.Role.TheVariants.{User}
+use Rattle.fed_model.specs.declared.askers.Who.{Who}
 use Rattle.fed_words.proofs.Given.{when_some}
 use Rattle.fed_script.specs.Asker.{is_slash, user_in, who_in}
 

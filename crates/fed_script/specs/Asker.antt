@@ -3,9 +3,9 @@ use Rattle.std.specs.Prelude.{ℕ, Bool, not, ◌&&◌, ◌==◌, codes, Some, N
 use Rattle.std.specs.List.{before_first, after_first}
 use Rattle.std.specs.Str.{byte, bytes_eq}
 use Rattle.fed_stamp.specs.Word.{is_name}
-use Rattle.fed_record.specs.declared.askers.Role.{Role}
-use Rattle.fed_record.specs.declared.askers.Role.TheVariants.{User, Operator, Administrator}
-use Rattle.fed_record.specs.declared.askers.Who.{Who}
+use Rattle.fed_model.specs.declared.askers.Role.{Role}
+use Rattle.fed_model.specs.declared.askers.Role.TheVariants.{User, Operator, Administrator}
+use Rattle.fed_model.specs.declared.askers.Who.{Who}
 use Rattle.fed_script.specs.Forms.{Reads, ◌>>=◌}
 use Rattle.fed_script.specs.Verb.{is_verb}
 

@@ -3,10 +3,10 @@ use Rattle.std.specs.Prelude.{ℕ, ◌==◌, Bool, false, List, [], ◌∷◌, c
 use Rattle.std.specs.Option.{option_map_or}
 use Rattle.std.specs.Str.{byte, bytes_eq}
 use Rattle.fed_stamp.specs.Stamp.{StampValue}
-use Rattle.fed_record.specs.declared.askers.Who.{Who}
-use Rattle.fed_record.specs.declared.commands.Command.{Command}
+use Rattle.fed_model.specs.declared.askers.Who.{Who}
+use Rattle.fed_model.specs.declared.commands.Command.{Command}
 use Rattle.fed_words.specs.declared.faults.UsageFault.{UsageFault}
-use Rattle.fed_words.specs.Fault.{Answer}
+use Rattle.fed_words.specs.Fault.{OrFault}
 use Rattle.fed_words.specs.Request.{Asked, acts as acts_of, list as list_of, request_in}
 use Rattle.fed_script.specs.declared.verbs.Verb.{Verb}
 use Rattle.fed_script.specs.declared.verbs.Verb.TheVariants.{Grant, Begin, Finish, HandBack, Ship, Take, Plan}
@@ -38,7 +38,7 @@ pub data Line : Type 0 where
   compares : (site : ℕ) (other : ℕ) → Line
 
 -- what the words of a utility ask of a site
-abbrev pub asked_at : ℕ → Who → Answer Asked → Line
+abbrev pub asked_at : ℕ → Who → OrFault Asked → Line
 asked_at here who (Ok (acts_of commands)) = acts here who commands
 asked_at here who (Ok (list_of full jobs)) = lists here full jobs
 asked_at here who (Err fault) = misuses here fault

@@ -2,8 +2,8 @@
 use Rattle.std.specs.Prelude.{ℕ, List}
 use Rattle.std.specs.Result.{result_ok}
 use Rattle.fed_stamp.specs.Stamp.{StampValue}
-use Rattle.fed_record.specs.declared.moments.TheConstants.{MAX_MOMENT}
-use Rattle.fed_record.specs.declared.progress.TheConstants.{MAX_STATUS}
+use Rattle.fed_model.specs.declared.moments.TheConstants.{MAX_MOMENT}
+use Rattle.fed_model.specs.declared.beginnings.TheConstants.{MAX_STATUS}
 use Rattle.fed_words.specs.Identifier.{job_in}
 use Rattle.fed_words.specs.Number.{decimal_in, number_in}
 use Rattle.fed_words.specs.Site.{site_named}

@@ -7,7 +7,7 @@ ghost use Rattle.fed_script.specs.declared.verbs.Verb.TheVariants.{Grant, Begin,
 use crate::forms::{four_words, one_word, three_words, two_words};
 use crate::values::{read_moment, read_name, read_status};
 use crate::verbs::Verb;
-use fed_record::{Command, Window};
+use fed_model::{Command, Window};
 use fed_stamp::{Roster, SiteId};
 use fed_words::read_number;
 

@@ -21,5 +21,5 @@ mod values;
 mod verbs;
 
 pub use lines::{Words, first_word, split_line};
-pub use rosters::HeldRoster;
+pub use rosters::BoxedRoster;
 pub use script_lines::{Line, read_first_line, read_later_line, read_own_line, told_words};

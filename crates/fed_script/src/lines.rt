@@ -4,6 +4,7 @@ ghost use Rattle.std.specs.Char.{is_ascii_whitespace};
 ghost use Rattle.std.specs.Str.Lines.{lines, strip_carriage_return};
 ghost use Rattle.fed_script.specs.Lines.{is_readable, words_of};
 
+use memchr::memchr;
 use smallvec::SmallVec;
 use std::alloc::{AllocError, Global};
 use std::str;
@@ -28,7 +29,11 @@ pub fn split_line(script: &[u8]) -> Option<(&[u8], &[u8])>
 fn line_end(script: &[u8]) -> Option<usize>
     ensures { result ≡ position (λ byte. byte == 10) script.now }
 {
-    script.iter().position(|byte| *byte == b'\n')
+    match script {
+        // empty lines are common, and a search costs more
+        [b'\n', ..] => Some(0),
+        _ => memchr(b'\n', script),
+    }
 }
 
 fn without_carriage_return(line: &[u8]) -> &[u8]
@@ -37,43 +42,6 @@ fn without_carriage_return(line: &[u8]) -> &[u8]
     match line {
         [front @ .., b'\r'] => front,
         _ => line,
-    }
-}
-
-/// The text of a line that has printable ASCII characters, spaces and tabs alone.
-fn line_text(line: &[u8]) -> Option<&str>
-    ensures { option_map (λ text. text.now) result ≡ (if is_readable line.now then Some line.now else None) }
-{
-    if is_readable(line) {
-        str::from_utf8(line).ok()
-    } else {
-        None
-    }
-}
-
-fn is_readable(line: &[u8]) -> bool
-    ensures { result ≡ is_readable line.now }
-{
-    let mut readable = true;
-    // To the end of the line, so that several bytes are tested at once.
-    for byte in line {
-        readable &= matches!(*byte, b' '..=b'~' | b'\t');
-    }
-    readable
-}
-
-/// Cuts off the first word of a text, and the space or tab behind it. `None` where the text has no word.
-fn split_word(text: &str) -> Option<(&str, &str)>
-    requires { is_readable text.now ≡ true }
-    ensures none { IfNone result (words_of text.now ≡ []) }
-    ensures some { IfSome result (λ cut. words_of text.now ≡ cut.0.now ∷ words_of cut.1.now) }
-    ensures readable { IfSome result (λ cut. is_readable cut.1.now ≡ true) }
-    ensures shorter { IfSome result (λ cut. length cut.1.now < length text.now) }
-{
-    let text = &text[word_start(text.as_bytes())?..];
-    match word_end(text.as_bytes()) {
-        Some(end) => Some((&text[..end], &text[end + 1..])),
-        None => Some((text, "")),
     }
 }
 
@@ -108,28 +76,40 @@ pub const INLINE_WORDS: usize = 8;
 /// The words of a line.
 pub type Words<'a> = SmallVec<&'a str, INLINE_WORDS>;
 
-// The words of the text of a line that can be read.
-fn words(alloc: Global, text: &str) -> Result<Words<'_>, AllocError>
-    requires { is_readable text.now ≡ true }
-    ensures { IfOk result (λ words. map (λ word. word.now) words.items ≡ words_of text.now) }
+/// Adds the words of a text, and says whether it can be read.
+fn push_words_of<'a>(text: &'a str, words: &mut Words<'a>) -> Result<bool, AllocError>
+    requires { words.old.items ≡ [] }
+    ensures readable { IfOk result (λ read. read ≡ is_readable text.now) }
+    ensures cut { IfOk result (λ read. read ≡ true → map (λ word. word.now) words.new.items ≡ words_of text.now) }
 {
-    let mut words = SmallVec::new(alloc);
-    let mut rest = text;
-    while let Some((word, after)) = split_word(rest) {
-        words.push(word)?;
-        rest = after;
+    let mut start = 0;
+    for (index, byte) in text.as_bytes().iter().enumerate() {
+        if b' ' < *byte && *byte <= b'~' {
+            continue;
+        }
+        if *byte != b' ' && *byte != b'\t' {
+            return Ok(false);
+        }
+        if start < index {
+            words.push(&text[start..index])?;
+        }
+        start = index + 1;
     }
-    Ok(words)
+    if start < text.len() {
+        words.push(&text[start..])?;
+    }
+    Ok(true)
 }
 
-/// The words of a line, which are parted by spaces and tabs, or `None` where it has a byte that no line may have:
-/// another than a printable ASCII character, a space or a tab.
-pub fn line_words(alloc: Global, line: &[u8]) -> Result<Option<Words<'_>>, AllocError>
-    ensures { IfOk result (λ words. option_map (λ w. map (λ word. word.now) w.items) words ≡
-        (if is_readable line.now then Some (words_of line.now) else None)) }
+/// Adds the words of a line, which are parted by spaces and tabs, and says whether it can be read: not where it has a
+/// byte that no line may have, another than a printable ASCII character, a space or a tab.
+pub(crate) fn push_words<'a>(line: &'a [u8], words: &mut Words<'a>) -> Result<bool, AllocError>
+    requires { words.old.items ≡ [] }
+    ensures readable { IfOk result (λ read. read ≡ is_readable line.now) }
+    ensures cut { IfOk result (λ read. read ≡ true → map (λ word. word.now) words.new.items ≡ words_of line.now) }
 {
-    match line_text(line) {
-        Some(text) => Ok(Some(words(alloc, text)?)),
-        None => Ok(None),
+    match str::from_utf8(line) {
+        Ok(text) => push_words_of(text, words),
+        Err(_) => Ok(false),
     }
 }

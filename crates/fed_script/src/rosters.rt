@@ -11,11 +11,11 @@ use std::marker::Model;
 
 /// A roster in memory of its own, so that what holds it is small.
 #[derive(Drop)]
-pub struct HeldRoster {
+pub struct BoxedRoster {
     roster: Box<Roster>,
 }
 
-impl Model for HeldRoster {
+impl Model for BoxedRoster {
     ghost use Rattle.std.specs.Prelude.{List, ℕ};
 
     ghost Value = { List (List ℕ × ℕ) };
@@ -23,12 +23,12 @@ impl Model for HeldRoster {
     ghost view = { λ h. h.roster.value };
 }
 
-impl HeldRoster {
+impl BoxedRoster {
     /// The roster in a box of its own; an error where no room is left for it.
-    pub fn new(alloc: Global, roster: Roster) -> Result<HeldRoster, AllocError>
+    pub fn new(alloc: Global, roster: Roster) -> Result<BoxedRoster, AllocError>
         ensures { IfOk result (λ held. held ≡ roster) }
     {
-        Ok(HeldRoster {
+        Ok(BoxedRoster {
             roster: Box::new(alloc, roster)?,
         })
     }

@@ -3,7 +3,7 @@ ghost use Rattle.std.specs.Prelude.{◌≡◌, IfOk, IsErr, OnErr, option_map};
 ghost use Rattle.fed_words.specs.Fault.{answer_map};
 ghost use Rattle.fed_words.specs.Item.{words_of as texts_of};
 ghost use Rattle.fed_script.specs.Forms.{one, two};
-ghost use Rattle.fed_script.specs.Line.{act as act_of, asked_at, compares, first_line, first_line_in, is_comment as are_of_comment, later_line, later_line_in, own_line, own_line_in, plans, ships, site_line, takes, user_line, verb_line, words_in};
+ghost use Rattle.fed_script.specs.Line.{act as act_of, asked_at, compares, first_line, first_line_in, is_comment as are_of_comment, later_line, later_line_in, own_line, own_line_in, plans, ships, site_line, takes, told, user_line, verb_line, words_in};
 ghost use Rattle.fed_script.specs.LineView.{said_by};
 ghost use Rattle.fed_script.specs.Values.{moment as moment_of, packet as packet_of, site as site_of_roster};
 ghost use Rattle.fed_words.specs.Request.{request_in};
@@ -12,12 +12,12 @@ ghost use Rattle.fed_words.specs.RequestView.{asked_by};
 use crate::askers::{read_who, scheduler};
 use crate::commands::{read_cancel, read_reserve, read_scheduled};
 use crate::forms::{one_word, two_words};
-use crate::lines::{Words, line_words};
-use crate::rosters::{HeldRoster, read_roster};
+use crate::lines::{Words, push_words};
+use crate::rosters::{BoxedRoster, read_roster};
 use crate::values::{read_moment, read_packet};
 use crate::verbs::Verb;
 use fed_lattice::NoMemory;
-use fed_record::{Command, Moment, Who};
+use fed_model::{Command, Moment, Who};
 use fed_stamp::{JobId, Roster, SiteId};
 use fed_words::{Request, UsageFault, read_words};
 use smallvec::SmallVec;
@@ -30,7 +30,7 @@ pub enum Line {
     Skip,
     /// `roster NAME:NODES ..`
     Begin {
-        roster: HeldRoster,
+        roster: BoxedRoster,
     },
     /// Somebody, or the site's own scheduler, asks a site to do this, one command after another.
     Act {
@@ -207,12 +207,12 @@ fn read_site_line(
     let Some((word, others)) = words.split_first() else {
         return Ok(None);
     };
-    if let Some(verb) = Verb::named(word) {
-        return read_verb(alloc, roster, made, site, verb, others);
-    }
-    match read_who(word) {
-        Some(who) => read_user_line(alloc, roster, site, who, others),
-        None => Ok(None),
+    match Verb::named(word) {
+        Some(verb) => read_verb(alloc, roster, made, site, verb, others),
+        None => match read_who(word) {
+            Some(who) => read_user_line(alloc, roster, site, who, others),
+            None => Ok(None),
+        },
     }
 }
 
@@ -274,7 +274,7 @@ fn read_first_words(alloc: Global, words: &[&str]) -> Result<Option<Line>, NoMem
     }
     match read_roster(alloc, others)? {
         Some(roster) => Ok(Some(Line::Begin {
-            roster: HeldRoster::new(alloc, roster)?,
+            roster: BoxedRoster::new(alloc, roster)?,
         })),
         None => Ok(None),
     }
@@ -285,13 +285,21 @@ fn read_first_words(alloc: Global, words: &[&str]) -> Result<Option<Line>, NoMem
 pub fn told_words(alloc: Global, line: &[u8]) -> Result<Option<Words<'_>>, NoMemory>
     ensures { IfOk result (λ words. option_map (λ w. texts_of w.items) words ≡ words_in line.now) }
 {
-    let Some(words) = line_words(alloc, line)? else {
+    let mut words = SmallVec::new(alloc);
+    if !push_words(line, &mut words)? {
         return Ok(None);
-    };
+    }
     if is_comment(words.as_slice()) {
         return Ok(Some(SmallVec::new(alloc)));
     }
     Ok(Some(words))
+}
+
+/// These words, or none where they are those of a comment.
+fn without_comment<'a, 'w>(words: &'w [&'a str]) -> &'w [&'a str]
+    ensures { texts_of result.now ≡ told (texts_of words.now) }
+{
+    if is_comment(words) { &[] } else { words }
 }
 
 /// Whether the words are those of a comment.
@@ -299,7 +307,7 @@ fn is_comment(words: &[&str]) -> bool
     ensures { result ≡ are_of_comment (texts_of words.now) }
 {
     match words.first() {
-        Some(first) => first.starts_with('#'),
+        Some(first) => matches!(first.as_bytes(), [b'#', ..]),
         None => false,
     }
 }
@@ -309,10 +317,11 @@ fn is_comment(words: &[&str]) -> bool
 pub fn read_first_line(alloc: Global, line: &[u8]) -> Result<Option<Line>, NoMemory>
     ensures { IfOk result (λ said. option_map said_by said ≡ first_line_in line.now) }
 {
-    match told_words(alloc, line)? {
-        Some(words) => read_first_words(alloc, words.as_slice()),
-        None => Ok(None),
+    let mut words = SmallVec::new(alloc);
+    if !push_words(line, &mut words)? {
+        return Ok(None);
     }
+    read_first_words(alloc, without_comment(words.as_slice()))
 }
 
 /// What a line says behind the line of the roster, once `made` packets were made. `None` where it can't be read.
@@ -324,10 +333,11 @@ pub fn read_later_line(
 ) -> Result<Option<Line>, NoMemory>
     ensures { IfOk result (λ said. option_map said_by said ≡ later_line_in roster.now made line.now) }
 {
-    match told_words(alloc, line)? {
-        Some(words) => read_later_words(alloc, roster, made, words.as_slice()),
-        None => Ok(None),
+    let mut words = SmallVec::new(alloc);
+    if !push_words(line, &mut words)? {
+        return Ok(None);
     }
+    read_later_words(alloc, roster, made, without_comment(words.as_slice()))
 }
 
 /// What a line says at a site by itself: what a script's line says that has the site's name in front, where no packet has
@@ -340,8 +350,9 @@ pub fn read_own_line(
 ) -> Result<Option<Line>, NoMemory>
     ensures { IfOk result (λ said. option_map said_by said ≡ own_line_in roster.now here line.now) }
 {
-    match told_words(alloc, line)? {
-        Some(words) => read_own_words(alloc, roster, here, words.as_slice()),
-        None => Ok(None),
+    let mut words = SmallVec::new(alloc);
+    if !push_words(line, &mut words)? {
+        return Ok(None);
     }
+    read_own_words(alloc, roster, here, without_comment(words.as_slice()))
 }

@@ -2,7 +2,7 @@
 ghost use Rattle.std.specs.Prelude.{◌≡◌};
 ghost use Rattle.fed_script.specs.Values.{identifier, moment, packet, status};
 
-use fed_record::Moment;
+use fed_model::Moment;
 use fed_stamp::{JobId, Roster, SiteId};
 use fed_words::{read_identifier, read_number};
 

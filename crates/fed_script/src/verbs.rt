@@ -1,4 +1,4 @@
-//! Verbs.
+//! The words that say what a line asks of its site, where no user stands.
 ghost use Rattle.std.specs.Prelude.{◌≡◌};
 ghost use Rattle.fed_script.specs.Verb.{verb_named};
 
@@ -26,14 +26,14 @@ impl Verb {
     pub fn named(word: &str) -> Option<Verb>
         ensures { result ≡ verb_named word.now }
     {
-        match word {
-            "grant" => Some(Verb::Grant),
-            "begin" => Some(Verb::Begin),
-            "finish" => Some(Verb::Finish),
-            "handback" => Some(Verb::HandBack),
-            "ship" => Some(Verb::Ship),
-            "take" => Some(Verb::Take),
-            "plan" => Some(Verb::Plan),
+        match word.as_bytes() {
+            b"grant" => Some(Verb::Grant),
+            b"begin" => Some(Verb::Begin),
+            b"finish" => Some(Verb::Finish),
+            b"handback" => Some(Verb::HandBack),
+            b"ship" => Some(Verb::Ship),
+            b"take" => Some(Verb::Take),
+            b"plan" => Some(Verb::Plan),
             _ => None,
         }
     }

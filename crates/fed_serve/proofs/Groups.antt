@@ -12,7 +12,7 @@ use Rattle.fed_journal.specs.Device.{LeavesOnly}
 use Rattle.fed_journal.specs.Journal.{IsBeforeOrAfter, entries_in, entries_of}
 use Rattle.fed_journal.specs.Lines.{Reading, recovered}
 use Rattle.fed_journal.proofs.Moments.{both, still, weaker}
-use Rattle.fed_home.specs.Home.{IsOpen, held_by, home_device, site_of}
+use Rattle.fed_home.specs.Home.{IsOpen, state_in, home_device, site_of}
 use Rattle.fed_home.specs.Replay.{AreReplies, Replayed, replay, replayed_of}
 use Rattle.fed_home.specs.declared.faults.HomeFault.TheVariants as home
 use Rattle.fed_home.specs.declared.homes.Home.{Home}
@@ -108,14 +108,14 @@ module _ {D : Type 0} (seen : D → List ℕ) (may_leave : D → List ℕ → Ty
     roster = refl;
     left = refl;
     kept = open_entries home opened ∙ ap Ok (sym (append-nil (entries_in (seen (home_device home)))));
-    answered = answered_none (site_of home).roster (held_by home) known;
+    answered = answered_none (site_of home).roster (state_in home) known;
   }
 
   served_both : (old mid new : Home D) (first second : List (List ℕ)) (a b c : Option (List ℕ)) → HasServed seen may_leave old mid first a b → HasServed seen may_leave mid new second b c
       → HasServed seen may_leave old new (first ++ second) a c
   served_both old mid new first second a b c one two =
       let r = (site_of old).roster in
-      let s = held_by old in
+      let s = state_in old in
       let e = entries_in (seen (home_device old)) in
       record {
         is_open = two.is_open;
@@ -124,7 +124,7 @@ module _ {D : Type 0} (seen : D → List ℕ) (may_leave : D → List ℕ → Ty
         kept = two.kept ∙ (λ i. Ok (entries_of (one.kept i) ++ kept_lines (one.roster i) (one.left i) second))
             ∙ ap Ok (append_assoc e (kept_lines r s first) (kept_lines r (after_lines r s first) second) ∙ ap (λ ls. e ++ ls) (sym (kept_both r s first second)));
         answered = answered_both r s first second a b c one.answered
-            (subst (λ (t : State). HasAnswered r t second b c) one.left (subst (λ (q : List (List ℕ × ℕ)). HasAnswered q (held_by mid) second b c) one.roster two.answered));
+            (subst (λ (t : State). HasAnswered r t second b c) one.left (subst (λ (q : List (List ℕ × ℕ)). HasAnswered q (state_in mid) second b c) one.roster two.answered));
       }
 
   -- ---- crashes
@@ -141,11 +141,11 @@ module _ {D : Type 0} (seen : D → List ℕ) (may_leave : D → List ℕ → Ty
   module _ (moment : D → ℕ) (left_since : D → ℕ → List ℕ → Type 0) where
     -- what a crash leaves from one site to another, by the lines that are served
     abbrev Leaves : Home D → Home D → List (List ℕ) → Type 0
-    Leaves old new all = LeavesOnly moment left_since (home_device old) (home_device new) (KeepsSome (site_of old).roster (held_by old) (entries_in (seen (home_device old))) all)
+    Leaves old new all = LeavesOnly moment left_since (home_device old) (home_device new) (KeepsSome (site_of old).roster (state_in old) (entries_in (seen (home_device old))) all)
 
     abbrev LeavesGroup : Home D → Home D → List (List ℕ) → Type 0
     LeavesGroup old new group = LeavesOnly moment left_since (home_device old) (home_device new)
-        (IsBeforeOrAfter (entries_in (seen (home_device old))) (kept_lines (site_of old).roster (held_by old) group))
+        (IsBeforeOrAfter (entries_in (seen (home_device old))) (kept_lines (site_of old).roster (state_in old) group))
 
     leaves_none : (home : Home D) (all : List (List ℕ)) → IsOpen seen may_leave home → ((c : List ℕ) → left_since (home_device home) (moment (home_device home)) c → may_leave (home_device home) c) → Leaves home home all
     leaves_none home all opened only = still moment left_since (home_device home) _
@@ -155,7 +155,7 @@ module _ {D : Type 0} (seen : D → List ℕ) (may_leave : D → List ℕ → Ty
         → Leaves old mid all → LeavesGroup mid new group → Leaves old new all
     leaves_more old mid new all first group rest a b one is run more =
         let r = (site_of old).roster in
-        let s = held_by old in
+        let s = state_in old in
         let e = entries_in (seen (home_device old)) in
         both moment left_since (home_device old) (home_device mid) (home_device new) _ run
         (weaker moment left_since (home_device mid) (home_device new) _ _
@@ -275,10 +275,10 @@ module _ {D : Type 0} (seen : D → List ℕ) (may_leave : D → List ℕ → Ty
     first_lines (Some input) (Some more) given begun come = (lines_in (begun ++ more), come)
 
     stopped : (old mid new : Home D) (had has : Option (List ℕ)) (begun : List ℕ) (a b c : Option (List ℕ)) → IsServing old mid had has begun a b → Keeps b c
-        → IfSome had (λ input. (first : List (List ℕ)) × (rest : List (List ℕ)) × (lines_in input ≡ first ++ rest) × HasAnswered (site_of old).roster (held_by old) first a c)
+        → IfSome had (λ input. (first : List (List ℕ)) × (rest : List (List ℕ)) × (lines_in input ≡ first ++ rest) × HasAnswered (site_of old).roster (state_in old) first a c)
     stopped old mid new had has begun a b c run same =
         if_some_so had _ _ (first_lines had has run.given begun run.come)
-        (λ input rest. (run.given, rest.0, rest.1, answered_kept (site_of old).roster (held_by old) run.given a b c run.served.answered same))
+        (λ input rest. (run.given, rest.0, rest.1, answered_kept (site_of old).roster (state_in old) run.given a b c run.served.answered same))
 
     pub serving_fault : (old mid new : Home D) (had has : Option (List ℕ)) (begun : List ℕ) (a b c : Option (List ℕ)) (fault : ServeFault) → IsServing old mid had has begun a b → WritesNothing b c fault
         → IfSome had (λ input. ServesAs seen may_leave old new (lines_in input) a c (Err fault))

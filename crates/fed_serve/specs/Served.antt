@@ -9,7 +9,7 @@ use Rattle.fed_site.specs.Journal.{after_lines, kept_lines}
 use Rattle.fed_site.specs.declared.site.Answered.{Answered}
 use Rattle.fed_journal.specs.Journal.{entries_in}
 use Rattle.fed_journal.specs.Lines.{recovered}
-use Rattle.fed_home.specs.Home.{IsOpen, held_by, home_device, site_of}
+use Rattle.fed_home.specs.Home.{IsOpen, state_in, home_device, site_of}
 use Rattle.fed_home.specs.Replay.{AreReplies}
 use Rattle.fed_home.specs.declared.faults.HomeFault.TheVariants as home
 use Rattle.fed_home.specs.declared.homes.Home.{Home}
@@ -30,16 +30,16 @@ module _ {D : Type 0} (seen : D → List ℕ) (may_leave : D → List ℕ → Ty
   pub record HasServed (old new : Home D) (given : List (List ℕ)) (before after : Option (List ℕ)) : Type 0 where
     pub is_open : IsOpen seen may_leave new
     pub roster : (site_of new).roster ≡ (site_of old).roster
-    pub left : held_by new ≡ after_lines (site_of old).roster (held_by old) given
-    pub kept : recovered (seen (home_device new)) ≡ Ok (entries_in (seen (home_device old)) ++ kept_lines (site_of old).roster (held_by old) given)
-    pub answered : HasAnswered (site_of old).roster (held_by old) given before after
+    pub left : state_in new ≡ after_lines (site_of old).roster (state_in old) given
+    pub kept : recovered (seen (home_device new)) ≡ Ok (entries_in (seen (home_device old)) ++ kept_lines (site_of old).roster (state_in old) given)
+    pub answered : HasAnswered (site_of old).roster (state_in old) given before after
 
   -- How it ends: all lines are served; or a write failed, and nothing is said of what was written; or the answers to some first lines were.
   abbrev pub ServesAs : Home D → Home D → List (List ℕ) → Option (List ℕ) → Option (List ℕ) → Result (Unit {0}) ServeFault → Type 0
   ServesAs old new given before after (Ok done) = HasServed old new given before after
   ServesAs old new given before after (Err (serve.Write error)) = ⊤
   ServesAs old new given before after (Err fault) =
-      (first : List (List ℕ)) × (rest : List (List ℕ)) × (given ≡ first ++ rest) × HasAnswered (site_of old).roster (held_by old) first before after
+      (first : List (List ℕ)) × (rest : List (List ℕ)) × (given ≡ first ++ rest) × HasAnswered (site_of old).roster (state_in old) first before after
 
 -- a file that has, behind these entries, what some first lines keep
 abbrev pub KeepsSome : List (List ℕ × ℕ) → State → List (List ℕ) → List (List ℕ) → List ℕ → Type 0

@@ -5,7 +5,7 @@ ghost use Rattle.std.specs.declared.io.Error.{Error};
 ghost use Rattle.fed_journal.specs.Device.{LeavesOnly};
 ghost use Rattle.fed_journal.specs.Journal.{IsBeforeOrAfter, entries_in};
 ghost use Rattle.fed_site.specs.Journal.{kept_lines};
-ghost use Rattle.fed_home.specs.Home.{IsOpen, held_by, home_device, site_of};
+ghost use Rattle.fed_home.specs.Home.{IsOpen, state_in, home_device, site_of};
 ghost use Rattle.fed_serve.specs.Served.{HasServed, KeepsSome, ServesAs, StopsServing, WritesNothing, answered_text};
 ghost use Rattle.fed_serve.specs.Inputs.{lines_in};
 
@@ -67,7 +67,7 @@ fn answer_text<D: Device + Drop, W: Write>(
     ensures nothing { IfErr result (WritesNothing (W.contents writer.old) (W.contents writer.new)) }
     ensures any_moment { LeavesOnly D.moment D.left_since (home_device home.old) (home_device home.new)
         (IsBeforeOrAfter (entries_in (D.seen (home_device home.old)))
-        (kept_lines (site_of home.old).roster (held_by home.old) (lines_in text.now))) }
+        (kept_lines (site_of home.old).roster (state_in home.old) (lines_in text.now))) }
     ensures fault { IfErr result (StopsServing (D.errors (home_device home.new))) }
 {
     let lines = heard_lines(alloc, text)?;
@@ -98,7 +98,7 @@ pub fn serve<D: Device + Drop, R: Read, W: Write>(
     // A crash at any moment of the call leaves the entries from before it and, behind them, what some first lines keep.
     ensures any_moment { IfSome (R.remaining reader.old) (λ input.
         LeavesOnly D.moment D.left_since (home_device home.old) (home_device home.new)
-        (KeepsSome (site_of home.old).roster (held_by home.old) (entries_in (D.seen (home_device home.old))) (lines_in input))) }
+        (KeepsSome (site_of home.old).roster (state_in home.old) (entries_in (D.seen (home_device home.old))) (lines_in input))) }
     ensures fault { IfErr result (StopsServing (D.errors (home_device home.new))) }
 {
     let mut chunk = vec![in alloc; 0u8; CHUNK_BYTES]?;

@@ -207,9 +207,9 @@ fn words_make_a_line(rt: HostRuntime) -> Result<(), Fail> {
     Ok(())
 }
 
-// Whichever growth is refused, a second attempt answers all.
+// Whichever allocation fails, a second attempt answers all.
 #[test]
-fn refused_growths_of_an_input(rt: HostRuntime) -> Result<(), Fail> {
+fn failed_allocations_of_an_input(rt: HostRuntime) -> Result<(), Fail> {
     for _ in 0..2 {
         match served(rt.alloc(), INPUT, 9) {
             Ok((output, _)) => {

@@ -8,24 +8,23 @@ use Rattle.fed_stamp.specs.declared.versions.ClockFull.{ClockFull}
 use Rattle.fed_stamp.specs.Stamp.{StampValue}
 use Rattle.fed_stamp.specs.Version.{IsVersion, counter_of, is_below, next_stamp, raised}
 use Rattle.fed_stamp.proofs.VersionLaws.{below_itself, not_below_from_place}
-use Rattle.fed_record.specs.declared.askers.Who.{Who}
-use Rattle.fed_record.specs.declared.commands.Command.{Command}
-use Rattle.fed_record.specs.declared.refusals.Refusal.{Refusal}
-use Rattle.fed_record.specs.declared.replies.Reply.{Reply}
-use Rattle.fed_record.specs.Body.{Body}
-use Rattle.fed_board.specs.Board.{reads}
-use Rattle.fed_board.specs.View.{View}
-use Rattle.fed_board.specs.ViewSteps.{add_to_view}
-use Rattle.fed_desk.specs.Desk.{first_of}
-use Rattle.fed_replica.specs.Answer.{Answer, Answer.Refuses, Answer.Replies, adds as adds_body, answer_to, answer_unless, effect, replies, reply_with, reply_without}
-use Rattle.fed_replica.specs.Refusals.{refusals}
+use Rattle.fed_model.specs.declared.askers.Who.{Who}
+use Rattle.fed_model.specs.declared.commands.Command.{Command}
+use Rattle.fed_model.specs.declared.refusals.Refusal.{Refusal}
+use Rattle.fed_model.specs.declared.replies.Reply.{Reply}
+use Rattle.fed_model.specs.Body.{Body}
+use Rattle.fed_board.specs.Board.{board_reads}
+use Rattle.fed_model.specs.View.{View}
+use Rattle.fed_theory.specs.ViewSteps.{add_to_view}
+use Rattle.fed_model.specs.Desk.{first_of}
+use Rattle.fed_model.specs.Answer.{Answer, Answer.Refuses, Answer.Replies, adds as adds_body, answer_to, answer_unless, effect, replies, reply_with, reply_without}
+use Rattle.fed_model.specs.Refusals.{refusals}
 use Rattle.fed_replica.specs.Replica.{ReplicaValue, IsDone}
-use Rattle.fed_replica.proofs.NextStamps.{next_is, next_uncovered}
-use Rattle.fed_world.specs.declared.outcomes.Outcome.{Outcome}
-use Rattle.fed_replica.specs.State.{State}
+use Rattle.fed_theory.proofs.NextStamps.{next_is, next_uncovered}
+use Rattle.fed_model.specs.declared.outcomes.Outcome.{Outcome}
+use Rattle.fed_replica.specs.State.{State, state_of}
 use Rattle.fed_answers.specs.Outcome.{answer_line, outcome_text, reply_text}
 use Rattle.fed_site.specs.Acts.{DoneAs, line_for, next_line, stamp_line}
-use Rattle.fed_replica.specs.State.{state_of}
 use Rattle.fed_site.specs.declared.complaints.Complaint.{Complaint}
 use Rattle.fed_site.specs.Says.{Done, after_command, after_commands, does, followed}
 
@@ -94,9 +93,9 @@ grown v here t lawful small e =
 
 module _ (roster : List (List ℕ × ℕ)) (old new : ReplicaValue) (who : Who) (index : ℕ) (command : Command) (site : new.site ≡ old.site) (heard : new.heard ≡ old.heard) where
   abbrev v : View
-  v = reads old.board
+  v = board_reads old.board
 
-  reads_as : (w : View) → reads new.board ≡ w → state_of new ≡ record { site = old.site; view = w; heard = (state_of old).heard }
+  reads_as : (w : View) → board_reads new.board ≡ w → state_of new ≡ record { site = old.site; view = w; heard = (state_of old).heard }
   reads_as w e = λ i. record { site = site i; view = e i; heard = λ from. if nat_lt from 16 then get_or (heard i) from (replicate 16 0) else replicate 16 0 }
 
   -- ---- a reply
@@ -105,8 +104,8 @@ module _ (roster : List (List ℕ × ℕ)) (old new : ReplicaValue) (who : Who) 
     did r = Ok r
 
     abbrev Acted : Answer → Type 0
-    Acted a = IsDone a v (Ok reply) (reads new.board)
-        → DoneAs new (line_for (next_line roster v.version old.site command) reply) (not (is_below (reads new.board).version v.version)) None (does roster (state_of old) index a)
+    Acted a = IsDone a v (Ok reply) (board_reads new.board)
+        → DoneAs new (line_for (next_line roster v.version old.site command) reply) (not (is_below (board_reads new.board).version v.version)) None (does roster (state_of old) index a)
 
     acted_refused : (r : Refusal) → Acted (Refuses r)
     acted_refused r d = let h : did reply ≡ Err r = d.0 in cc
@@ -130,8 +129,8 @@ module _ (roster : List (List ℕ × ℕ)) (old new : ReplicaValue) (who : Who) 
       complains = refl;
     }
 
-    pub acted : IsDone (answer_to v old.site who command) v (Ok reply) (reads new.board)
-        → DoneAs new (line_for (next_line roster v.version old.site command) reply) (not (is_below (reads new.board).version v.version)) None (after_command roster (state_of old) who index command)
+    pub acted : IsDone (answer_to v old.site who command) v (Ok reply) (board_reads new.board)
+        → DoneAs new (line_for (next_line roster v.version old.site command) reply) (not (is_below (board_reads new.board).version v.version)) None (after_command roster (state_of old) who index command)
     acted d = answer_cases v old.site who command Acted acted_refused acted_nothing acted_added d
 
   -- ---- a refusal
@@ -140,7 +139,7 @@ module _ (roster : List (List ℕ × ℕ)) (old new : ReplicaValue) (who : Who) 
     denied r = Err r
 
     abbrev Refused : Answer → Type 0
-    Refused a = IsDone a v (Err refusal) (reads new.board) → DoneAs new (answer_line (outcome_text roster (Outcome.Refused refusal))) false (Some (Complaint.Refused index refusal)) (does roster (state_of old) index a)
+    Refused a = IsDone a v (Err refusal) (board_reads new.board) → DoneAs new (answer_line (outcome_text roster (Outcome.Refused refusal))) false (Some (Complaint.Refused index refusal)) (does roster (state_of old) index a)
 
     was_refused : (a : Answer) → Refused a
     was_refused (Refuses r) d =
@@ -149,7 +148,7 @@ module _ (roster : List (List ℕ × ℕ)) (old new : ReplicaValue) (who : Who) 
     was_refused (Replies r None) d = let h : denied refusal ≡ Ok r = d.0 in cc
     was_refused (Replies r (Some new)) d = absurd (other d.0)
 
-    pub refused : IsDone (answer_to v old.site who command) v (Err refusal) (reads new.board)
+    pub refused : IsDone (answer_to v old.site who command) v (Err refusal) (board_reads new.board)
         → DoneAs new (answer_line (outcome_text roster (Outcome.Refused refusal))) false (Some (Complaint.Refused index refusal)) (after_command roster (state_of old) who index command)
     refused d = was_refused (answer_to v old.site who command) d
 

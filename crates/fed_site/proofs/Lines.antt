@@ -3,12 +3,11 @@ use Rattle.std.specs.Prelude.{map, Option, Some, None, is_none, option_map, if�
 use Rattle.std.specs.Borrow.{Bor}
 use Rattle.std.proofs.Common.{◌≡◌, ℕ, ◌+◌, ◌<◌, Bool, false, List, ◌∷◌, drop, drop-cons, add-one, get_or, length, refl, sym, ap, subst, ◌∙◌}
 use Rattle.fed_stamp.specs.Stamp.{StampValue}
-use Rattle.fed_board.specs.Board.{reads}
-use Rattle.fed_replica.specs.State.{State}
+use Rattle.fed_board.specs.Board.{board_reads}
+use Rattle.fed_replica.specs.State.{State, state_of}
 use Rattle.fed_script.specs.Line.{Line, lists, plans}
 use Rattle.fed_answers.specs.Listed.{listed}
 use Rattle.fed_site.specs.Journal.{SaidAs, after_lines}
-use Rattle.fed_replica.specs.State.{state_of}
 use Rattle.fed_site.specs.Site.{SiteValue}
 use Rattle.fed_answers.specs.Planned.{plan_if_any, plan_or_none}
 use Rattle.fed_site.specs.declared.complaints.Complaint.{Complaint}
@@ -16,7 +15,7 @@ use Rattle.fed_site.specs.declared.site.Answered.{Answered}
 use Rattle.fed_site.specs.Answered.{bytes_of, complaint_of, kept_of}
 use Rattle.fed_site.specs.Says.{after_line, after_plan, said_of, site_says}
 
-pub lists_said : (v : SiteValue) (said : Line) (site : ℕ) (full : Bool) (jobs : List StampValue) (a : Answered) → kept_of a ≡ false → complaint_of a ≡ None → said ≡ lists site full jobs → bytes_of a ≡ listed full v.roster (reads v.replica.board) jobs
+pub lists_said : (v : SiteValue) (said : Line) (site : ℕ) (full : Bool) (jobs : List StampValue) (a : Answered) → kept_of a ≡ false → complaint_of a ≡ None → said ≡ lists site full jobs → bytes_of a ≡ listed full v.roster (board_reads v.replica.board) jobs
     → SaidAs v v a (after_line v.roster (state_of v.replica) said)
 lists_said v said site full jobs a k n e f = subst (λ (l : Line). SaidAs v v a (after_line v.roster (state_of v.replica) l)) (sym e) (record { roster = refl; after = refl; reply = f; keeps = k; complains = n })
 
@@ -34,7 +33,7 @@ plan_said v (Some text) a k n f = record { roster = refl; after = refl; reply = 
 plan_said v None a k n f = record { roster = refl; after = refl; reply = f; keeps = k; complains = n }
 
 pub plans_said : {A : Type 0} (bytes : A → List ℕ) (plan : Option A) (v : SiteValue) (said : Line) (site moment : ℕ) (a : Answered) → kept_of a ≡ false → complaint_of a ≡ unplanned (is_none plan) → said ≡ plans site moment
-    → bytes_of a ≡ plan_or_none (option_map bytes plan) → option_map bytes plan ≡ plan_if_any v.roster (reads v.replica.board) v.replica.site moment → SaidAs v v a (after_line v.roster (state_of v.replica) said)
+    → bytes_of a ≡ plan_or_none (option_map bytes plan) → option_map bytes plan ≡ plan_if_any v.roster (board_reads v.replica.board) v.replica.site moment → SaidAs v v a (after_line v.roster (state_of v.replica) said)
 plans_said bytes plan v said site moment a k n e f is =
     subst (λ (l : Line). SaidAs v v a (after_line v.roster (state_of v.replica) l)) (sym e)
     (subst (λ (o : Option (List ℕ)). SaidAs v v a (said_of (after_plan (state_of v.replica) o))) is

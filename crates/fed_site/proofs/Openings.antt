@@ -1,8 +1,8 @@
 -- A site that holds nothing.
 use Rattle.std.specs.Prelude.{if◌then◌else◌, nat_lt}
 use Rattle.std.proofs.Common.{◌≡◌, ℕ, zero, suc, Bool, true, false, List, [], get_or, replicate, refl, ap, ◌∙◌}
-use Rattle.fed_board.specs.Board.{reads}
-use Rattle.fed_board.specs.View.{view}
+use Rattle.fed_board.specs.Board.{board_reads}
+use Rattle.fed_model.specs.View.{view}
 use Rattle.fed_replica.specs.Replica.{ReplicaValue}
 use Rattle.fed_replica.specs.State.{empty_at, state_of}
 
@@ -16,7 +16,7 @@ either : (b : Bool) (x z : List ℕ) → x ≡ z → (if b then x else z) ≡ z
 either true x z e = e
 either false x z e = refl
 
-pub new_state : (r : ReplicaValue) (here : ℕ) → r.site ≡ here → r.heard ≡ replicate 16 (replicate 16 0) → reads r.board ≡ view [] → state_of r ≡ empty_at here
+pub new_state : (r : ReplicaValue) (here : ℕ) → r.site ≡ here → r.heard ≡ replicate 16 (replicate 16 0) → board_reads r.board ≡ view [] → state_of r ≡ empty_at here
 new_state r here site heard stands = λ i. record { site = site i; view = stands i; heard = λ from. nothing from i }
   where
     nothing : (from : ℕ) → (if nat_lt from 16 then get_or r.heard from (replicate 16 0) else replicate 16 0) ≡ replicate 16 0

@@ -1,12 +1,12 @@
 -- What isn't kept changes nothing.
 use Rattle.std.specs.Prelude.{Some, None, Option, Result, Ok, Err, is_none, if◌then◌else◌, ◌||◌, codes}
 use Rattle.std.proofs.Common.{◌≡◌, ℕ, ◌+◌, Bool, true, false, List, [], ◌∷◌, ◌++◌, refl, sym, ap, ◌∙◌}
-use Rattle.fed_record.specs.declared.askers.Who.{Who}
-use Rattle.fed_record.specs.declared.commands.Command.{Command}
+use Rattle.fed_model.specs.declared.askers.Who.{Who}
+use Rattle.fed_model.specs.declared.commands.Command.{Command}
 use Rattle.fed_wire.specs.declared.faults.WireFault.{WireFault}
 use Rattle.fed_wire.specs.Packet.{PacketValue}
 use Rattle.fed_wire.specs.Reading.{packet_in}
-use Rattle.fed_replica.specs.Answer.{Answer, Answer.Refuses, Answer.Replies, answer_to}
+use Rattle.fed_model.specs.Answer.{Answer, Answer.Refuses, Answer.Replies, answer_to}
 use Rattle.fed_replica.specs.State.{State, after_answer, after_packet_unless, lacking}
 use Rattle.fed_script.specs.Line.{Line, skips, begins, acts, lists, misuses, ships, takes, plans, compares, own_line_in}
 use Rattle.fed_answers.specs.Outcome.{answer_line}

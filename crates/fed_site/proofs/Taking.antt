@@ -4,19 +4,18 @@ use Rattle.std.proofs.Common.{◌≡◌, ℕ, ◌<◌, ◌==◌, Bool, true, fal
 use Rattle.std.proofs.lemmas.Bool.{eqb-true, ltb-false, ltb-true, lt-ltb}
 use Rattle.fed_stamp.specs.Indexes.{put}
 use Rattle.fed_stamp.specs.Version.{is_below, joined, IsFirstAbove}
-use Rattle.fed_board.specs.Board.{reads}
-use Rattle.fed_board.specs.ViewSteps.{join_records}
+use Rattle.fed_board.specs.Board.{board_reads}
+use Rattle.fed_theory.specs.ViewSteps.{join_records}
 use Rattle.fed_wire.specs.Packet.{PacketValue}
-use Rattle.fed_replica.specs.declared.taken.Taken.{Taken}
+use Rattle.fed_model.specs.declared.taken.Taken.{Taken}
 use Rattle.fed_replica.specs.Replica.{ReplicaValue, heard_from}
-use Rattle.fed_world.specs.declared.outcomes.Outcome.{Outcome}
-use Rattle.fed_world.proofs.Posts.{none_missing}
+use Rattle.fed_model.specs.declared.outcomes.Outcome.{Outcome}
+use Rattle.fed_theory.proofs.Posts.{none_missing}
 use Rattle.fed_world.proofs.SentLaws.{first_missing}
-use Rattle.fed_replica.specs.State.{State, lacking, after_packet_unless}
+use Rattle.fed_replica.specs.State.{State, lacking, after_packet_unless, state_of}
 use Rattle.fed_world.specs.Outcome.{outcome_of_packet_unless}
 use Rattle.fed_answers.specs.Outcome.{answer_line, outcome_text}
 use Rattle.fed_site.specs.Acts.{DoneAs}
-use Rattle.fed_replica.specs.State.{state_of}
 use Rattle.fed_site.specs.declared.complaints.Complaint.{Complaint}
 use Rattle.fed_site.specs.Says.{after_receipt}
 
@@ -38,7 +37,7 @@ module _ (roster : List (List ℕ × ℕ)) (old new : ReplicaValue) (p : PacketV
 
   -- ---- it is taken
   module _ (told : Taken) (grew : told.grew ≡ not (is_below p.delta.changes.version old.board.version)) (site : new.site ≡ old.site)
-      (below : is_below p.delta.need old.board.version ≡ true) (board : reads new.board ≡ join_records (reads old.board) (reads p.delta.changes)) (sent : p.sender < 16)
+      (below : is_below p.delta.need old.board.version ≡ true) (board : board_reads new.board ≡ join_records (board_reads old.board) (board_reads p.delta.changes)) (sent : p.sender < 16)
       (heard : (from : ℕ) → from < 16 → heard_from new from ≡ put (heard_from old) p.sender (joined (heard_from old p.sender) p.delta.changes.version) from) where
     enough : lacking s p ≡ None
     enough = none_missing p.delta.need old.board.version below

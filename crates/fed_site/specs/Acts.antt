@@ -3,9 +3,9 @@ use Rattle.std.specs.Prelude.{◌≡◌, ℕ, Bool, List, [], codes, Option, Res
 use Rattle.fed_stamp.specs.declared.versions.ClockFull.{ClockFull}
 use Rattle.fed_stamp.specs.Stamp.{StampValue}
 use Rattle.fed_stamp.specs.Version.{next_stamp}
-use Rattle.fed_record.specs.declared.commands.Command.{Command}
-use Rattle.fed_record.specs.declared.replies.Reply.{Reply}
-use Rattle.fed_record.specs.declared.replies.Reply.TheVariants.{Submitted, Done as IsDone, Granted, Yours, Reserved}
+use Rattle.fed_model.specs.declared.commands.Command.{Command}
+use Rattle.fed_model.specs.declared.replies.Reply.{Reply}
+use Rattle.fed_model.specs.declared.replies.Reply.TheVariants.{Submitted, Done as IsDone, Granted, Yours, Reserved}
 use Rattle.fed_replica.specs.Replica.{ReplicaValue}
 use Rattle.fed_qstat.specs.Identifier.{identifier_text}
 use Rattle.fed_answers.specs.Outcome.{answer_line}

@@ -1,7 +1,6 @@
 -- The lines that a site keeps, and their replay.
 use Rattle.std.specs.Prelude.{◌≡◌, ℕ, Bool, List, [], ◌∷◌, ◌++◌, if◌then◌else◌}
-use Rattle.fed_replica.specs.State.{State}
-use Rattle.fed_replica.specs.State.{state_of}
+use Rattle.fed_replica.specs.State.{State, state_of}
 use Rattle.fed_site.specs.declared.site.Answered.{Answered}
 use Rattle.fed_site.specs.Answered.{bytes_of, kept_of, complaint_of}
 use Rattle.fed_site.specs.Site.{SiteValue}

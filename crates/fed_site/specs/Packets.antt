@@ -6,10 +6,10 @@ use Rattle.serde_json.specs.Written.{compact_text}
 use Rattle.fed_stamp.specs.Version.{counter_of, met}
 use Rattle.fed_lattice.specs.History.{History}
 use Rattle.fed_lattice.specs.VersionOf.{version_of}
-use Rattle.fed_record.specs.Body.{Body}
-use Rattle.fed_board.specs.Board.{reads}
-use Rattle.fed_board.specs.Lawful.{IsLawful}
-use Rattle.fed_board.specs.View.{view}
+use Rattle.fed_model.specs.Body.{Body}
+use Rattle.fed_board.specs.Board.{board_reads}
+use Rattle.fed_model.specs.Lawful.{IsLawful}
+use Rattle.fed_model.specs.View.{view}
 use Rattle.fed_delta.specs.Cut.{cut}
 use Rattle.fed_job_json.specs.declared.formats.Format.TheVariants.{Two}
 use Rattle.fed_wire.specs.declared.faults.Part.{Part}
@@ -17,7 +17,7 @@ use Rattle.fed_wire.specs.declared.faults.Part.TheVariants.{Whole, Sender, Need,
 use Rattle.fed_wire.specs.declared.faults.Place.{Place}
 use Rattle.fed_wire.specs.declared.faults.WireFault.{WireFault}
 use Rattle.fed_wire.specs.declared.faults.WireFault.TheVariants.{NotJson, Version, Shape, Range, NoMemory}
-use Rattle.fed_wire.specs.Limits.{IsWithinLimits}
+use Rattle.fed_model.specs.Limits.{IsWithinLimits}
 use Rattle.fed_wire.specs.Packet.{PacketValue, IsPacket, packet_value}
 use Rattle.fed_wire.specs.Reading.{text_value}
 use Rattle.fed_replica.specs.State.{State, IsMadeFor}
@@ -53,7 +53,7 @@ is_forgotten s p = nat_lt (counter_of s.view.version s.site) (counter_of p.delta
 -- a packet is within limits where it tells of a lawful set that is, as each packet does that is told of a board
 abbrev pub IsWithinLimitsOfSets : PacketValue → Type 0
 IsWithinLimitsOfSets p = (ops : History Body) (seen : List ℕ) → IsLawful ops → IsWithinLimits ops →
-    p.delta.need ≡ met seen (version_of ops) → reads p.delta.changes ≡ cut (view ops) p.delta.need → IsPacket Two p
+    p.delta.need ≡ met seen (version_of ops) → board_reads p.delta.changes ≡ cut (view ops) p.delta.need → IsPacket Two p
 
 -- the text of the packet that a site makes for another: format 2, and read as the packet's value again
 pub record IsPacketText (s : State) (to : ℕ) (bytes : List ℕ) : Type 0 where

@@ -1,14 +1,15 @@
 -- What a site says to a line, what it holds then, whether the line is to be kept, and why it isn't done as it asks.
 use Rattle.std.specs.Prelude.{◌≡◌, ℕ, ◌+◌, Bool, true, false, ◌||◌, List, [], ◌∷◌, ◌++◌, codes, Option, Some, None, is_none, Result, Ok, Err, if◌then◌else◌}
 use Rattle.std.specs.Option.{option_map, option_or}
-use Rattle.fed_record.specs.declared.askers.Who.{Who}
-use Rattle.fed_record.specs.declared.commands.Command.{Command}
+use Rattle.fed_model.specs.declared.askers.Who.{Who}
+use Rattle.fed_model.specs.declared.commands.Command.{Command}
 use Rattle.fed_wire.specs.declared.faults.WireFault.{WireFault}
 use Rattle.fed_wire.specs.Packet.{PacketValue}
 use Rattle.fed_wire.specs.Reading.{packet_in}
-use Rattle.fed_replica.specs.Answer.{Answer, Answer.Refuses, Answer.Replies, answer_to}
+use Rattle.fed_model.specs.Answer.{Answer, Answer.Refuses, Answer.Replies, answer_to}
 use Rattle.fed_replica.specs.State.{State, after_answer, after_packet_unless, lacking}
-use Rattle.fed_world.specs.Outcome.{outcome_of_answer, outcome_of_packet_unless}
+use Rattle.fed_model.specs.Outcome.{outcome_of_answer}
+use Rattle.fed_world.specs.Outcome.{outcome_of_packet_unless}
 use Rattle.fed_script.specs.Line.{Line, skips, acts, lists, misuses, ships, plans, own_line_in}
 use Rattle.fed_answers.specs.Outcome.{answer_line, outcome_text, usage_line}
 use Rattle.fed_answers.specs.Planned.{plan_if_any, plan_or_none}

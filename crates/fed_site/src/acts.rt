@@ -1,9 +1,9 @@
 //! What a site does to commands.
 ghost use Rattle.std.specs.Prelude.{◌≡◌, ◌≢◌, ◌||◌, false, Some, None, Err, IfOk, OnErr};
 ghost use Rattle.std.specs.Cow.{cow_str_bytes};
-ghost use Rattle.fed_board.specs.Board.{reads};
-ghost use Rattle.fed_record.specs.declared.refusals.Refusal.{Refusal};
-ghost use Rattle.fed_world.specs.declared.outcomes.Outcome.{Outcome};
+ghost use Rattle.fed_board.specs.Board.{board_reads};
+ghost use Rattle.fed_model.specs.declared.refusals.Refusal.{Refusal};
+ghost use Rattle.fed_model.specs.declared.outcomes.Outcome.{Outcome};
 ghost use Rattle.fed_answers.specs.Outcome.{answer_line, outcome_text};
 ghost use Rattle.fed_site.specs.declared.complaints.Complaint.{Complaint};
 ghost use Rattle.fed_site.specs.Acts.{DoneAs, line_for, next_line};
@@ -11,12 +11,12 @@ ghost use Rattle.fed_replica.specs.State.{state_of};
 ghost use Rattle.fed_site.specs.Says.{after_command, after_commands};
 
 use crate::complaints::Complaint;
-use fed_answers::{Answer, outcome_line};
+use fed_answers::{AnswerText, outcome_line};
 use fed_board::Board;
 use fed_lattice::NoMemory;
 use fed_record::{Command, Refusal, Reply, Who};
 use fed_replica::Replica;
-use fed_stamp::{Roster, SiteId};
+use fed_stamp::{Roster, SiteId, site_is_of_sixteen, version_is_of_sixteen};
 use fed_world::Outcome;
 use std::alloc::{AllocError, Global};
 use std::borrow::CowStr;
@@ -24,13 +24,13 @@ use std::borrow::CowStr;
 /// What was done: the text that says so, whether it changed what the site holds, and why it isn't done as asked, if so.
 #[derive(Drop)]
 pub(crate) struct Done {
-    pub(crate) text: Answer,
+    pub(crate) text: AnswerText,
     pub(crate) kept: bool,
     pub(crate) complaint: Option<Complaint>,
 }
 
 /// A text that says why nothing is done.
-pub(crate) fn undone(text: Answer, complaint: Complaint) -> Done
+pub(crate) fn undone(text: AnswerText, complaint: Complaint) -> Done
     ensures text { cow_str_bytes result.text ≡ cow_str_bytes text.entry }
     ensures kept { result.kept ≡ false }
     ensures complaint { result.complaint ≡ Some complaint }
@@ -50,9 +50,9 @@ fn ready_line(
     here: SiteId,
     board: &Board,
     command: &Command,
-) -> Result<Answer, NoMemory>
+) -> Result<AnswerText, NoMemory>
     ensures { IfOk result (λ line.
-        cow_str_bytes line ≡ next_line roster.now (reads board.now).version here command.now) }
+        cow_str_bytes line ≡ next_line roster.now (board_reads board.now).version here command.now) }
 {
     match command {
         Command::Submit { .. } | Command::Reserve { .. } => match board.version().next(here) {
@@ -68,7 +68,7 @@ fn ready_line(
 }
 
 /// The line of a reply: the one at hand where it has an identifier.
-fn reply_line(ready: Answer, reply: Reply) -> Answer
+fn reply_line(ready: AnswerText, reply: Reply) -> AnswerText
     ensures { cow_str_bytes result ≡ line_for (cow_str_bytes ready.entry) reply }
 {
     match reply {
@@ -129,9 +129,8 @@ fn ask(
     ensures unchanged { OnErr result (replica.new ≡ replica.old) }
 {
     let before = replica.board().version();
-    // what these ensure tells that the version has a counter for the site
-    let _counters = before.counters();
-    let _number = here.get();
+    version_is_of_sixteen(&before);
+    site_is_of_sixteen(here);
     let text = ready_line(alloc, roster, here, replica.board(), command)?;
     match told(replica.act(who, command))? {
         Ok(reply) => {

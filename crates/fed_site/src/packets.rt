@@ -1,5 +1,5 @@
 //! What a site does to the texts of packets, and the text of its own.
-ghost use Rattle.std.specs.Prelude.{◌≡◌, ◌≢◌, ◌<◌, ◌≤◌, ◌++◌, nat_lt, drop, ℕ, List, IfOk, OnErr, codes, if◌then◌else◌};
+ghost use Rattle.std.specs.Prelude.{◌≡◌, ◌≢◌, ◌≤◌, ◌++◌, nat_lt, drop, ℕ, List, IfOk, OnErr, codes, if◌then◌else◌};
 ghost use Rattle.std.specs.Cow.{cow_str_bytes};
 ghost use Rattle.std.specs.Fmt.{decimal};
 ghost use Rattle.std.specs.List.{list_any};
@@ -15,12 +15,15 @@ ghost use Rattle.fed_wire.specs.Reading.{packet_in};
 
 use crate::acts::{Done, undone};
 use crate::complaints::Complaint;
-use fed_answers::{Answer, outcome_line};
+use fed_answers::{AnswerText, outcome_line};
 use fed_delta::Absorb;
 use fed_lattice::NoMemory;
 use fed_replica::{Replica, Taken};
-use fed_stamp::{Roster, SiteId, Version};
-use fed_wire::{Packet, Part, Place, WireFault, read, told_packets_are_within_limits, write};
+use fed_stamp::{Roster, SiteId, Version, site_is_of_sixteen};
+use fed_wire::{
+    Packet, Part, Place, WireFault, read, sender_is_of_sixteen, told_packets_are_within_limits,
+    write,
+};
 use fed_world::Outcome;
 use std::alloc::{AllocError, Global};
 use std::borrow::CowStr;
@@ -40,7 +43,7 @@ pub(crate) fn part_text(part: Part) -> &'static str
 }
 
 /// The line that tells a fault and its place.
-fn place_line(alloc: Global, number: u8, place: Place) -> Result<Answer, AllocError>
+fn place_line(alloc: Global, number: u8, place: Place) -> Result<AnswerText, AllocError>
     ensures { IfOk result (λ line. cow_str_bytes line ≡
         answer_line (codes "unread " ++ decimal number ++ codes " " ++ text_of_place place)) }
 {
@@ -50,7 +53,7 @@ fn place_line(alloc: Global, number: u8, place: Place) -> Result<Answer, AllocEr
 }
 
 /// The line that tells why a text is read as no packet.
-fn unread_line(alloc: Global, fault: WireFault) -> Result<Answer, AllocError>
+fn unread_line(alloc: Global, fault: WireFault) -> Result<AnswerText, AllocError>
     ensures { IfOk result (λ line. cow_str_bytes line ≡ answer_line (unread_text fault)) }
 {
     match fault {
@@ -105,15 +108,8 @@ fn is_forgotten(here: SiteId, replica: &Replica, packet: &Packet) -> bool
     packet.delta().reached().get(here) > replica.board().version().get(here)
 }
 
-/// The sender of a packet is one of the 16 sites, as its type keeps it.
-fn senders_are_sites(packet: &Packet)
-    ensures { packet.now.sender < SITES }
-{
-    let _number = packet.sender().get();
-}
-
 /// The line that tells that a packet was taken.
-fn taken_line(taken: Taken) -> Answer
+fn taken_line(taken: Taken) -> AnswerText
     ensures { cow_str_bytes result ≡ answer_line (if taken.grew then codes "taken" else codes "known") }
 {
     if taken.grew {
@@ -146,7 +142,7 @@ fn take_known(
     ensures site { replica.new.site ≡ replica.old.site }
     ensures unchanged { OnErr result (replica.new ≡ replica.old) }
 {
-    senders_are_sites(packet);
+    sender_is_of_sixteen(packet);
     match replica.take(packet) {
         Ok(taken) => Ok(Done {
             text: taken_line(taken),
@@ -155,7 +151,7 @@ fn take_known(
         }),
         Err(fault) => {
             let missing = lacked(fault)?;
-            sites_are_few(missing);
+            site_is_of_sixteen(missing);
             let text = outcome_line(alloc, roster, Outcome::Gap(missing))?;
             Ok(undone(text, Complaint::Gap(missing)))
         }
@@ -219,19 +215,12 @@ pub(crate) fn take(
     }
 }
 
-/// A site is one of the 16, as its type keeps it.
-fn sites_are_few(site: SiteId)
-    ensures { site < SITES }
-{
-    let _number = site.get();
-}
-
 /// The text of the packet for a site, and the end of the line.
 pub(crate) fn ship(alloc: Global, replica: &Replica, to: SiteId) -> Result<Vec<u8>, NoMemory>
     ensures { IfOk result (λ bytes. (text : List ℕ) × IsPacketText (state_of replica.now) to text ×
         (bytes.items ≡ answer_line text)) }
 {
-    sites_are_few(to);
+    site_is_of_sixteen(to);
     let packet = replica.ship(to)?;
     told_packets_are_within_limits(&packet);
     let mut text = write(alloc, &packet)?;

@@ -1,8 +1,8 @@
-//! Sites.
+//! One site by itself: what it holds, and what it answers to a line.
 ghost use Rattle.std.specs.Prelude.{◌≡◌, ◌<◌, false, Some, None, IfOk, OnErr, codes, if◌then◌else◌, is_none, length, map, nat_eq, option_map};
 ghost use Rattle.std.specs.List.{list_any};
 ghost use Rattle.std.specs.Cow.{cow_str_bytes};
-ghost use Rattle.fed_board.specs.Board.{reads};
+ghost use Rattle.fed_board.specs.Board.{board_reads};
 ghost use Rattle.fed_looks.specs.LookView.{asked_by};
 ghost use Rattle.fed_script.specs.LineView.{said_by};
 ghost use Rattle.fed_replica.specs.State.{empty_at, state_of};
@@ -17,12 +17,12 @@ ghost use Rattle.fed_site.specs.Says.{after_line, after_look, after_told, site_s
 use crate::acts::{Done, act, undone};
 use crate::complaints::Complaint;
 use crate::packets::{ship, take};
-use fed_answers::{Answer, listing_text, plan_lines, usage_line};
+use fed_answers::{AnswerText, listing_text, plan_lines, usage_line};
 use fed_board::Board;
 use fed_lattice::NoMemory;
 use fed_looks::{Look, look_of_line, look_text};
 use fed_replica::Replica;
-use fed_script::{HeldRoster, Line, read_own_line};
+use fed_script::{BoxedRoster, Line, read_own_line};
 use fed_stamp::{Roster, SiteId, Version};
 use std::alloc::Global;
 use std::borrow::CowStr;
@@ -34,7 +34,7 @@ pub enum Answered {
     /// A text, whether the line changed what the site holds, so that it is to be kept, and why the line isn't done as it
     /// asks, if so.
     Text {
-        text: Answer,
+        text: AnswerText,
         kept: bool,
         complaint: Option<Complaint>,
     },
@@ -79,7 +79,7 @@ impl Answered {
 /// One site of a roster. What it holds is its replica.
 #[derive(Drop)]
 pub struct Site {
-    roster: HeldRoster,
+    roster: BoxedRoster,
     here: SiteId,
     replica: Replica,
 }
@@ -113,7 +113,7 @@ fn done_answer(done: Done) -> Answered
 }
 
 /// The answer of a text that tells of no change.
-fn told(text: Answer) -> Answered
+fn told(text: AnswerText) -> Answered
     ensures bytes { bytes_of result ≡ cow_str_bytes text.entry }
     ensures kept { kept_of result ≡ false }
     ensures complaint { complaint_of result ≡ None }
@@ -126,7 +126,7 @@ fn told(text: Answer) -> Answered
 }
 
 /// The answer of a plan, or that there is none.
-fn plan_answer(plan: Option<Answer>) -> Answered
+fn plan_answer(plan: Option<AnswerText>) -> Answered
     ensures bytes { bytes_of result ≡ plan_or_none (option_map cow_str_bytes plan.entry) }
     ensures kept { kept_of result ≡ false }
     ensures complaint { complaint_of result ≡ (if is_none plan.entry then Some Complaint.NoPlan else None) }
@@ -166,7 +166,7 @@ fn packet_text(line: &[u8]) -> Option<&[u8]>
 
 impl Site {
     /// A site that holds nothing.
-    pub fn new(alloc: Global, roster: HeldRoster, here: SiteId) -> Site
+    pub fn new(alloc: Global, roster: BoxedRoster, here: SiteId) -> Site
         requires { here < length roster }
         ensures roster { result.roster ≡ roster }
         ensures state { state_of result.replica ≡ empty_at here }
@@ -201,7 +201,7 @@ impl Site {
 
     /// The board.
     pub fn board(&self) -> &Board
-        ensures { reads result.now ≡ (state_of self.now.replica).view }
+        ensures { board_reads result.now ≡ (state_of self.now.replica).view }
     {
         self.replica.board()
     }
@@ -295,7 +295,7 @@ impl Site {
     /// The site that has answered these lines, one after another.
     pub fn open(
         alloc: Global,
-        roster: HeldRoster,
+        roster: BoxedRoster,
         here: SiteId,
         lines: &[&[u8]],
     ) -> Result<Site, NoMemory>

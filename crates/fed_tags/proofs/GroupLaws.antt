@@ -28,8 +28,9 @@ use Rattle.fed_lattice.specs.LatestLaws.{stamp_total}
 use Rattle.fed_lattice.specs.ExactLaws.{exact_stamp}
 use Rattle.fed_lattice.specs.Table.{IsTable, value_at}
 use Rattle.fed_lattice.specs.TableEntryLaws.{lookup-insert_entry}
+use Rattle.fed_lattice.specs.KeySetLaws.{same_sets, sorted_insert_key, has_insert_key}
 use Rattle.fed_tags.specs.Tags.{pair_cmp, has, without, tags_of, IsElement}
-use Rattle.fed_tags.specs.TagLaws.{pair_total, exact_pair, same_sets, any_filtered, sorted_insert_key, has_insert_key, has_without, sorted_without, member, has_member}
+use Rattle.fed_tags.specs.TagLaws.{pair_total, exact_pair, any_filtered, has_without, sorted_without, member, has_member}
 use Rattle.fed_tags.specs.Groups.{tagged, pairs, IsGroup}
 
 -- ---- tests

@@ -11,7 +11,7 @@ use Rattle.std.proofs.lemmas.List.Sorted.{searchable_from_sorted}
 use Rattle.std.proofs.lemmas.Map.Keys.{Less-from_sorted}
 use Rattle.std.proofs.lemmas.Map.Lookups.{CmpEqualImpliesEq}
 use Rattle.std.proofs.lemmas.Map.Views.{tells_apart}
-use Rattle.fed_tags.specs.TagLaws.{same_sets, has_insert_key, sorted_insert_key}
+use Rattle.fed_lattice.specs.KeySetLaws.{same_sets, has_insert_key, sorted_insert_key}
 
 module _ {K : Type 0} (R : K → K → Ordering) (o : IsTotalOrder R) where
   -- a strictly sorted list may be searched

@@ -14,7 +14,8 @@ use Rattle.fed_stamp.specs.Stamp.{StampValue}
 use Rattle.fed_stamp.specs.Version.{covers}
 use Rattle.fed_lattice.specs.Sets.{Has}
 use Rattle.fed_tags.specs.Tags.{has, inserted, stamped, without, lacking, kept, joined_tags}
-use Rattle.fed_tags.specs.TagLaws.{sorted_empty, same_sets, sorted_inserted, sorted_without, sorted_joined, has_inserted, has_without, has_filtered, has_joined, member, has_member, stamped_at}
+use Rattle.fed_tags.specs.TagLaws.{sorted_empty, sorted_inserted, sorted_without, sorted_joined, has_inserted, has_without, has_filtered, has_joined, member, has_member, stamped_at}
+use Rattle.fed_lattice.specs.KeySetLaws.{same_sets}
 
 -- ---- lists
 module _ {X : Type 0} where

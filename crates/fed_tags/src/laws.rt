@@ -1,6 +1,7 @@
 //! How far a pair has come in a join. The function does nothing: its contract is the law.
 ghost use Rattle.std.specs.Prelude.{◌≡◌, ◌||◌, Bool, max};
-ghost use Rattle.fed_tags.specs.Tags.{stage, stays};
+ghost use Rattle.fed_tags.specs.Tags.{stage};
+ghost use Rattle.fed_lattice.specs.Stays.{stays};
 
 /// A pair is in a join at the later of the two sides' stages, in the order in which a pair goes through them: not met,
 /// live, live with its stamp covered, removed.

@@ -3,8 +3,6 @@
 //! tag are kept: a pair that one side of a join lacks was removed there if that side's version covers its stamp.
 #![tactic(auto)]
 
-/// Changes of tag sets.
-pub mod changes;
 /// The elements of a tag set, one after another.
 pub mod elements;
 /// The elements with their tags, as a tag set keeps them.
@@ -17,11 +15,13 @@ pub mod merges;
 pub mod pairs;
 /// Tag sets.
 pub mod sets;
+/// Changes of tag sets.
+pub mod tag_changes;
 /// The tags of one element.
 mod tags;
 
-pub use changes::TagChange;
 pub use elements::Elements;
 pub use laws::joins_take_the_later_stage;
 pub use pairs::Pairs;
 pub use sets::TagSet;
+pub use tag_changes::TagChange;

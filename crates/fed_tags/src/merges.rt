@@ -4,8 +4,8 @@ ghost use Rattle.std.specs.List.Sorted.{IsStrictlySortedBy};
 ghost use Rattle.fed_tags.specs.Tags.{pair_cmp, joined_tags, applied_tags, IsTagHistory, tags_stand_for};
 ghost use Rattle.fed_tags.specs.TagLaws.{pair_total, exact_pair, sorted_empty, sorted_applied, sorted_joined, joined_tags_assoc, joined_tags_comm, joined_tags_itself, empty_tags_stand, applied_tags_stand, joined_tags_stand, tags_stand_same};
 
-use crate::changes::TagChange;
 use crate::sets::TagSet;
+use crate::tag_changes::TagChange;
 use fed_lattice::{Causal, Exact, NoMemory};
 use fed_stamp::{Stamp, Version};
 use std::alloc::Global;

@@ -1,8 +1,8 @@
 -- The entries of a settled order have the outcomes of the run.
 use Rattle.std.proofs.Common.{◌≡◌, ℕ, List, [], ◌∷◌, ◌++◌, length, get_or, Option, Some, None, refl, sym, subst, ◌∙◌, append_assoc, append-nil}
-use Rattle.fed_world.specs.declared.events.Event.{Event}
-use Rattle.fed_world.specs.Run.{World, step, run, outcomes_from, outcomes}
-use Rattle.fed_world.proofs.Runs.{run-push}
+use Rattle.fed_model.specs.declared.events.Event.{Event}
+use Rattle.fed_model.specs.Run.{World, step, run, outcomes_from, outcomes}
+use Rattle.fed_theory.proofs.Runs.{run-push}
 use Rattle.fed_threads.specs.declared.journal.Claim.{Claim}
 use Rattle.fed_threads.specs.declared.journal.Entry.{Entry}
 use Rattle.fed_threads.specs.Claims.{HasOutcome}

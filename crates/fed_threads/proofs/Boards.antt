@@ -10,28 +10,27 @@ use Rattle.fed_stamp.proofs.LeastIndex.{none_below}
 use Rattle.fed_stamp.proofs.VersionLaws.{below_from_each, each_from_below}
 use Rattle.fed_lattice.specs.VersionOf.{version_of}
 use Rattle.fed_lattice.proofs.VersionOfLaws.{length-version_of}
-use Rattle.fed_record.specs.declared.askers.Who.{Who}
-use Rattle.fed_record.specs.declared.commands.Command.{Command}
-use Rattle.fed_board.specs.Board.{reads}
-use Rattle.fed_board.specs.Lawful.{IsLawful}
-use Rattle.fed_board.specs.View.{View, view}
-use Rattle.fed_board.specs.ViewSteps.{add_to_view, join_records}
-use Rattle.fed_board.proofs.ViewLaws.{view_push}
+use Rattle.fed_model.specs.declared.askers.Who.{Who}
+use Rattle.fed_model.specs.declared.commands.Command.{Command}
+use Rattle.fed_board.specs.Board.{board_reads}
+use Rattle.fed_model.specs.Lawful.{IsLawful}
+use Rattle.fed_model.specs.View.{View, view}
+use Rattle.fed_theory.specs.ViewSteps.{add_to_view, join_records}
+use Rattle.fed_theory.proofs.ViewLaws.{view_push}
 use Rattle.fed_delta.specs.Cut.{cut}
 use Rattle.fed_delta.proofs.CutLaws.{stands_absorbed}
 use Rattle.fed_wire.specs.Packet.{PacketValue}
-use Rattle.fed_replica.specs.Answer.{Answer, Answer.Refuses, Answer.Replies, answer, answer_to}
-use Rattle.fed_replica.specs.Packet.{Site, Packet, missing, taken, takes_unless, take as take_packet}
-use Rattle.fed_replica.proofs.Allowed.{answer_allowed}
-use Rattle.fed_replica.proofs.NextStamps.{next_uncovered}
-use Rattle.fed_world.specs.declared.events.Event.{Event}
-use Rattle.fed_world.specs.declared.outcomes.Outcome.{Outcome}
+use Rattle.fed_model.specs.Answer.{Answer, Answer.Refuses, Answer.Replies, answer, answer_to}
+use Rattle.fed_model.specs.Packet.{Site, Packet, missing, taken, takes_unless, take as take_packet}
+use Rattle.fed_theory.proofs.Allowed.{answer_allowed}
+use Rattle.fed_theory.proofs.NextStamps.{next_uncovered}
+use Rattle.fed_model.specs.declared.events.Event.{Event}
+use Rattle.fed_model.specs.declared.outcomes.Outcome.{Outcome}
 use Rattle.fed_world.specs.Kept.{IsSentOf}
-use Rattle.fed_world.specs.Run.{World, Step, stays, does, ships, receives, takes, packet, step, run, with_operation}
-use Rattle.fed_world.proofs.KeptLaws.{does_others, do_here, site_lawful}
-use Rattle.fed_world.proofs.Promises.{packets_kin}
-use Rattle.fed_world.proofs.Runs.{either, packet_Has, put_same, run-push, run_good}
-use Rattle.fed_world.proofs.SentLaws.{take_here, receives_others}
+use Rattle.fed_model.specs.Run.{World, Step, stays, does, ships, receives, takes, packet, step, run, with_operation}
+use Rattle.fed_theory.proofs.RunSteps.{does_others, do_here, site_lawful, take_here, receives_others}
+use Rattle.fed_theory.proofs.Promises.{packets_kin}
+use Rattle.fed_theory.proofs.Runs.{either, packet_Has, put_same, run-push, run_good}
 use Rattle.fed_threads.specs.declared.journal.Asked.{Asked}
 use Rattle.fed_threads.specs.declared.journal.Asked.TheVariants.{Do, Ship, Take}
 use Rattle.fed_threads.specs.declared.journal.Claim.{Claim}
@@ -122,7 +121,7 @@ module _ (n : ℕ) (events : List Event) (few : n ≤ 16) (i : ℕ) (small : i <
       subst (λ s. StandsAs i s (after_packet_unless None t c)) (sym (put_same w.site i (taken (w.site i) p))) (record {
         site = old.site;
         board = sym (stands_absorbed (w.site i).set p.gives (packets_kin n events few i number p posted) p.need (enough is)
-            t.view (reads c.delta.changes) (join_records t.view (reads c.delta.changes)) refl (sym old.board) sent.cut);
+            t.view (board_reads c.delta.changes) (join_records t.view (board_reads c.delta.changes)) refl (sym old.board) sent.cut);
         heard = heard_same;
       })
 

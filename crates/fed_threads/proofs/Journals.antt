@@ -3,12 +3,12 @@ use Rattle.std.specs.Prelude.{Option, Some, None}
 use Rattle.std.proofs.Common.{◌≡◌, ℕ, ◌+◌, List, [], ◌∷◌, ◌++◌, length, true, refl, ap, sym, subst, ◌∙◌, arith, add-zero, zero-add}
 use Rattle.fed_stamp.specs.Version.{is_below}
 use Rattle.fed_stamp.proofs.VersionLaws.{below_itself, below_joined_left}
-use Rattle.fed_board.specs.ViewSteps.{add_to_view, join_records}
-use Rattle.fed_board.proofs.VersionGrowth.{below_raised}
+use Rattle.fed_theory.specs.ViewSteps.{add_to_view, join_records}
+use Rattle.fed_theory.proofs.VersionGrowth.{below_raised}
 use Rattle.fed_wire.specs.Packet.{PacketValue}
-use Rattle.fed_replica.specs.Answer.{Answer, Answer.Refuses, Answer.Replies, answer_to}
+use Rattle.fed_model.specs.Answer.{Answer, Answer.Refuses, Answer.Replies, answer_to}
 use Rattle.fed_replica.specs.Replica.{ReplicaValue}
-use Rattle.fed_world.specs.declared.outcomes.Outcome.{Outcome}
+use Rattle.fed_model.specs.declared.outcomes.Outcome.{Outcome}
 use Rattle.fed_threads.specs.declared.journal.Asked.{Asked}
 use Rattle.fed_threads.specs.declared.journal.Asked.TheVariants.{Do, Ship, Take}
 use Rattle.fed_threads.specs.declared.journal.Entry.{Entry}

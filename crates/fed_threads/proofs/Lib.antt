@@ -19,3 +19,5 @@ pub mod Boards
 pub mod Answered
 pub mod Fits
 pub mod CallFaults
+pub mod ExactCommands
+pub mod ExactAsked

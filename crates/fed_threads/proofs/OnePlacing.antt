@@ -1,6 +1,6 @@
 -- There is only one placing, and only one settled list.
 use Rattle.std.proofs.Common.{◌≡◌, ℕ, List, [], ◌∷◌, length, Bool, refl, sym, ap, ◌∙◌, arith, inl, inr}
-use Rattle.fed_world.specs.declared.events.Event.{Event}
+use Rattle.fed_model.specs.declared.events.Event.{Event}
 use Rattle.fed_threads.specs.declared.journal.Claim.{Claim}
 use Rattle.fed_threads.specs.declared.journal.Entry.{Entry}
 use Rattle.fed_threads.specs.Placing.{ComesFirst, IsPlacing}

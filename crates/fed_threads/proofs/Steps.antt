@@ -5,24 +5,25 @@ use Rattle.fed_stamp.specs.declared.versions.ClockFull.{ClockFull}
 use Rattle.fed_stamp.specs.Stamp.{StampValue}
 use Rattle.fed_stamp.specs.Version.{IsVersion, is_below, next_stamp}
 use Rattle.fed_stamp.proofs.VersionLaws.{below_trans}
-use Rattle.fed_record.specs.declared.askers.Who.{Who}
-use Rattle.fed_record.specs.declared.commands.Command.{Command}
-use Rattle.fed_record.specs.declared.refusals.Refusal.{Refusal}
-use Rattle.fed_record.specs.Body.{Body}
-use Rattle.fed_board.specs.ViewSteps.{add_to_view}
-use Rattle.fed_board.proofs.VersionGrowth.{own_raised}
+use Rattle.fed_model.specs.declared.askers.Who.{Who}
+use Rattle.fed_model.specs.declared.commands.Command.{Command}
+use Rattle.fed_model.specs.declared.refusals.Refusal.{Refusal}
+use Rattle.fed_model.specs.Body.{Body}
+use Rattle.fed_theory.specs.ViewSteps.{add_to_view}
+use Rattle.fed_theory.proofs.VersionGrowth.{own_raised}
 use Rattle.fed_wire.specs.Packet.{PacketValue}
-use Rattle.fed_desk.specs.Desk.{first_of}
-use Rattle.fed_replica.specs.Answer.{answer_unless, replies, effect, answer_to}
-use Rattle.fed_replica.specs.Refusals.{refusals}
-use Rattle.fed_world.specs.declared.outcomes.Outcome.{Outcome}
+use Rattle.fed_model.specs.Desk.{first_of}
+use Rattle.fed_model.specs.Answer.{answer_unless, replies, effect, answer_to}
+use Rattle.fed_model.specs.Refusals.{refusals}
+use Rattle.fed_model.specs.declared.outcomes.Outcome.{Outcome}
 use Rattle.fed_threads.specs.declared.journal.Asked.{Asked}
 use Rattle.fed_threads.specs.declared.journal.Asked.TheVariants.{Do, Ship, Take}
-use Rattle.fed_threads.specs.declared.site.Receipt.{Receipt}
+use Rattle.fed_threads.specs.declared.locked_sites.Delivered.{Delivered}
 use Rattle.fed_threads.specs.Calls.{Steps}
 use Rattle.fed_replica.specs.State.{State, after_answer, lacking, after_packet_unless}
-use Rattle.fed_world.specs.Outcome.{outcome_of_answer, outcome_of_packet_unless}
-use Rattle.fed_threads.specs.Replay.{outcome_of_receipt, after_event, outcome_at, Kept, replay, Appends}
+use Rattle.fed_model.specs.Outcome.{outcome_of_answer}
+use Rattle.fed_world.specs.Outcome.{outcome_of_packet_unless}
+use Rattle.fed_threads.specs.Replay.{outcome_of_delivered, after_event, outcome_at, Kept, replay, Appends}
 use Rattle.fed_threads.specs.Seat.{Known, claimed, version_of, IsUpToDate, Covers, NamesSite}
 use Rattle.fed_threads.proofs.Journals.{event_grows}
 
@@ -84,9 +85,9 @@ covers_event s place (Ship site to) packet len small = tt
 covers_event s place (Take site sender at) None len small = tt
 covers_event s place (Take site sender at) (Some p) len small = covers_packet (lacking s p) s p
 
-pub named_receipt : (receipt : Receipt) → NamesSite (outcome_of_receipt receipt)
-named_receipt (Receipt.Taken taken) = tt
-named_receipt (Receipt.Gap lacks) = tt
+pub named_delivered : (receipt : Delivered) → NamesSite (outcome_of_delivered receipt)
+named_delivered (Delivered.Taken taken) = tt
+named_delivered (Delivered.Gap lacks) = tt
 
 -- ---- the entry is added to the journal and claimed, where what was found before and after is as the calls say
 pub steps : (old new : Kept) (before kept after : Known) (site index : ℕ) (found left : List ℕ) (asked : Asked) (packet : Option PacketValue) (outcome : Outcome)

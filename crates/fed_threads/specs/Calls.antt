@@ -1,9 +1,9 @@
 -- What a call of a federation does to the site whose lock it holds, and to the seat.
 use Rattle.std.specs.Prelude.{◌≡◌, ℕ, true, length, Option}
 use Rattle.fed_stamp.specs.Version.{is_below}
-use Rattle.fed_board.specs.View.{View}
+use Rattle.fed_model.specs.View.{View}
 use Rattle.fed_wire.specs.Packet.{PacketValue}
-use Rattle.fed_world.specs.declared.outcomes.Outcome.{Outcome}
+use Rattle.fed_model.specs.declared.outcomes.Outcome.{Outcome}
 use Rattle.fed_threads.specs.declared.fault.CallFault.{CallFault}
 use Rattle.fed_threads.specs.declared.fault.CallFault.TheVariants.{NoSite, Behind, NoMemory}
 use Rattle.fed_threads.specs.declared.federation.Next.{Next}
@@ -15,15 +15,15 @@ use Rattle.fed_threads.specs.Seat.{Known, IsBehind, IsUpToDate, Covers, claimed,
 -- a call at a site of the roster answers no NoSite, and Behind only where what the lock keeps is behind what the seat has
 -- seen; want of memory only where it is not
 abbrev pub IsFaultOf : Kept → Known → ℕ → CallFault → Type 0
-IsFaultOf held k site NoSite = ⊥
-IsFaultOf held k site (Behind seen found version) =
-    IsBehind k site (length held.entries) (replay held).view.version (Behind seen found version)
-IsFaultOf held k site NoMemory = IsUpToDate k site (length held.entries) (replay held).view.version
+IsFaultOf kept k site NoSite = ⊥
+IsFaultOf kept k site (Behind seen found version) =
+    IsBehind k site (length kept.entries) (replay kept).view.version (Behind seen found version)
+IsFaultOf kept k site NoMemory = IsUpToDate k site (length kept.entries) (replay kept).view.version
 
 -- a fault of a call, for what some lock kept
 pub record OnlyBehind (k : Known) (site : ℕ) (fault : CallFault) : Type 0 where
-  pub held : Kept
-  pub fault_is : IsFaultOf held k site fault
+  pub kept : Kept
+  pub fault_is : IsFaultOf kept k site fault
 
 -- the entry is added to the journal, which was not behind what the seat has seen, and the seat claims it with the answer:
 -- it has then seen the journal as far as the entry, and the version of the board that the entry leaves, which is at least
@@ -46,15 +46,15 @@ pub record AddsClaim (before after : Known) (site : ℕ) (asked : Asked) (outcom
 
 -- the board reads as the replay of the journal, which is at least as long as the seat has seen, and its version is at
 -- least the one that the seat has seen; the seat has then seen both
-pub record LooksAt (held : Kept) (before after : Known) (site : ℕ) (board : View) : Type 0 where
-  pub fresh : IsUpToDate before site (length held.entries) (replay held).view.version
-  pub board_is : board ≡ (replay held).view
-  pub seat : after ≡ looked before site (length held.entries) (replay held).view.version
+pub record LooksAt (kept : Kept) (before after : Known) (site : ℕ) (board : View) : Type 0 where
+  pub fresh : IsUpToDate before site (length kept.entries) (replay kept).view.version
+  pub board_is : board ≡ (replay kept).view
+  pub seat : after ≡ looked before site (length kept.entries) (replay kept).view.version
 
 -- so of some journal
 pub record Looks (before after : Known) (site : ℕ) (board : View) : Type 0 where
-  pub held : Kept
-  pub looks : LooksAt held before after site board
+  pub kept : Kept
+  pub looks : LooksAt kept before after site board
 
 -- what a take is answered, as an outcome
 abbrev pub Took : Known → Known → ℕ → Outcome → Type 0

@@ -3,16 +3,17 @@ use Rattle.std.specs.Prelude.{◌≡◌, ℕ, ◌+◌, ◌<◌, List, [], ◌∷
 use Rattle.fed_stamp.specs.declared.sites.TheConstants.{SITES}
 use Rattle.fed_delta.specs.declared.faults.Absorb.{Absorb}
 use Rattle.fed_wire.specs.Packet.{PacketValue}
-use Rattle.fed_replica.specs.declared.taken.Taken.{Taken}
-use Rattle.fed_replica.specs.Answer.{answer_to}
+use Rattle.fed_model.specs.declared.taken.Taken.{Taken}
+use Rattle.fed_model.specs.Answer.{answer_to}
 use Rattle.fed_replica.specs.Replica.{ReplicaValue}
 use Rattle.fed_replica.specs.State.{State, IsState, empty_at, after_answer, lacking, after_packet_unless}
-use Rattle.fed_world.specs.declared.outcomes.Outcome.{Outcome}
-use Rattle.fed_world.specs.Outcome.{outcome_of_answer, outcome_of_packet_unless}
+use Rattle.fed_model.specs.declared.outcomes.Outcome.{Outcome}
+use Rattle.fed_model.specs.Outcome.{outcome_of_answer}
+use Rattle.fed_world.specs.Outcome.{outcome_of_packet_unless}
 use Rattle.fed_threads.specs.declared.journal.Asked.{Asked}
 use Rattle.fed_threads.specs.declared.journal.Asked.TheVariants.{Do, Ship, Take}
 use Rattle.fed_threads.specs.declared.journal.Entry.{Entry}
-use Rattle.fed_threads.specs.declared.site.Receipt.{Receipt}
+use Rattle.fed_threads.specs.declared.locked_sites.Delivered.{Delivered}
 
 -- what an entry leaves of a replica; a take is of the packet that the entry holds
 abbrev pub after_event : State → Asked → Option PacketValue → State
@@ -59,12 +60,12 @@ pub record Appends (old new : Kept) (asked : Asked) (packet : Option PacketValue
   pub answer : outcome ≡ outcome_at (replay old) (length old.entries) asked packet
   pub state : replay new ≡ after_event (replay old) asked packet
 
-abbrev pub outcome_of_receipt : Receipt → Outcome
-outcome_of_receipt (Receipt.Taken taken) = Outcome.Taken taken
-outcome_of_receipt (Receipt.Gap lacks) = Outcome.Gap lacks
+abbrev pub outcome_of_delivered : Delivered → Outcome
+outcome_of_delivered (Delivered.Taken taken) = Outcome.Taken taken
+outcome_of_delivered (Delivered.Gap lacks) = Outcome.Gap lacks
 
 -- what `take` says, but for want of memory; a site is one of the 16
-abbrev pub IsReceiptOf : Result Taken Absorb → Receipt → Type 0
-IsReceiptOf (Ok taken) receipt = receipt ≡ Receipt.Taken taken
-IsReceiptOf (Err (Absorb.Gap lacks)) receipt = (receipt ≡ Receipt.Gap lacks) × (lacks < SITES)
-IsReceiptOf (Err Absorb.NoMemory) receipt = ⊥
+abbrev pub IsDeliveredBy : Result Taken Absorb → Delivered → Type 0
+IsDeliveredBy (Ok taken) receipt = receipt ≡ Delivered.Taken taken
+IsDeliveredBy (Err (Absorb.Gap lacks)) receipt = (receipt ≡ Delivered.Gap lacks) × (lacks < SITES)
+IsDeliveredBy (Err Absorb.NoMemory) receipt = ⊥

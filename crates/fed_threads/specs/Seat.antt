@@ -2,8 +2,8 @@
 use Rattle.std.specs.Prelude.{◌≡◌, ◌<◌, ◌≤◌, ◌+◌, ◌⊎◌, ℕ, true, replicate, List, [], ◌∷◌, ◌++◌, slice_index, slice_index_or, slice_set}
 use Rattle.fed_stamp.specs.declared.sites.TheConstants.{SITES}
 use Rattle.fed_stamp.specs.Version.{covers, is_below}
-use Rattle.fed_record.specs.declared.replies.Reply.{Reply}
-use Rattle.fed_world.specs.declared.outcomes.Outcome.{Outcome}
+use Rattle.fed_model.specs.declared.replies.Reply.{Reply}
+use Rattle.fed_model.specs.declared.outcomes.Outcome.{Outcome}
 use Rattle.fed_threads.specs.declared.fault.CallFault.{CallFault}
 use Rattle.fed_threads.specs.declared.fault.CallFault.TheVariants.{NoSite, Behind, NoMemory}
 use Rattle.fed_threads.specs.declared.journal.Asked.{Asked}

@@ -1,11 +1,11 @@
 -- What the journals and the claims come to.
 use Rattle.std.specs.Prelude.{◌≡◌, ◌<◌, ◌≤◌, ◌∷◌, ℕ, List, [], map, take, length, slice_index, slice_index_or, Option, Some, None}
 use Rattle.std.specs.List.{slice_get}
-use Rattle.fed_board.specs.View.{view}
-use Rattle.fed_world.specs.declared.events.Event.{Event}
-use Rattle.fed_world.specs.declared.outcomes.Outcome.{Outcome}
+use Rattle.fed_model.specs.View.{view}
+use Rattle.fed_model.specs.declared.events.Event.{Event}
+use Rattle.fed_model.specs.declared.outcomes.Outcome.{Outcome}
 use Rattle.fed_world.specs.Kept.{WorldValue}
-use Rattle.fed_world.specs.Run.{World, outcomes}
+use Rattle.fed_model.specs.Run.{World, outcomes}
 use Rattle.fed_threads.specs.declared.fault.CloseFault.{CloseFault}
 use Rattle.fed_threads.specs.declared.fault.CloseFault.TheVariants.{Strange, Twice, Unclaimed, NoOrder, Differs, NoMemory}
 use Rattle.fed_threads.specs.declared.journal.Asked.{Asked}

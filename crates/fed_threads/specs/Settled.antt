@@ -3,11 +3,11 @@ use Rattle.std.specs.Prelude.{◌≡◌, ◌<◌, ◌+◌, ℕ, List, [], ◌∷
 use Rattle.std.specs.List.{position}
 use Rattle.std.specs.Option.{option_map_or}
 use Rattle.fed_wire.specs.Packet.{PacketValue}
-use Rattle.fed_replica.specs.Packet.{Packet}
-use Rattle.fed_world.specs.declared.events.Event.{Event}
-use Rattle.fed_world.specs.declared.outcomes.Outcome.{Outcome}
+use Rattle.fed_model.specs.Packet.{Packet}
+use Rattle.fed_model.specs.declared.events.Event.{Event}
+use Rattle.fed_model.specs.declared.outcomes.Outcome.{Outcome}
 use Rattle.fed_world.specs.Kept.{IsSentOf}
-use Rattle.fed_world.specs.Run.{World, packet, run, step}
+use Rattle.fed_model.specs.Run.{World, packet, run, step}
 use Rattle.fed_threads.specs.declared.journal.Asked.{Asked}
 use Rattle.fed_threads.specs.declared.journal.Asked.TheVariants.{Do, Ship, Take}
 use Rattle.fed_threads.specs.declared.journal.Entry.{Entry}

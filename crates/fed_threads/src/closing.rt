@@ -1,26 +1,25 @@
-//! Closed federations.
+//! How a federation is closed: its journals and what its seats claim are settled to one run.
 ghost use Rattle.std.specs.Prelude.{◌≡◌, ◌<◌, ◌≤◌, ◌↔◌, ℕ, List, Some, IfOk, IfErr, IsTrue, MatchOption, length, option_copied, option_map, slice_get, vec_len};
-ghost use Rattle.fed_board.specs.Board.{reads};
-ghost use Rattle.fed_board.specs.View.{view};
+ghost use Rattle.fed_board.specs.Board.{board_reads};
+ghost use Rattle.fed_model.specs.View.{view};
 ghost use Rattle.fed_threads.specs.Claims.{FailsFirst};
 ghost use Rattle.fed_threads.specs.Placing.{claims_of, entries_of, entry_at};
 ghost use Rattle.fed_threads.specs.Settle.{AllFit, AllKeepEvents, AreReplays, FitsAt, FitsThere, HasEvent, IsCloseFaultOf, IsSettled, claims_in as claims_of_seats};
 ghost use Rattle.fed_threads.specs.declared.journal.Entry.{Entry};
-ghost use Rattle.fed_world.specs.Run.{run as run_of};
+ghost use Rattle.fed_model.specs.Run.{run as run_of};
 
 use crate::claims::holds;
-use crate::events::same_asked;
 use crate::fault::CloseFault;
 use crate::federation::Federation;
 use crate::gate::Gate;
 use crate::journal::{Asked, Claim, Entry};
 use crate::laws::settled_boards_are_replays;
+use crate::locked_sites::LockedSite;
 use crate::seat::Seat;
 use crate::settling::settle_in;
-use crate::site::Site;
 use fed_board::Board;
 use fed_lattice::NoMemory;
-use fed_stamp::SiteId;
+use fed_stamp::{SiteId, roster_is_lawful};
 use fed_world::{Event, World};
 use std::alloc::Global;
 use std::sync::Mutex;
@@ -54,7 +53,7 @@ impl Run {
     /// The board of a site, or `None` where the federation has no such site.
     pub fn board(&self, site: SiteId) -> Option<&Board>
         ensures { MatchOption (option_copied result) (self.now.world.sites ≤ site) (λ b. (site < self.now.world.sites) ×
-            (reads b ≡ view ((run_of self.now.world.sites self.now.world.events).site site).set)) }
+            (board_reads b ≡ view ((run_of self.now.world.sites self.now.world.events).site site).set)) }
     {
         self.world.board(site)
     }
@@ -79,8 +78,7 @@ impl<G: Gate> Federation<G> {
         settled_boards_are_replays();
         let alloc = self.alloc();
         let (roster, sites) = self.into_parts();
-        // what `len` ensures tells that there are at most 16 sites
-        let _count = roster.len();
+        roster_is_lawful(&roster);
         let journals = journals_in(alloc, sites)?;
         if let Some((seat, place)) = first_strange(&journals, &seats) {
             return Err(CloseFault::Strange {
@@ -95,7 +93,7 @@ impl<G: Gate> Federation<G> {
 }
 
 /// The journals that the locks held. Nothing is known of them but what the type of the locked value says.
-fn journals_in(alloc: Global, sites: Vec<Mutex<Site>>) -> Result<Vec<Vec<Entry>>, NoMemory>
+fn journals_in(alloc: Global, sites: Vec<Mutex<LockedSite>>) -> Result<Vec<Vec<Entry>>, NoMemory>
     ensures { IfOk result (λ v. vec_len v ≡ vec_len sites) }
 {
     let mut journals = Vec::with_capacity(alloc, sites.len())?;
@@ -160,6 +158,6 @@ fn has_event(journals: &[Vec<Entry>], claim: &Claim, asked: &Asked) -> bool
     };
     match journal.get(claim.index as usize) {
         None => false,
-        Some(entry) => same_asked(&entry.asked, asked),
+        Some(entry) => entry.asked == *asked,
     }
 }

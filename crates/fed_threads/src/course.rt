@@ -1,8 +1,8 @@
 //! Runs of an order's entries.
 ghost use Rattle.std.specs.Prelude.{◌≡◌, ◌<◌, ◌+◌, ◌↔◌, ℕ, IsTrue, IfOk, OnOk, OnErr, [], ◌∷◌, ◌++◌, length, replicate, slice_index, slice_index_or, slice_set, option_copied, MatchResult};
-ghost use Rattle.fed_replica.specs.Packet.{Packet as RunPacket};
+ghost use Rattle.fed_model.specs.Packet.{Packet as RunPacket};
 ghost use Rattle.fed_world.specs.Kept.{IsSentOf, IsTextOf};
-ghost use Rattle.fed_world.specs.Run.{run as run_of, step as step_of};
+ghost use Rattle.fed_model.specs.Run.{run as run_of, step as step_of};
 ghost use Rattle.fed_threads.specs.Course.{number_in, numbers_of, placed_in, IsIndexed};
 ghost use Rattle.fed_threads.specs.Placing.{with_next};
 ghost use Rattle.fed_threads.specs.Settled.{event_of, number_of, shown, ships_after, site_of, with_entry, Agrees, HoldsPacket, StaysInside};

@@ -1,4 +1,4 @@
-//! Faults.
+//! Why a call at a site, or the closing of a federation, fails.
 ghost use Rattle.std.specs.Prelude.{◌≡◌};
 ghost use Rattle.fed_threads.specs.Faults.{number_of_call, number_of_close};
 ghost use Rattle.fed_threads.specs.declared.fault.CallFault.TheVariants as CallFault;
@@ -26,7 +26,7 @@ pub enum CallFault {
         /// The version of the board.
         version: Version,
     },
-    /// 3: a growth was refused memory.
+    /// 3: an allocation failed.
     #[error("out of memory")]
     NoMemory,
 }
@@ -61,7 +61,7 @@ impl From<NoMemory> for CallFault {
 }
 
 /// Why the entries of journals and the claims of seats are not settled, in the order in which the reasons are looked
-/// for; want of memory comes wherever a growth is refused. Seats and their claims, the entries of a journal and those of
+/// for; want of memory comes wherever an allocation fails. Seats and their claims, the entries of a journal and those of
 /// an order are counted from 0.
 #[derive(Clone, Copy, PartialEq, Eq, Debug, Drop, Error)]
 pub enum CloseFault {
@@ -81,7 +81,7 @@ pub enum CloseFault {
     /// 5: the first entry of the order that the run of the order doesn't have so.
     #[error("entry {event} of the order differs from its run")]
     Differs { event: u64 },
-    /// 6: a growth was refused memory.
+    /// 6: an allocation failed.
     #[error("out of memory")]
     NoMemory,
 }

@@ -1,21 +1,21 @@
 //! Federations whose sites run at the same time.
 ghost use Rattle.std.specs.Prelude.{◌≡◌, ◌≢◌, ◌<◌, ◌≤◌, ◌+◌, ◌^◌, ◌↔◌, ◌⊎◌, ℕ, None, Some, Ok, Err, IfOk, OnErr, IfErr, length, vec_len};
 ghost use Rattle.fed_stamp.specs.declared.sites.TheConstants.{SITES};
-ghost use Rattle.fed_board.specs.Board.{reads};
-ghost use Rattle.fed_record.specs.declared.refusals.Refusal.{Refusal};
+ghost use Rattle.fed_board.specs.Board.{board_reads};
+ghost use Rattle.fed_model.specs.declared.refusals.Refusal.{Refusal};
 ghost use Rattle.fed_threads.specs.Calls.{AddsClaim, OnlyBehind, Looks, MeetsNext};
-ghost use Rattle.fed_world.specs.Outcome.{outcome_of};
+ghost use Rattle.fed_model.specs.Outcome.{outcome_of};
 ghost use Rattle.fed_threads.specs.Seat.{known_by, starts};
 ghost use Rattle.fed_threads.specs.declared.fault.CallFault.TheVariants as CallFault;
 ghost use Rattle.fed_threads.specs.declared.journal.Asked.TheVariants.{Do, Ship, Take};
-ghost use Rattle.fed_world.specs.declared.outcomes.Outcome.TheVariants as Outcome;
+ghost use Rattle.fed_model.specs.declared.outcomes.Outcome.TheVariants as Outcome;
 
 use crate::calls::{call_in, look_in, ship_in, take_in};
 use crate::fault::CallFault;
 use crate::gate::Gate;
+use crate::locked_sites::{Delivered, LockedSite};
 use crate::parcel::Parcel;
 use crate::seat::Seat;
-use crate::site::{Receipt, Site};
 use crossbeam_channel::{Receiver, SendError, Sender};
 use fed_board::Board;
 use fed_lattice::NoMemory;
@@ -74,21 +74,21 @@ pub struct Federation<G> {
     alloc: Global,
     roster: Roster,
     // of each site of the roster, by its number
-    sites: Vec<Mutex<Site>>,
+    sites: Vec<Mutex<LockedSite>>,
     queues: Vec<Queue>,
     gate: G,
     ghost locks: { vec_len sites ≡ length roster },
     ghost matched: { vec_len queues ≡ length roster },
 }
 
-fn new_sites(alloc: Global, count: usize) -> Result<Vec<Mutex<Site>>, NoMemory>
+fn new_sites(alloc: Global, count: usize) -> Result<Vec<Mutex<LockedSite>>, NoMemory>
     requires { count ≤ SITES }
     ensures { IfOk result (λ v. vec_len v ≡ count) }
 {
     let mut sites = Vec::new(alloc);
     for number in 0..count as u8 {
         let site = SiteId::new(number).unwrap();
-        sites.push(Mutex::new(Site::new(alloc, site)))?;
+        sites.push(Mutex::new(LockedSite::new(alloc, site)))?;
     }
     Ok(sites)
 }
@@ -127,7 +127,7 @@ impl<G: Gate> Federation<G> {
     }
 
     /// The roster, and the locks, once no call is under way.
-    pub(crate) fn into_parts(self) -> (Roster, Vec<Mutex<Site>>)
+    pub(crate) fn into_parts(self) -> (Roster, Vec<Mutex<LockedSite>>)
         ensures roster { result.0 ≡ self.roster }
         ensures sites { vec_len result.1 ≡ length self.roster }
     {
@@ -141,7 +141,7 @@ impl<G: Gate> Federation<G> {
     }
 
     /// Asks a site to do a command. The gate is told while the site's lock is held. `NoSite` where the roster has no such
-    /// site, `Behind` where the site is behind what the seat has seen, and `NoMemory` where a growth is refused, which is
+    /// site, `Behind` where the site is behind what the seat has seen, and `NoMemory` where an allocation fails, which is
     /// never the refusal of the command; on each the seat is as before.
     pub fn call<R: Wait>(
         &self,
@@ -162,15 +162,15 @@ impl<G: Gate> Federation<G> {
         if index >= self.sites.len() {
             return Err(CallFault::NoSite);
         }
-        let mut held = self.sites[index].lock(rt);
-        self.gate.inside(site, held.len());
-        call_in(&mut held, site, who, command, seat)
+        let mut locked = self.sites[index].lock(rt);
+        self.gate.inside(site, locked.len());
+        call_in(&mut locked, site, who, command, seat)
     }
 
     /// A copy of a site's board. The seat has then seen the site as far as the copy. The faults are those of `call`.
     pub fn look<R: Wait>(&self, rt: &R, site: SiteId, seat: &mut Seat) -> Result<Board, CallFault>
         ensures nowhere { (result ≡ Err CallFault.NoSite) ↔ (length self.now.roster ≤ site) }
-        ensures ok { IfOk result (λ b. Looks (known_by seat.old) (known_by seat.new) site (reads b)) }
+        ensures ok { IfOk result (λ b. Looks (known_by seat.old) (known_by seat.new) site (board_reads b)) }
         ensures err { OnErr result (known_by seat.new ≡ known_by seat.old) }
         ensures behind { site < length self.now.roster → IfErr result (OnlyBehind (known_by seat.old) site) }
     {
@@ -178,8 +178,8 @@ impl<G: Gate> Federation<G> {
         if index >= self.sites.len() {
             return Err(CallFault::NoSite);
         }
-        let held = self.sites[index].lock(rt);
-        look_in(&held, site, seat)
+        let locked = self.sites[index].lock(rt);
+        look_in(&locked, site, seat)
     }
 
     /// Makes a packet at a site for a site, and sends it to that site's queue once the lock is free. The faults are those
@@ -203,9 +203,9 @@ impl<G: Gate> Federation<G> {
         if index >= self.sites.len() || addressee >= self.sites.len() {
             return Err(CallFault::NoSite);
         }
-        let mut held = self.sites[index].lock(rt);
-        let made = ship_in(&mut held, site, to, seat);
-        drop(held);
+        let mut locked = self.sites[index].lock(rt);
+        let made = ship_in(&mut locked, site, to, seat);
+        drop(locked);
         let parcel = made?;
         let place = parcel.place;
         let queued = self.queues[addressee]
@@ -235,10 +235,10 @@ impl<G: Gate> Federation<G> {
         let Ok(Mail::Parcel(parcel)) = self.queues[index].receiver.recv(rt) else {
             return Ok(Next::Ended);
         };
-        let mut held = self.sites[index].lock(rt);
-        match take_in(&mut held, site, parcel, seat)? {
-            Receipt::Taken(taken) => Ok(Next::Taken(taken)),
-            Receipt::Gap(missing) => Ok(Next::Gap(missing)),
+        let mut locked = self.sites[index].lock(rt);
+        match take_in(&mut locked, site, parcel, seat)? {
+            Delivered::Taken(taken) => Ok(Next::Taken(taken)),
+            Delivered::Gap(missing) => Ok(Next::Gap(missing)),
         }
     }
 

@@ -1,4 +1,4 @@
-//! Gates.
+//! What is called inside a site's lock, so that a caller can hold a thread there.
 use fed_stamp::SiteId;
 
 /// Something that is told of each command while its site's lock is held, as a test is that wants calls to meet.

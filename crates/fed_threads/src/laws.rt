@@ -1,8 +1,8 @@
 //! Laws of settled lists. Each function does nothing: its contract is the law.
 ghost use Rattle.std.specs.Prelude.{◌≡◌, ◌≤◌, ℕ, Bool, List, length};
 ghost use Rattle.fed_stamp.specs.declared.sites.TheConstants.{SITES};
-ghost use Rattle.fed_world.specs.declared.events.Event.{Event};
-ghost use Rattle.fed_world.specs.Run.{run};
+ghost use Rattle.fed_model.specs.declared.events.Event.{Event};
+ghost use Rattle.fed_model.specs.Run.{run};
 ghost use Rattle.fed_threads.specs.declared.journal.Claim.{Claim};
 ghost use Rattle.fed_threads.specs.declared.journal.Entry.{Entry};
 ghost use Rattle.fed_threads.specs.Placing.{IsPlacing};

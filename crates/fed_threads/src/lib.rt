@@ -10,8 +10,6 @@ mod claims;
 pub mod closing;
 /// Runs of an order's entries.
 mod course;
-/// Whether two events are the same.
-mod events;
 /// Faults.
 pub mod fault;
 /// Federations whose sites run at the same time.
@@ -22,6 +20,8 @@ pub mod gate;
 pub mod journal;
 /// Laws of settled lists.
 pub mod laws;
+/// What lies under a site's lock.
+mod locked_sites;
 /// Parcels.
 mod parcel;
 /// The order of the entries.
@@ -30,8 +30,6 @@ mod placing;
 pub mod seat;
 /// The entries of all journals as one list of events.
 pub mod settling;
-/// What lies under a site's lock.
-mod site;
 
 pub use closing::Run;
 pub use fault::{CallFault, CloseFault};

@@ -1,4 +1,4 @@
-//! Parcels.
+//! What a site sends to another: a packet with its sender and its place in the sender's journal.
 use fed_stamp::SiteId;
 use fed_wire::Packet;
 

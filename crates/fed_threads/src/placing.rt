@@ -20,7 +20,7 @@ pub(crate) struct Order {
 
 /// The site of the next entry, and the seat that claims it.
 #[derive(Clone, Copy, Debug)]
-struct Next {
+struct Candidate {
     site: usize,
     seat: usize,
 }
@@ -65,7 +65,7 @@ fn least_next(
     claimants: &Claimants,
     placed: &[usize],
     cursors: &[usize],
-) -> Option<Next>
+) -> Option<Candidate>
     requires claimed { AreClaimed (entries_of journals.now) (claims_of seats.now) }
     requires table { AreClaimants (entries_of journals.now) (claims_of seats.now) (rows_of claimants.now.rows.items) }
     requires cursors { AreCursors (claims_of seats.now) placed.now cursors.now }
@@ -77,7 +77,7 @@ fn least_next(
 {
     for site in 0..journals.len() {
         if let Some(seat) = seat_of_next(journals, seats, claimants, placed, cursors, site) {
-            return Some(Next { site, seat });
+            return Some(Candidate { site, seat });
         }
     }
     None

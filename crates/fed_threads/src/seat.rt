@@ -1,4 +1,4 @@
-//! Seats.
+//! What one caller has seen of each site, and what it claims to have been answered.
 ghost use Rattle.std.specs.Prelude.{◌≡◌, ◌<◌, ◌+◌, OnOk, IfErr, vec_len, vec_capacity};
 ghost use Rattle.fed_threads.specs.Seat.{known_by, starts, seen_of, version_of, claimed, looked, IsUpToDate, IsBehind};
 

@@ -1,7 +1,7 @@
 //! The entries of all journals as one list of events.
 ghost use Rattle.std.specs.Prelude.{◌≡◌, ◌<◌, ◌≤◌, ◌↔◌, ℕ, List, IfOk, IfErr, IsTrue, length, slice_index};
 ghost use Rattle.fed_stamp.specs.declared.sites.TheConstants.{SITES};
-ghost use Rattle.fed_world.specs.declared.events.Event.{Event};
+ghost use Rattle.fed_model.specs.declared.events.Event.{Event};
 ghost use Rattle.fed_threads.specs.declared.fault.CloseFault.TheVariants as CloseFault;
 ghost use Rattle.fed_threads.specs.Placing.{claims_of, entries_of};
 ghost use Rattle.fed_threads.specs.Settle.{IsCloseFault, IsRunFault, IsSettled, IsWhole, RunsAll};
@@ -11,14 +11,14 @@ use crate::course::Course;
 use crate::fault::CloseFault;
 use crate::journal::{Claim, Entry};
 use crate::placing::place_all;
-use fed_stamp::{Roster, SITES};
+use fed_stamp::{Roster, SITES, roster_is_lawful};
 use fed_world::{Event, World};
 use std::alloc::Global;
 
 /// The events that the entries of the journals come to, in the one order that is chosen. It asks for one journal for each
 /// site of the roster, in the order of their numbers; the claims of the seats must be of just these entries. Else
-/// it answers the first of the faults of `CloseFault`, in the order of their numbers, or `NoMemory` wherever a growth is
-/// refused. Where there is a list that the journals and claims are settled to, want of memory is the only fault.
+/// it answers the first of the faults of `CloseFault`, in the order of their numbers, or `NoMemory` wherever an allocation
+/// fails. Where there is a list that the journals and claims are settled to, want of memory is the only fault.
 pub fn settle(
     alloc: Global,
     roster: &Roster,
@@ -49,8 +49,7 @@ pub(crate) fn settle_in(
     ensures sites { IfOk result (λ w. w.sites ≡ length roster.now) }
     ensures err { IfErr result (λ e. IsCloseFault (entries_of journals.now) (claims_of seats.now) e) }
 {
-    // what `len` ensures tells that there are at most 16 sites
-    let _count = roster.len();
+    roster_is_lawful(roster);
     let claimants = check_claims(alloc, journals, seats)?;
     let order = place_all(alloc, journals, seats, &claimants)?;
     if !has_all(journals, &order.placed) {

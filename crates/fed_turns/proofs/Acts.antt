@@ -3,18 +3,18 @@ use Rattle.std.specs.Prelude.{map, Some, None}
 use Rattle.std.proofs.Common.{◌≡◌, ◌≢◌, ◌≤◌, ◌<◌, ◌+◌, ℕ, List, [], ◌∷◌, ◌++◌, All, length, refl, sym, subst, ap, ◌∙◌}
 use Rattle.std.proofs.lemmas.List.Elements.{All-head, All-tail}
 use Rattle.fed_lattice.specs.VersionOf.{version_of}
-use Rattle.fed_record.specs.declared.askers.Who.{Who}
-use Rattle.fed_record.specs.declared.commands.Command.{Command}
-use Rattle.fed_board.proofs.ViewLaws.{view_push}
-use Rattle.fed_replica.specs.Answer.{Answer, Answer.Refuses, Answer.Replies, answer}
-use Rattle.fed_replica.specs.Ranges.{IsRanged}
-use Rattle.fed_replica.proofs.Allowed.{answer_allowed}
-use Rattle.fed_replica.proofs.NextStamps.{next_uncovered}
-use Rattle.fed_world.specs.declared.events.Event.TheVariants.{Do}
-use Rattle.fed_world.specs.declared.outcomes.Outcome.{Outcome}
-use Rattle.fed_world.specs.Run.{World, Step, does, step, run_from, outcomes_from, with_operation}
-use Rattle.fed_world.proofs.KeptLaws.{do_here, does_others}
-use Rattle.fed_world.proofs.Runs.{put_same}
+use Rattle.fed_model.specs.declared.askers.Who.{Who}
+use Rattle.fed_model.specs.declared.commands.Command.{Command}
+use Rattle.fed_theory.proofs.ViewLaws.{view_push}
+use Rattle.fed_model.specs.Answer.{Answer, Answer.Refuses, Answer.Replies, answer}
+use Rattle.fed_model.specs.Ranges.{IsRanged}
+use Rattle.fed_theory.proofs.Allowed.{answer_allowed}
+use Rattle.fed_theory.proofs.NextStamps.{next_uncovered}
+use Rattle.fed_model.specs.declared.events.Event.TheVariants.{Do}
+use Rattle.fed_model.specs.declared.outcomes.Outcome.{Outcome}
+use Rattle.fed_model.specs.Run.{World, Step, does, step, run_from, outcomes_from, with_operation}
+use Rattle.fed_theory.proofs.RunSteps.{do_here, does_others}
+use Rattle.fed_theory.proofs.Runs.{put_same}
 use Rattle.fed_answers.specs.Outcome.{answer_line, outcome_text}
 use Rattle.fed_site.specs.Says.{Done, after_command, after_commands, does as does_at}
 use Rattle.fed_turns.specs.Run.{outcome_lines, state_at}

@@ -6,8 +6,8 @@ use Rattle.std.proofs.Common.{◌≡◌, ◌≤◌, ℕ, List, [], ◌∷◌, �
 use Rattle.fed_lattice.specs.Sets.{Has}
 use Rattle.fed_wire.specs.Reading.{packet_in}
 use Rattle.fed_replica.specs.State.{State}
-use Rattle.fed_world.specs.Run.{World, run_from, start}
-use Rattle.fed_world.proofs.Runs.{packet_Has}
+use Rattle.fed_model.specs.Run.{World, run_from, start}
+use Rattle.fed_theory.proofs.Runs.{packet_Has}
 use Rattle.fed_answers.specs.Outcome.{answer_line}
 use Rattle.fed_site.specs.Line.{packet_text}
 use Rattle.fed_site.specs.Says.{after_reading, after_text, said_of, site_says}

@@ -6,13 +6,13 @@ use Rattle.fed_stamp.proofs.StampLaws.{same_stamp-Decides}
 use Rattle.fed_lattice.specs.Sets.{Has}
 use Rattle.fed_lattice.specs.History.{History}
 use Rattle.fed_lattice.proofs.FilterLaws.{Has-filter}
-use Rattle.fed_record.specs.declared.progress.Beginning.{Beginning}
-use Rattle.fed_record.specs.Body.{Body, Body.Begin, is_of_job, of_job}
-use Rattle.fed_record.specs.Field.{begin_in}
-use Rattle.fed_record.proofs.FoundLaws.{field_found}
-use Rattle.fed_board.specs.View.{view}
+use Rattle.fed_model.specs.declared.beginnings.Beginning.{Beginning}
+use Rattle.fed_model.specs.Body.{Body, Body.Begin, is_of_job, of_job}
+use Rattle.fed_model.specs.Field.{begin_in}
+use Rattle.fed_theory.proofs.FoundLaws.{field_found}
+use Rattle.fed_model.specs.View.{view}
 use Rattle.fed_replica.specs.State.{State}
-use Rattle.fed_world.specs.Run.{World, run_from, start}
+use Rattle.fed_model.specs.Run.{World, run_from, start}
 use Rattle.fed_turns.specs.Turn.{MayTurns, Turn, after_turns, beginning}
 use Rattle.fed_turns.specs.Run.{events_from}
 use Rattle.fed_turns.proofs.Alarms.{start_stands}

@@ -8,8 +8,8 @@ use Rattle.fed_lattice.specs.Sets.{Has}
 use Rattle.fed_lattice.specs.SetLaws.{Has-left}
 use Rattle.fed_replica.specs.State.{State, empty_at}
 use Rattle.fed_script.specs.Line.{Line, skips, begins, acts, lists, misuses, ships, takes, plans, compares, own_line_in}
-use Rattle.fed_world.proofs.KeptLaws.{put_other}
-use Rattle.fed_world.proofs.Runs.{put_same}
+use Rattle.fed_theory.proofs.RunSteps.{put_other}
+use Rattle.fed_theory.proofs.Runs.{put_same}
 use Rattle.fed_answers.specs.Outcome.{answer_line}
 use Rattle.fed_looks.specs.Look.{Look}
 use Rattle.fed_looks.specs.LookLine.{look_in_line}

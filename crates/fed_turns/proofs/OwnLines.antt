@@ -7,20 +7,18 @@ use Rattle.std.proofs.Common.{◌≡◌, ◌≤◌, ◌<◌, ℕ, List, [], ◌�
 use Rattle.std.proofs.lemmas.Bool.{and_parts}
 use Rattle.std.proofs.lemmas.List.Elements.{All-cons, All-nil}
 use Rattle.fed_stamp.specs.Roster.{is_named}
-use Rattle.fed_record.specs.declared.askers.Role.{Role}
-use Rattle.fed_record.specs.declared.askers.Who.{Who}
-use Rattle.fed_record.specs.declared.commands.Command.{Command}
-use Rattle.fed_record.specs.declared.moments.TheConstants.{MAX_MOMENT}
-use Rattle.fed_record.specs.declared.progress.TheConstants.{MAX_STATUS}
-use Rattle.fed_job_json.specs.Fields.{IsName}
-use Rattle.fed_job_json.specs.Stamps.{IsSite}
+use Rattle.fed_model.specs.declared.askers.Role.{Role}
+use Rattle.fed_model.specs.declared.askers.Who.{Who}
+use Rattle.fed_model.specs.declared.commands.Command.{Command}
+use Rattle.fed_model.specs.declared.moments.TheConstants.{MAX_MOMENT}
+use Rattle.fed_model.specs.declared.beginnings.TheConstants.{MAX_STATUS}
+use Rattle.fed_model.specs.Ranges.{IsName, IsSite, IsRanged}
 use Rattle.fed_stamp.specs.Stamp.{StampValue}
 use Rattle.fed_words.specs.declared.faults.UsageFault.{UsageFault}
-use Rattle.fed_words.specs.Fault.{Answer}
+use Rattle.fed_words.specs.Fault.{OrFault}
 use Rattle.fed_words.specs.Request.{Asked, acts as acts_of, list as list_of, request_in}
 use Rattle.fed_words.proofs.Given.{when_some}
 use Rattle.fed_words.proofs.SiteNames.{found_in_range}
-use Rattle.fed_replica.specs.Ranges.{IsRanged}
 use Rattle.fed_script.specs.declared.verbs.Verb.{Verb}
 use Rattle.fed_script.specs.declared.verbs.Verb.TheVariants.{Grant, Begin, Finish, HandBack, Ship, Take, Plan}
 use Rattle.fed_script.specs.Asker.{is_slash, role_in, scheduler, user_in, who_in}
@@ -153,7 +151,7 @@ module _ (roster : List (List ℕ × ℕ)) (few : length roster ≤ 16) (here : 
     verb_is Finish words e = act_is scheduler (scheduled roster here Finish words) (scheduled_ranged Finish words) e
     verb_is HandBack words e = act_is scheduler (scheduled roster here HandBack words) (scheduled_ranged HandBack words) e
 
-    asked_is : (who : Who) (asked : Answer Asked) → IsRangedAsked who asked → Some (asked_at here who asked) ≡ Some line → P line
+    asked_is : (who : Who) (asked : OrFault Asked) → IsRangedAsked who asked → Some (asked_at here who asked) ≡ Some line → P line
     asked_is who (Ok (acts_of commands)) ranged e = let same : acts here who commands ≡ line = cc in subst P same (asks who commands ranged)
     asked_is who (Ok (list_of full jobs)) ranged e = let same : lists here full jobs ≡ line = cc in subst P same (list full jobs)
     asked_is who (Err fault) ranged e = let same : misuses here fault ≡ line = cc in subst P same (misuse fault)

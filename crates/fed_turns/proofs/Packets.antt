@@ -9,12 +9,12 @@ use Rattle.std.proofs.lemmas.Slice.Eq.{bytes_eq-Decides}
 use Rattle.fed_lattice.specs.Sets.{Has}
 use Rattle.fed_lattice.specs.VersionOf.{version_of}
 use Rattle.fed_lattice.proofs.VersionOfLaws.{length-version_of}
-use Rattle.fed_board.specs.View.{view}
+use Rattle.fed_model.specs.View.{view}
 use Rattle.fed_delta.specs.Cut.{cut}
-use Rattle.fed_replica.specs.Packet.{Packet, shipped}
+use Rattle.fed_model.specs.Packet.{Packet, shipped}
 use Rattle.fed_world.specs.Kept.{IsTextOf}
-use Rattle.fed_world.specs.Run.{World}
-use Rattle.fed_world.proofs.HeardLaws.{met_below}
+use Rattle.fed_model.specs.Run.{World}
+use Rattle.fed_theory.proofs.HeardLaws.{met_below}
 use Rattle.fed_answers.specs.Outcome.{answer_line}
 use Rattle.fed_site.specs.Says.{IsReply, PacketFor}
 use Rattle.fed_turns.specs.Run.{AreShipments, IsShipment, state_at}

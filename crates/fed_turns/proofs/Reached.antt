@@ -7,24 +7,24 @@ use Rattle.fed_stamp.specs.Stamp.{StampValue}
 use Rattle.fed_lattice.specs.Sets.{Has}
 use Rattle.fed_lattice.specs.SetLaws.{Has-cases, Has-push}
 use Rattle.fed_lattice.specs.VersionOf.{version_of}
-use Rattle.fed_record.specs.declared.askers.Who.{Who}
-use Rattle.fed_record.specs.declared.commands.Command.{Command}
-use Rattle.fed_record.specs.Body.{Body}
-use Rattle.fed_board.specs.Lawful.{IsLawful}
-use Rattle.fed_wire.specs.Limits.{IsWithinLimits}
-use Rattle.fed_replica.specs.Answer.{Answer, Answer.Refuses, Answer.Replies, answer}
-use Rattle.fed_replica.specs.Packet.{Site, Packet, shipped, missing, taken, takes_unless}
-use Rattle.fed_replica.proofs.Allowed.{answer_allowed}
-use Rattle.fed_world.specs.declared.events.Event.{Event}
-use Rattle.fed_world.specs.declared.events.Event.TheVariants.{Do, Ship, Take}
-use Rattle.fed_world.specs.declared.outcomes.Outcome.{Outcome}
-use Rattle.fed_world.specs.Ranges.{IsRangedEvent, AreRanged}
-use Rattle.fed_world.specs.Run.{World, start, packet, with_operation, stays, does, ships, receives, takes, step, run_from, run}
-use Rattle.fed_world.proofs.Cuts.{cut_lawful}
-use Rattle.fed_world.proofs.HeardLaws.{heard_counters}
-use Rattle.fed_world.proofs.KeptLaws.{site_lawful}
-use Rattle.fed_world.proofs.PacketLimits.{site_within}
-use Rattle.fed_world.proofs.Runs.{Good, either_if, packet_Has, put_cases, run_good, run-push, start_good, step_good}
+use Rattle.fed_model.specs.declared.askers.Who.{Who}
+use Rattle.fed_model.specs.declared.commands.Command.{Command}
+use Rattle.fed_model.specs.Body.{Body}
+use Rattle.fed_model.specs.Lawful.{IsLawful}
+use Rattle.fed_model.specs.Limits.{IsWithinLimits}
+use Rattle.fed_model.specs.Answer.{Answer, Answer.Refuses, Answer.Replies, answer}
+use Rattle.fed_model.specs.Packet.{Site, Packet, shipped, missing, taken, takes_unless}
+use Rattle.fed_theory.proofs.Allowed.{answer_allowed}
+use Rattle.fed_model.specs.declared.events.Event.{Event}
+use Rattle.fed_model.specs.declared.events.Event.TheVariants.{Do, Ship, Take}
+use Rattle.fed_model.specs.declared.outcomes.Outcome.{Outcome}
+use Rattle.fed_model.specs.RangedEvents.{IsRangedEvent, AreRanged}
+use Rattle.fed_model.specs.Run.{World, start, packet, with_operation, stays, does, ships, receives, takes, step, run_from, run}
+use Rattle.fed_theory.proofs.Cuts.{cut_lawful}
+use Rattle.fed_theory.proofs.HeardLaws.{heard_counters}
+use Rattle.fed_theory.proofs.RunSteps.{site_lawful}
+use Rattle.fed_theory.proofs.PacketLimits.{site_within}
+use Rattle.fed_theory.proofs.Runs.{Good, either_if, packet_Has, put_cases, run_good, run-push, start_good, step_good}
 
 -- a run of events in range ends there
 pub record Reached (n : ℕ) (w : World) : Type 0 where

@@ -9,12 +9,10 @@ use Rattle.std.proofs.lemmas.List.Elements.{All-cons, All-map, All-nil}
 use Rattle.fed_stamp.specs.Stamp.{StampValue}
 use Rattle.fed_stamp.specs.declared.rosters.TheConstants.{MAX_NODES}
 use Rattle.fed_stamp.specs.Word.{is_name}
-use Rattle.fed_record.specs.declared.askers.Who.{Who}
-use Rattle.fed_record.specs.declared.commands.Command.TheVariants.{Submit, Alter, Hold, Release, Delete}
-use Rattle.fed_record.specs.declared.limits.TheConstants.{MAX_LIMIT}
-use Rattle.fed_json.specs.Numbers.{IsFrom}
-use Rattle.fed_job_json.specs.Fields.{IsAccount, IsName, IsPriority}
-use Rattle.fed_wire.specs.Limits.{AreChanges, AreValues}
+use Rattle.fed_model.specs.declared.askers.Who.{Who}
+use Rattle.fed_model.specs.declared.commands.Command.TheVariants.{Submit, Alter, Hold, Release, Delete}
+use Rattle.fed_model.specs.declared.limits.TheConstants.{MAX_LIMIT}
+use Rattle.fed_model.specs.Ranges.{IsFrom, IsAccount, IsName, IsPriority, AreChanges, AreValues, IsRanged}
 use Rattle.fed_words.specs.declared.faults.UsageFault.{UsageFault}
 use Rattle.fed_words.specs.declared.faults.UsageFault.TheVariants.{BadValue, UnknownUtility}
 use Rattle.fed_words.specs.declared.resources.Resource.{Resource}
@@ -25,7 +23,7 @@ use Rattle.fed_words.specs.declared.settings.Settings.{Settings}
 use Rattle.fed_words.specs.declared.utilities.Choice.{Choice}
 use Rattle.fed_words.specs.declared.utilities.Utility.{Utility}
 use Rattle.fed_words.specs.declared.utilities.Utility.TheVariants.{Qsub, Qalter, Qhold, Qrls, Qdel, Qstat}
-use Rattle.fed_words.specs.Fault.{Answer, ◌>>=◌, answer_map, each}
+use Rattle.fed_words.specs.Fault.{OrFault, ◌>>=◌, answer_map, each}
 use Rattle.fed_words.specs.Kinds.{kinds_in}
 use Rattle.fed_words.specs.Last.{last_of}
 use Rattle.fed_words.specs.Number.{number_in}
@@ -36,7 +34,6 @@ use Rattle.fed_words.specs.Setting.{account_in, last_settings, name_in, priority
 use Rattle.fed_words.specs.Spelling.{spelling}
 use Rattle.fed_words.specs.Utility.{utility_named}
 use Rattle.fed_words.proofs.Given.{when_some}
-use Rattle.fed_replica.specs.Ranges.{IsRanged}
 
 -- ---- words and lists of words
 pub in_range : (least most : ℕ) (word : List ℕ) (k : ℕ) → number_in least most word ≡ Some k → IsFrom least most k
@@ -46,11 +43,11 @@ in_range least most word k e =
     subst (IsFrom least most) told.1 (leb-true least _ within.0, leb-true _ most within.1)
 
 -- what holds of each that is said holds of all
-each_all : {A B : Type 0} (says : A → Answer B) (R : B → Type 0) → ((x : A) (y : B) → says x ≡ Ok y → R y) → (xs : List A) (ys : List B) → each says xs ≡ Ok ys → AllByRecursion R ys
+each_all : {A B : Type 0} (says : A → OrFault B) (R : B → Type 0) → ((x : A) (y : B) → says x ≡ Ok y → R y) → (xs : List A) (ys : List B) → each says xs ≡ Ok ys → AllByRecursion R ys
 each_all says R h [] ys e = let none : [] ≡ ys = cc in subst (AllByRecursion R) none tt
 each_all {A} {B} says R h (x ∷ xs) ys e = go (says x) refl (each says xs) (each_all says R h xs) e
   where
-    go : (o : Answer B) → says x ≡ o → (p : Answer (List B)) → ((zs : List B) → p ≡ Ok zs → AllByRecursion R zs) → (o >>= λ y. p >>= λ zs. Ok (y ∷ zs)) ≡ Ok ys → AllByRecursion R ys
+    go : (o : OrFault B) → says x ≡ o → (p : OrFault (List B)) → ((zs : List B) → p ≡ Ok zs → AllByRecursion R zs) → (o >>= λ y. p >>= λ zs. Ok (y ∷ zs)) ≡ Ok ys → AllByRecursion R ys
     go (Err fault) is p rest f = cc
     go (Ok y) is (Err fault) rest f = cc
     go (Ok y) is (Ok zs) rest f = let same : y ∷ zs ≡ ys = cc in subst (AllByRecursion R) same (h x y is, rest zs refl)
@@ -72,7 +69,7 @@ ok_made : {A B : Type 0} (Q : B → Type 0) (o : Option A) (make : A → B) (fau
 ok_made Q None make fault y h e = cc
 ok_made Q (Some a) make fault y h e = let same : make a ≡ y = cc in subst Q same (h a refl)
 
-ok_mapped : {A B : Type 0} (Q : B → Type 0) (o : Answer A) (make : A → B) (y : B) → ((a : A) → o ≡ Ok a → Q (make a)) → answer_map make o ≡ Ok y → Q y
+ok_mapped : {A B : Type 0} (Q : B → Type 0) (o : OrFault A) (make : A → B) (y : B) → ((a : A) → o ≡ Ok a → Q (make a)) → answer_map make o ≡ Ok y → Q y
 ok_mapped Q (Err fault) make y h e = cc
 ok_mapped Q (Ok a) make y h e = let same : make a ≡ y = cc in subst Q same (h a refl)
 
@@ -102,7 +99,7 @@ last_ranged given all = record {
   limit = last_is limit_in IsRangedResource (IsFrom 1 MAX_LIMIT) limit_ranged given all;
 }
 
-value_ranged : (a b c : Bool) (o p : Option ℕ) (sites : Answer (List Bool)) (r : Resource) → ((n : ℕ) → o ≡ Some n → IsFrom 1 MAX_NODES n) → ((n : ℕ) → p ≡ Some n → IsFrom 1 MAX_LIMIT n)
+value_ranged : (a b c : Bool) (o p : Option ℕ) (sites : OrFault (List Bool)) (r : Resource) → ((n : ℕ) → o ≡ Some n → IsFrom 1 MAX_NODES n) → ((n : ℕ) → p ≡ Some n → IsFrom 1 MAX_LIMIT n)
     → (if a then ok_or (option_map Nodes o) BadValue else (if b then ok_or (option_map Limit p) BadValue else (if c then answer_map Sites sites else Err BadValue))) ≡ Ok r → IsRangedResource r
 value_ranged true b c o p sites r h k e = ok_made IsRangedResource o Nodes BadValue r h e
 value_ranged false true c o p sites r h k e = ok_made IsRangedResource p Limit BadValue r k e
@@ -206,7 +203,7 @@ module _ (roster : List (List ℕ × ℕ)) where
       (λ given is. all_ranged given (each_all (λ (item : Choice × List ℕ). setting_in roster item.0 item.1) IsRangedSetting (λ item. setting_ranged item.0 item.1) items given is)) e
 
 -- ---- requests
-abbrev pub IsRangedAsked : Who → Answer Asked → Type 0
+abbrev pub IsRangedAsked : Who → OrFault Asked → Type 0
 IsRangedAsked who (Ok (acts commands)) = All (IsRanged who) commands
 IsRangedAsked who (Ok (list full jobs)) = Unit {0}
 IsRangedAsked who (Err fault) = Unit {0}
@@ -244,15 +241,15 @@ module _ (roster : List (List ℕ × ℕ)) (who : Who) (named : IsName who.user)
   request_ranged here [] = tt
   request_ranged here (name ∷ words) = with_utility (utility_named name)
     where
-      with_jobs : (utility : Utility) (s : Settings) → AreRangedSettings s → (jobs : Answer (List StampValue)) → IsRangedAsked who (jobs >>= λ js. Ok (request_of roster utility s js))
+      with_jobs : (utility : Utility) (s : Settings) → AreRangedSettings s → (jobs : OrFault (List StampValue)) → IsRangedAsked who (jobs >>= λ js. Ok (request_of roster utility s js))
       with_jobs utility s ranged (Err fault) = tt
       with_jobs utility s ranged (Ok js) = of_utility s ranged utility js
 
-      with_operands : (utility : Utility) (s : Settings) → AreRangedSettings s → (operands : Answer (List (List ℕ))) → IsRangedAsked who (operands >>= λ os. jobs_in roster here utility os >>= λ js. Ok (request_of roster utility s js))
+      with_operands : (utility : Utility) (s : Settings) → AreRangedSettings s → (operands : OrFault (List (List ℕ))) → IsRangedAsked who (operands >>= λ os. jobs_in roster here utility os >>= λ js. Ok (request_of roster utility s js))
       with_operands utility s ranged (Err fault) = tt
       with_operands utility s ranged (Ok os) = with_jobs utility s ranged (jobs_in roster here utility os)
 
-      with_settings : (utility : Utility) (settings : Answer Settings) (operands : Answer (List (List ℕ))) → ((s : Settings) → settings ≡ Ok s → AreRangedSettings s)
+      with_settings : (utility : Utility) (settings : OrFault Settings) (operands : OrFault (List (List ℕ))) → ((s : Settings) → settings ≡ Ok s → AreRangedSettings s)
           → IsRangedAsked who (settings >>= λ s. operands >>= λ os. jobs_in roster here utility os >>= λ js. Ok (request_of roster utility s js))
       with_settings utility (Err fault) operands h = tt
       with_settings utility (Ok s) operands h = with_operands utility s (h s refl) operands

@@ -11,25 +11,25 @@ use Rattle.fed_stamp.proofs.VersionLaws.{below_from_each, each_from_below}
 use Rattle.fed_lattice.specs.Sets.{Has}
 use Rattle.fed_lattice.specs.VersionOf.{version_of}
 use Rattle.fed_lattice.proofs.VersionOfLaws.{length-version_of, version_of-Has, version_of-origin}
-use Rattle.fed_board.specs.Board.{reads}
-use Rattle.fed_board.specs.Lawful.{AreKin}
-use Rattle.fed_board.specs.View.{View, view}
-use Rattle.fed_board.specs.ViewSteps.{join_records}
+use Rattle.fed_board.specs.Board.{board_reads}
+use Rattle.fed_model.specs.Lawful.{AreKin}
+use Rattle.fed_model.specs.View.{View, view}
+use Rattle.fed_theory.specs.ViewSteps.{join_records}
 use Rattle.fed_delta.specs.Cut.{cut}
 use Rattle.fed_delta.proofs.CutLaws.{stands_absorbed}
 use Rattle.fed_job_json.specs.declared.formats.Format.TheVariants.{Two}
 use Rattle.fed_wire.specs.Packet.{PacketValue}
 use Rattle.fed_wire.specs.Reading.{packet_in}
 use Rattle.fed_wire.proofs.PacketLaws.{again}
-use Rattle.fed_replica.specs.Packet.{Packet, missing, taken, takes_unless}
+use Rattle.fed_model.specs.Packet.{Packet, missing, taken, takes_unless}
 use Rattle.fed_replica.specs.State.{State, after_packet_unless, lacking}
-use Rattle.fed_world.specs.declared.outcomes.Outcome.{Outcome}
+use Rattle.fed_model.specs.declared.outcomes.Outcome.{Outcome}
 use Rattle.fed_world.specs.Kept.{IsTextOf}
 use Rattle.fed_world.specs.Outcome.{outcome_of_packet_unless}
-use Rattle.fed_world.specs.Run.{World, receives, takes}
-use Rattle.fed_world.proofs.Cuts.{cuts_kin}
-use Rattle.fed_world.proofs.Runs.{IsSent, put_same}
-use Rattle.fed_world.proofs.SentLaws.{receives_others}
+use Rattle.fed_model.specs.Run.{World, receives, takes}
+use Rattle.fed_theory.proofs.Cuts.{cuts_kin}
+use Rattle.fed_theory.proofs.Runs.{IsSent, put_same}
+use Rattle.fed_theory.proofs.RunSteps.{receives_others}
 use Rattle.fed_answers.specs.Outcome.{answer_line, outcome_text}
 use Rattle.fed_site.specs.Packets.{is_foreign, is_forgotten}
 use Rattle.fed_site.specs.Says.{Done, after_reading, after_receipt}
@@ -132,7 +132,7 @@ module _ (roster : List (List ℕ × ℕ)) (few : length roster ≤ 16) (w : Wor
   received : (lacks : Option ℕ) → missing p.need (version_of (w.site i).set) ≡ lacks → IsStepped roster i w (receives w i (takes_unless lacks (w.site i) p)) (receipt lacks)
   received (Some from) e = record { after = refl; others = λ j apart. refl; packets = refl; text = refl }
   received None e =
-      let joins = stands_absorbed (w.site i).set p.gives kin p.need (enough e) (view (w.site i).set) (reads c.delta.changes) (join_records (view (w.site i).set) (reads c.delta.changes)) refl refl t.stands.cut in
+      let joins = stands_absorbed (w.site i).set p.gives kin p.need (enough e) (view (w.site i).set) (board_reads c.delta.changes) (join_records (view (w.site i).set) (board_reads c.delta.changes)) refl refl t.stands.cut in
       let seen : c.delta.changes.version ≡ p.reached = reached ∙ sym sent.exact in
       record {
         after =

@@ -8,20 +8,19 @@ use Rattle.std.proofs.lemmas.List.Elements.{All-append, All-cons, All-map, All-n
 use Rattle.fed_stamp.specs.Indexes.{put}
 use Rattle.fed_stamp.specs.Stamp.{StampValue}
 use Rattle.fed_lattice.specs.Sets.{Has}
-use Rattle.fed_record.specs.declared.askers.Who.{Who}
-use Rattle.fed_record.specs.declared.commands.Command.{Command}
+use Rattle.fed_model.specs.declared.askers.Who.{Who}
+use Rattle.fed_model.specs.declared.commands.Command.{Command}
 use Rattle.fed_words.specs.declared.faults.UsageFault.{UsageFault}
 use Rattle.fed_wire.specs.Reading.{packet_in}
-use Rattle.fed_replica.specs.Packet.{shipped}
-use Rattle.fed_replica.specs.Ranges.{IsRanged}
+use Rattle.fed_model.specs.Packet.{shipped}
+use Rattle.fed_model.specs.Ranges.{IsRanged}
 use Rattle.fed_replica.specs.State.{State}
 use Rattle.fed_script.specs.Line.{Line, skips, acts, lists, misuses, ships, takes as takes_line, plans, own_line_in}
-use Rattle.fed_world.specs.declared.events.Event.TheVariants.{Do, Ship, Take}
-use Rattle.fed_world.specs.Ranges.{AreRanged, IsRangedEvent}
-use Rattle.fed_world.specs.Run.{World, Step, run_from, outcomes_from, ships as ships_in, step, takes}
-use Rattle.fed_world.proofs.KeptLaws.{put_other}
-use Rattle.fed_world.proofs.Runs.{packet_Has, put_same, run-append}
-use Rattle.fed_world.proofs.SentLaws.{ship_here, take_here}
+use Rattle.fed_model.specs.declared.events.Event.TheVariants.{Do, Ship, Take}
+use Rattle.fed_model.specs.RangedEvents.{AreRanged, IsRangedEvent}
+use Rattle.fed_model.specs.Run.{World, Step, run_from, outcomes_from, ships as ships_in, step, takes}
+use Rattle.fed_theory.proofs.RunSteps.{put_other, ship_here, take_here}
+use Rattle.fed_theory.proofs.Runs.{packet_Has, put_same, run-append}
 use Rattle.fed_answers.specs.Listed.{listed}
 use Rattle.fed_answers.specs.Outcome.{answer_line, outcome_text, usage_line}
 use Rattle.fed_answers.specs.Planned.{plan_if_any, plan_or_none}

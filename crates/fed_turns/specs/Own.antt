@@ -1,6 +1,6 @@
 -- What a line may say at a site by itself.
 use Rattle.std.specs.Prelude.{◌≡◌, ℕ, ◌<◌, List, length, All}
-use Rattle.fed_replica.specs.Ranges.{IsRanged}
+use Rattle.fed_model.specs.Ranges.{IsRanged}
 use Rattle.fed_script.specs.Line.{Line, skips, acts, lists, misuses, ships, plans}
 
 -- it asks the site, for what is in range, or ships from it to a site of the roster

@@ -2,15 +2,15 @@
 use Rattle.std.specs.Prelude.{◌≡◌, ◌+◌, ℕ, suc, List, [], ◌∷◌, ◌++◌, length, map, codes, Option, Some, None}
 use Rattle.std.specs.List.{position_or_len}
 use Rattle.std.specs.Str.{bytes_eq}
-use Rattle.fed_board.specs.View.{view}
-use Rattle.fed_replica.specs.Packet.{Site, Packet, shipped}
+use Rattle.fed_model.specs.View.{view}
+use Rattle.fed_model.specs.Packet.{Site, Packet, shipped}
 use Rattle.fed_replica.specs.State.{State}
 use Rattle.fed_script.specs.Line.{Line, skips, acts, lists, misuses, ships, takes, plans, own_line_in}
-use Rattle.fed_world.specs.declared.events.Event.{Event}
-use Rattle.fed_world.specs.declared.events.Event.TheVariants.{Do, Ship, Take}
-use Rattle.fed_world.specs.declared.outcomes.Outcome.{Outcome}
+use Rattle.fed_model.specs.declared.events.Event.{Event}
+use Rattle.fed_model.specs.declared.events.Event.TheVariants.{Do, Ship, Take}
+use Rattle.fed_model.specs.declared.outcomes.Outcome.{Outcome}
 use Rattle.fed_world.specs.Kept.{IsTextOf}
-use Rattle.fed_world.specs.Run.{World, run_from, outcomes_from}
+use Rattle.fed_model.specs.Run.{World, run_from, outcomes_from}
 use Rattle.fed_answers.specs.Listed.{listed}
 use Rattle.fed_answers.specs.Outcome.{answer_line, outcome_text, usage_line}
 use Rattle.fed_answers.specs.Planned.{plan_text}

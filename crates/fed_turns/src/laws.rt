@@ -3,11 +3,11 @@
 ghost use Rattle.std.specs.Prelude.{◌≡◌, ◌⊎◌, ℕ, Bool, List, [], ◌∷◌, ◌++◌, length, map, All, Some};
 ghost use Rattle.fed_stamp.specs.Roster.{IsRoster};
 ghost use Rattle.fed_stamp.specs.Stamp.{StampValue};
-ghost use Rattle.fed_record.specs.declared.progress.Beginning.{Beginning};
+ghost use Rattle.fed_model.specs.declared.beginnings.Beginning.{Beginning};
 ghost use Rattle.fed_replica.specs.State.{empty_at};
 ghost use Rattle.fed_script.specs.Line.{Line, own_line_in};
-ghost use Rattle.fed_world.specs.Ranges.{AreRanged};
-ghost use Rattle.fed_world.specs.Run.{run, start};
+ghost use Rattle.fed_model.specs.RangedEvents.{AreRanged};
+ghost use Rattle.fed_model.specs.Run.{run, start};
 ghost use Rattle.fed_site.specs.Journal.{after_lines, kept_lines};
 ghost use Rattle.fed_site.specs.Line.{packet_text};
 ghost use Rattle.fed_turns.specs.Alarm.{RaisesNoAlarm};

@@ -9,7 +9,7 @@ use Rattle.std.proofs.Common.{◌≡◌, ℕ, length, List, [], ◌∷◌, ◌++
 use Rattle.std.proofs.lemmas.Bool.{and_parts, and_from}
 use Rattle.std.proofs.lemmas.Map.Lookups.{CmpEqualImpliesEq, exact_unsigned}
 use Rattle.std.proofs.lemmas.Map.Views.{tells_apart}
-use Rattle.fed_board.specs.declared.limits.TheConstants.{MAX_JOBS, MAX_RESERVATIONS}
+use Rattle.fed_model.specs.declared.capacities.TheConstants.{MAX_JOBS, MAX_RESERVATIONS}
 use Rattle.fed_stamp.specs.Stamp.{StampValue}
 use Rattle.fed_stamp.specs.Version.{covers, is_below}
 use Rattle.fed_stamp.proofs.VersionLaws.{covers_more}
@@ -19,12 +19,12 @@ use Rattle.fed_lattice.specs.Sets.{Has}
 use Rattle.fed_lattice.specs.Table.{IsAtEach}
 use Rattle.fed_tags.specs.Tags.{pair_cmp, has}
 use Rattle.fed_tags.specs.TagLaws.{pair_total, exact_pair, member}
-use Rattle.fed_record.specs.JobRecord.{JobRecordValue, reads as reads_job}
-use Rattle.fed_record.specs.Letter.{is_submitted}
-use Rattle.fed_record.specs.declared.windows.Window.{Window}
-use Rattle.fed_record.specs.Hold.{kind_cmp}
-use Rattle.fed_record.specs.HoldLaws.{kind_total, exact_kind}
-use Rattle.fed_record.specs.Reservation.{ReservationView}
+use Rattle.fed_record.specs.JobRecord.{JobRecordValue, job_reads}
+use Rattle.fed_model.specs.Letter.{is_submitted}
+use Rattle.fed_model.specs.declared.windows.Window.{Window}
+use Rattle.fed_model.specs.Hold.{kind_cmp}
+use Rattle.fed_model.specs.HoldLaws.{kind_total, exact_kind}
+use Rattle.fed_model.specs.Reservation.{ReservationView}
 use Rattle.fed_board.specs.Board.{IsBoard, IsKnownJob, IsKnownReservation}
 use Rattle.fed_board.specs.CoveredJob.{IsCoveredAt, IsCoveredRegister, IsCoveredJob, AreCoveredPairs}
 use Rattle.fed_job_json.specs.declared.formats.Format.{Format}
@@ -53,7 +53,7 @@ live_pairs : {E : Type 0} (cmp : E → E → Ordering) → IsTotalOrder cmp → 
 live_pairs cmp o exact v ps e element tag live = covered_pair v ps e (element, tag) (member (pair_cmp cmp) (pair_total cmp o) (exact_pair cmp exact) (element, tag) ps live)
 
 -- every stamp is covered
-job_covered : (id : StampValue) (r : JobRecordValue) → length r.touched ≡ 16 → covers_job (id, r) ≡ true → IsCoveredJob (reads_job r)
+job_covered : (id : StampValue) (r : JobRecordValue) → length r.touched ≡ 16 → covers_job (id, r) ≡ true → IsCoveredJob (job_reads r)
 job_covered id r sixteen e =
     let t = and_parts _ _ e in
     let u = and_parts _ _ t.0 in
@@ -89,7 +89,7 @@ account_set : (format : Format) (id : StampValue) (o : Option (StampValue × Opt
 account_set One id o h = ap is_some h
 account_set Two id o h = is_set _ o h
 
-job_submitted : (format : Format) (id : StampValue) (r : JobRecordValue) → IsJobIn format id r → is_submitted (reads_job r) ≡ true
+job_submitted : (format : Format) (id : StampValue) (r : JobRecordValue) → IsJobIn format id r → is_submitted (job_reads r) ≡ true
 job_submitted format id r h =
     and_from _ _ (is_set _ r.fields.owner h.owner) (and_from _ _ (is_set _ r.fields.name h.name) (and_from _ _ (is_set _ r.fields.priority h.priority)
     (and_from _ _ (is_set _ r.fields.nodes h.nodes) (and_from _ _ (is_set _ r.fields.limit h.limit) (account_set format id r.fields.account h.account)))))

@@ -11,3 +11,5 @@ pub mod PlainLaws
 pub mod RangeLaws
 pub mod StandingLaws
 pub mod LimitLaws
+pub mod PrintedLaws
+pub mod FrameLaws

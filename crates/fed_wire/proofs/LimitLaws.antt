@@ -27,36 +27,37 @@ use Rattle.fed_lattice.proofs.VersionOfLaws.{version_of-covers}
 use Rattle.fed_tags.specs.Tags.{pair_cmp}
 use Rattle.fed_tags.specs.TagLaws.{pair_total, exact_pair, has_member}
 use Rattle.fed_stamp.specs.declared.rosters.TheConstants.{MAX_NODES}
-use Rattle.fed_record.specs.declared.limits.TheConstants.{MAX_LIMIT}
-use Rattle.fed_record.specs.Body.{Body, Body.Submit, Body.Reserve, is_of_job, of_job, is_of_reservation, of_reservation}
-use Rattle.fed_record.specs.Field.{owner_in, name_in, priority_in, nodes_in, limit_in, account_in, window_in, field}
-use Rattle.fed_record.specs.Hold.{kind_cmp}
-use Rattle.fed_record.specs.HoldLaws.{kind_total, exact_kind}
-use Rattle.fed_record.specs.JobRecord.{JobRecordValue, reads as reads_job}
-use Rattle.fed_record.specs.JobView.{JobView, job_view}
-use Rattle.fed_record.specs.Letter.{is_submitted}
-use Rattle.fed_record.specs.Pairs.{adds_site, removes_site, adds_hold, removes_hold}
-use Rattle.fed_record.specs.Reservation.{ReservationView}
+use Rattle.fed_model.specs.declared.limits.TheConstants.{MAX_LIMIT}
+use Rattle.fed_model.specs.Body.{Body, Body.Submit, Body.Reserve, is_of_job, of_job, is_of_reservation, of_reservation}
+use Rattle.fed_model.specs.Field.{owner_in, name_in, priority_in, nodes_in, limit_in, account_in, window_in, field}
+use Rattle.fed_model.specs.Hold.{kind_cmp}
+use Rattle.fed_model.specs.HoldLaws.{kind_total, exact_kind}
+use Rattle.fed_record.specs.JobRecord.{JobRecordValue, job_reads}
+use Rattle.fed_model.specs.JobView.{JobView, job_view}
+use Rattle.fed_model.specs.Letter.{is_submitted}
+use Rattle.fed_model.specs.Pairs.{adds_site, removes_site, adds_hold, removes_hold}
+use Rattle.fed_model.specs.Reservation.{ReservationView}
 use Rattle.fed_lattice.specs.ExactLaws.{same_stamp_itself}
-use Rattle.fed_board.specs.Board.{BoardValue, IsBoard, IsKnownJob, IsKnownReservation, no_operation, reads}
+use Rattle.fed_board.specs.Board.{BoardValue, IsBoard, IsKnownJob, IsKnownReservation, no_operation, board_reads}
 use Rattle.fed_board.specs.CoveredJob.{IsCoveredAt}
 use Rattle.fed_board.specs.Counts.{names_of}
-use Rattle.fed_board.specs.Lawful.{IsLawful}
-use Rattle.fed_board.specs.Names.{covered_stamps, jobs_in, reservations_in}
-use Rattle.fed_board.specs.View.{View, view, HasSubmit, HasReserve}
-use Rattle.fed_board.specs.declared.limits.TheConstants.{MAX_JOBS, MAX_RESERVATIONS}
+use Rattle.fed_model.specs.Lawful.{IsLawful}
+use Rattle.fed_model.specs.Names.{covered_stamps, jobs_in, reservations_in}
+use Rattle.fed_model.specs.View.{View, view, HasSubmit, HasReserve}
+use Rattle.fed_model.specs.declared.capacities.TheConstants.{MAX_JOBS, MAX_RESERVATIONS}
 use Rattle.fed_board.proofs.CountLaws.{names-push}
-use Rattle.fed_board.proofs.SubmitLaws.{submit_of, reserve_of}
+use Rattle.fed_theory.proofs.SubmitLaws.{submit_of, reserve_of}
 use Rattle.fed_delta.specs.Cut.{cut, is_changed_job, is_changed_reservation}
-use Rattle.fed_json.specs.Numbers.{IsFrom}
+use Rattle.fed_model.specs.Ranges.{IsFrom, IsName, IsPriority, IsAccount, IsSite, IsInRange, IsWindow}
 use Rattle.fed_job_json.specs.declared.formats.Format.TheVariants.{Two}
 use Rattle.fed_job_json.specs.Covers.{covers_at, covers_pairs, covers_job}
-use Rattle.fed_job_json.specs.Fields.{IsField, IsName, IsPriority, IsAccount}
+use Rattle.fed_job_json.specs.Fields.{IsField}
 use Rattle.fed_job_json.specs.Job.{IsJob, IsJobIn}
-use Rattle.fed_job_json.specs.Stamps.{IsSite, IsVersion}
-use Rattle.fed_wire.specs.Limits.{IsInRange, IsWithinLimits}
+use Rattle.fed_job_json.specs.Stamps.{IsVersion}
+use Rattle.fed_model.specs.Limits.{IsWithinLimits}
+use Rattle.fed_board.proofs.CountedNames.{set_jobs_counted, set_reservations_counted}
 use Rattle.fed_wire.specs.Packet.{PacketValue, IsPacket, job_stands, reservation_stands, covers_window}
-use Rattle.fed_wire.specs.Reservations.{IsReservation, IsWindow}
+use Rattle.fed_wire.specs.Reservations.{IsReservation}
 use Rattle.fed_wire.proofs.RangeLaws.{owner_ranged, name_ranged, priority_ranged, nodes_ranged, limit_ranged, account_ranged, window_ranged, added_site, set_field, grant_is, version_is, pairs_are, progress_is, of_all}
 use Rattle.fed_wire.proofs.StandingLaws.{all_stand}
 
@@ -72,7 +73,7 @@ pairs_covered v (p ∷ ps) f = and_from _ _ (f p (inl refl)) (pairs_covered v ps
 
 -- ---- one job
 module _ (ops : History Body) (lawful : IsLawful ops) (within : IsWithinLimits ops) (reached : List ℕ) (job : StampValue) (r : JobRecordValue)
-    (known : IsKnownJob reached job r) (e : reads_job r ≡ (view ops).job job)
+    (known : IsKnownJob reached job r) (e : job_reads r ≡ (view ops).job job)
     (holds_sorted : IsStrictlySortedBy (pair_cmp kind_cmp) r.holds) (sites_sorted : IsStrictlySortedBy (pair_cmp nat_cmp) r.sites) where
   abbrev mine : History Body
   mine = of_job job ops
@@ -224,12 +225,12 @@ pub record IsMade (p : PacketValue) : Type 0 where
   pub board : IsBoard p.delta.changes
   pub jobs_ascend : IsStrictlySortedBy stamp_cmp (keys_of p.delta.changes.jobs)
   pub reservations_ascend : IsStrictlySortedBy stamp_cmp (keys_of p.delta.changes.reservations)
-  pub jobs : keys_of p.delta.changes.jobs ≡ jobs_in (reads p.delta.changes)
-  pub reservations : keys_of p.delta.changes.reservations ≡ reservations_in (reads p.delta.changes)
+  pub jobs : keys_of p.delta.changes.jobs ≡ jobs_in (board_reads p.delta.changes)
+  pub reservations : keys_of p.delta.changes.reservations ≡ reservations_in (board_reads p.delta.changes)
   pub tags : HaveSortedTags p.delta.changes.jobs
 
 module _ (p : PacketValue) (made : IsMade p) (ops : History Body) (seen : List ℕ) (lawful : IsLawful ops) (within : IsWithinLimits ops)
-    (needs : p.delta.need ≡ met seen (version_of ops)) (told : reads p.delta.changes ≡ cut (view ops) p.delta.need) where
+    (needs : p.delta.need ≡ met seen (version_of ops)) (told : board_reads p.delta.changes ≡ cut (view ops) p.delta.need) where
   abbrev changes : BoardValue
   changes = p.delta.changes
 
@@ -246,9 +247,9 @@ module _ (p : PacketValue) (made : IsMade p) (ops : History Body) (seen : List �
   known_reservation : (e : StampValue × ReservationView) → Found changes.reservations e → IsKnownReservation changes.version e.0 e.1
   known_reservation e f = known_at (IsKnownReservation changes.version e.0) _ e.1 f (made.board.reservations e.0)
 
-  job_view_is : (e : StampValue × JobRecordValue) → Found changes.jobs e → reads_job e.1 ≡ (view ops).job e.0
-  job_view_is e f = job_told (view ops) p.delta.need e.0 (reads_job e.1)
-      (ap (λ (o : Option JobRecordValue). reads_job (unwrap_or o no_operation)) (sym f) ∙ ap (λ (v : View). v.job e.0) told) (known_job e f).submitted
+  job_view_is : (e : StampValue × JobRecordValue) → Found changes.jobs e → job_reads e.1 ≡ (view ops).job e.0
+  job_view_is e f = job_told (view ops) p.delta.need e.0 (job_reads e.1)
+      (ap (λ (o : Option JobRecordValue). job_reads (unwrap_or o no_operation)) (sym f) ∙ ap (λ (v : View). v.job e.0) told) (known_job e f).submitted
 
   reservation_view_is : (e : StampValue × ReservationView) → Found changes.reservations e → e.1 ≡ (view ops).reservation e.0
   reservation_view_is e f = reservation_told (view ops) p.delta.need e.0 e.1
@@ -266,14 +267,14 @@ module _ (p : PacketValue) (made : IsMade p) (ops : History Body) (seen : List �
   few_jobs site =
       let same : names_of site (keys_of changes.jobs) ≡ names_of site (jobs_in (cut (view ops) p.delta.need)) = ap (names_of site) (made.jobs ∙ ap jobs_in told) in
       let fewer : names_of site (jobs_in (cut (view ops) p.delta.need)) ≤ names_of site (jobs_in (view ops)) = jobs_told (view ops) p.delta.need site in
-      let most : names_of site (jobs_in (view ops)) ≤ MAX_JOBS = within.jobs site in
+      let most : names_of site (jobs_in (view ops)) ≤ MAX_JOBS = subst (λ (n : ℕ). n ≤ MAX_JOBS) (sym (set_jobs_counted ops lawful site)) (within.jobs site) in
       omega (arith, same, fewer, most)
 
   few_reservations : (site : ℕ) → names_of site (keys_of changes.reservations) ≤ MAX_RESERVATIONS
   few_reservations site =
       let same : names_of site (keys_of changes.reservations) ≡ names_of site (reservations_in (cut (view ops) p.delta.need)) = ap (names_of site) (made.reservations ∙ ap reservations_in told) in
       let fewer : names_of site (reservations_in (cut (view ops) p.delta.need)) ≤ names_of site (reservations_in (view ops)) = reservations_told (view ops) p.delta.need site in
-      let most : names_of site (reservations_in (view ops)) ≤ MAX_RESERVATIONS = within.reservations site in
+      let most : names_of site (reservations_in (view ops)) ≤ MAX_RESERVATIONS = subst (λ (n : ℕ). n ≤ MAX_RESERVATIONS) (sym (set_reservations_counted ops lawful site)) (within.reservations site) in
       omega (arith, same, fewer, most)
 
   window_covered : (r : ReservationView) → IfSome r (λ latest. covers changes.version latest.0 ≡ true) → covers_window changes.version r ≡ true

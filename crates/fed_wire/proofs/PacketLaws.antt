@@ -8,8 +8,7 @@ use Rattle.serde_json.specs.Data.{Data, null, boolean, number, string, array, ob
 use Rattle.serde_json.specs.Find.{get, as_number, as_u64}
 use Rattle.fed_stamp.specs.Version.{is_below}
 use Rattle.fed_json.specs.declared.flaws.Flaw.TheVariants.{Shape as Misshapen, Range as OutOfRange}
-use Rattle.fed_json.specs.Reading.{Reading, where_true}
-use Rattle.fed_json.specs.Reading.{◌>>=◌ as ◌>>-◌}
+use Rattle.fed_json.specs.Reading.{Reading, where_true, ◌>>=◌ as ◌>>-◌}
 use Rattle.fed_json.specs.Numbers.{natural_value}
 use Rattle.fed_json.specs.Values.{list_value, elements_of}
 use Rattle.fed_json.specs.Objects.{has_names}

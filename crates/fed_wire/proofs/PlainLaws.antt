@@ -2,16 +2,16 @@
 use Rattle.std.specs.Prelude.{◌||◌}
 use Rattle.std.specs.List.{AllByRecursion}
 use Rattle.std.specs.Str.{IsUtf8}
-use Rattle.std.proofs.Common.{◌≡◌, ℕ, ◌≤◌, max, suc, List, [], ◌∷◌, map, Bool, false, Option, Some, None, refl, sym, ap, subst, ◌∙◌, ℤ, pos, negsuc, arith}
+use Rattle.std.proofs.Common.{◌≡◌, ℕ, ◌≤◌, max, suc, List, [], ◌∷◌, map, Bool, false, Option, Some, None, refl, ap, subst, ◌∙◌, ℤ, pos, negsuc, arith}
 use Rattle.serde_json.specs.Data.{Data, depth, items_depth, members_depth, string}
 use Rattle.serde_json.specs.Read.{read, max_depth}
 use Rattle.serde_json.specs.View.{items_of}
-use Rattle.serde_json.specs.Written.{compact_text, has_float, items_have_float, members_have_float}
+use Rattle.serde_json.specs.Written.{IsInOrder, compact_text, has_float, items_have_float, members_have_float}
 use Rattle.fed_stamp.specs.Stamp.{StampValue}
-use Rattle.fed_record.specs.declared.grants.GrantStage.{GrantStage}
-use Rattle.fed_record.specs.declared.grants.GrantStage.TheVariants.{Open, Returned}
-use Rattle.fed_record.specs.declared.holds.HoldKind.{HoldKind}
-use Rattle.fed_record.specs.JobRecord.{reads}
+use Rattle.fed_model.specs.declared.grants.GrantStage.{GrantStage}
+use Rattle.fed_model.specs.declared.grants.GrantStage.TheVariants.{Open, Returned}
+use Rattle.fed_model.specs.declared.holds.HoldKind.{HoldKind}
+use Rattle.fed_record.specs.JobRecord.{job_reads}
 use Rattle.fed_json.specs.Numbers.{natural_value, integer_value}
 use Rattle.fed_json.specs.Objects.{Named, members_from, object_value}
 use Rattle.fed_json.specs.Values.{list_value, pair_value}
@@ -25,6 +25,8 @@ use Rattle.fed_job_json.specs.Stamps.{stamp_value, version_value}
 use Rattle.fed_wire.specs.Packet.{PacketValue, packet_members, packet_value}
 use Rattle.fed_wire.specs.Reading.{text_value}
 use Rattle.fed_wire.specs.Reservations.{Reserved, reservation_value}
+use Rattle.fed_wire.specs.Printed.{IsPrinted}
+use Rattle.fed_wire.proofs.PrintedLaws.{printed, read_printed}
 use Rattle.fed_wire.proofs.TextLaws.{text_some}
 
 -- no float, and nested at most so deep
@@ -112,30 +114,30 @@ plain_version v = deeper 1 3 (version_value v) (omega arith) (plain_list natural
 plain_job : (j : Job) → IsPlain 4 (job_value Two j)
 unfolding job_members
 plain_job (id, r) = plain_object 3 (job_members Two (id, r)) (
-  plain_field account_value plain_account (reads r).account,
+  plain_field account_value plain_account (job_reads r).account,
   (
     record { whole = refl; shallow = omega arith },
     (
-      plain_grant (reads r).grant,
+      plain_grant (job_reads r).grant,
       (
         plain_list (pair_value kind_value stamp_value) 2 plain_hold r.holds,
         (
           plain_stamp id,
           (
-            plain_field natural_value plain_number (reads r).limit,
+            plain_field natural_value plain_number (job_reads r).limit,
             (
-              plain_field string plain_text (reads r).name,
+              plain_field string plain_text (job_reads r).name,
               (
-                plain_field natural_value plain_number (reads r).nodes,
+                plain_field natural_value plain_number (job_reads r).nodes,
                 (
-                  plain_field string plain_text (reads r).owner,
+                  plain_field string plain_text (job_reads r).owner,
                   (
-                    plain_field integer_value plain_integer (reads r).priority,
+                    plain_field integer_value plain_integer (job_reads r).priority,
                     (
-                      plain_progress ((reads r).begun, (reads r).finished),
+                      plain_progress ((job_reads r).begun, (job_reads r).finished),
                       (
                         plain_list (pair_value natural_value stamp_value) 2 plain_site r.sites,
-                        (plain_version (reads r).touched, tt),
+                        (plain_version (job_reads r).touched, tt),
                       ),
                     ),
                   ),
@@ -172,16 +174,28 @@ plain_packet p = plain_object 5 (packet_members Two p) (
   ),
 )
 
-pub packet_whole : (p : PacketValue) → has_float (packet_value Two p) ≡ false
-packet_whole p = let h = plain_packet p in h.whole
+-- ---- what is written of it
 
-pub packet_shallow : (p : PacketValue) → depth (packet_value Two p) ≤ max_depth
+written : (n : ℕ) (d e : Data) (bytes : List ℕ) → n ≤ max_depth → IsPlain n e → d ≡ e → (has_float d ≡ false → bytes ≡ compact_text d) → IsUtf8 bytes → IsInOrder bytes d → (depth d ≤ max_depth → read bytes ≡ Some d)
+    → (bytes ≡ compact_text e) × IsPrinted e
+written n d e bytes small h same text utf8 order back =
+    let plain : has_float d ≡ false = ap has_float same ∙ h.whole in
+    let k : depth e ≤ n = h.shallow in
+    let shallow : depth d ≤ max_depth = omega (arith, ap depth same) in
+    subst (λ (e : Data). (bytes ≡ compact_text e) × IsPrinted e) same (text plain, printed d bytes plain shallow (text plain) utf8 order (back shallow))
+
+pub job_written : (d : Data) (j : Job) (bytes : List ℕ) → d ≡ job_value Two j → (has_float d ≡ false → bytes ≡ compact_text d) → IsUtf8 bytes → IsInOrder bytes d → (depth d ≤ max_depth → read bytes ≡ Some d)
+    → (bytes ≡ compact_text (job_value Two j)) × IsPrinted (job_value Two j)
+job_written d j bytes = written 4 d (job_value Two j) bytes (omega arith) (plain_job j)
+
+pub packet_written : (d : Data) (p : PacketValue) (bytes : List ℕ) → d ≡ packet_value Two p → (has_float d ≡ false → bytes ≡ compact_text d) → IsUtf8 bytes → IsInOrder bytes d → (depth d ≤ max_depth → read bytes ≡ Some d)
+    → (bytes ≡ compact_text (packet_value Two p)) × IsPrinted (packet_value Two p)
+packet_written d p bytes = written 6 d (packet_value Two p) bytes (omega arith) (plain_packet p)
+
+packet_shallow : (p : PacketValue) → depth (packet_value Two p) ≤ max_depth
 packet_shallow p = let h = plain_packet p in let k : depth (packet_value Two p) ≤ 6 = h.shallow in omega arith
 
--- ---- its text
-
-pub text_is : (d : Data) (p : PacketValue) (bytes : List ℕ) → d ≡ packet_value Two p → (has_float d ≡ false → bytes ≡ compact_text d) → bytes ≡ compact_text (packet_value Two p)
-text_is d p bytes e h = h (ap has_float e ∙ packet_whole p) ∙ ap compact_text e
-
-pub text_back : (d : Data) (p : PacketValue) (bytes : List ℕ) → d ≡ packet_value Two p → IsUtf8 bytes → (depth d ≤ max_depth → read bytes ≡ Some d) → text_value bytes ≡ Some (packet_value Two p)
-text_back d p bytes e utf8 h = text_some bytes d utf8 (h (subst (λ (d : Data). depth d ≤ max_depth) (sym e) (packet_shallow p))) ∙ ap (λ (d : Data). Some d) e
+pub text_back : (p : PacketValue) (bytes : List ℕ) → bytes ≡ compact_text (packet_value Two p) → IsPrinted (packet_value Two p) → text_value bytes ≡ Some (packet_value Two p)
+text_back p bytes same h =
+    let d = packet_value Two p in
+    ap text_value same ∙ text_some (compact_text d) d h.utf8 (read_printed d h (packet_shallow p))

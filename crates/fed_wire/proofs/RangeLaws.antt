@@ -19,27 +19,25 @@ use Rattle.fed_lattice.proofs.FilterLaws.{Has-filter, filter-Has}
 use Rattle.fed_lattice.proofs.VersionOfLaws.{length-version_of, version_of-most}
 use Rattle.fed_tags.specs.Tags.{pair_cmp, has}
 use Rattle.fed_tags.specs.TagLaws.{pair_total, exact_pair, has_member}
-use Rattle.fed_record.specs.declared.grants.GrantStage.{GrantStage}
-use Rattle.fed_record.specs.declared.limits.TheConstants.{MAX_LIMIT}
-use Rattle.fed_record.specs.declared.progress.Beginning.{Beginning}
-use Rattle.fed_record.specs.declared.progress.Ending.{Ending}
-use Rattle.fed_record.specs.Body.{Body, Body.Submit, Body.Set, Body.Hold, Body.Release, Body.Delete, Body.Grant, Body.HandBack, Body.Begin, Body.Finish, Body.Reserve, Body.Cancel, is_of_job, of_job}
-use Rattle.fed_record.specs.Field.{owner_in, name_in, priority_in, nodes_in, limit_in, account_in, begin_in, finish_in, window_in, field}
-use Rattle.fed_record.specs.Grant.{grant_in, grant_stage}
-use Rattle.fed_record.specs.Pairs.{adds_pair, adds_site, is_live, is_site_named}
-use Rattle.fed_record.proofs.FoundLaws.{field_found, grant_found, said_found}
-use Rattle.fed_lattice.specs.ExactLaws.{same_stamp_itself}
-use Rattle.fed_lattice.specs.ExactLaws.{same_stamp_is}
-use Rattle.fed_board.specs.Lawful.{IsLawful}
-use Rattle.fed_json.specs.Numbers.{IsFrom}
+use Rattle.fed_model.specs.declared.grants.GrantStage.{GrantStage}
+use Rattle.fed_model.specs.declared.limits.TheConstants.{MAX_LIMIT}
+use Rattle.fed_model.specs.declared.beginnings.Beginning.{Beginning}
+use Rattle.fed_model.specs.declared.beginnings.Ending.{Ending}
+use Rattle.fed_model.specs.Body.{Body, Body.Submit, Body.Set, Body.Hold, Body.Release, Body.Delete, Body.Grant, Body.HandBack, Body.Begin, Body.Finish, Body.Reserve, Body.Cancel, is_of_job, of_job}
+use Rattle.fed_model.specs.Field.{owner_in, name_in, priority_in, nodes_in, limit_in, account_in, begin_in, finish_in, window_in, field}
+use Rattle.fed_model.specs.Grant.{grant_in, grant_stage}
+use Rattle.fed_model.specs.Pairs.{adds_pair, adds_site, is_live, is_site_named}
+use Rattle.fed_theory.proofs.FoundLaws.{field_found, grant_found, said_found}
+use Rattle.fed_lattice.specs.ExactLaws.{same_stamp_itself, same_stamp_is}
+use Rattle.fed_model.specs.Lawful.{IsLawful}
+use Rattle.fed_model.specs.Ranges.{IsFrom, IsName, IsPriority, IsAccount, IsSite, IsStamp, IsBeginning, IsEnding, IsInRange, IsWindow}
 use Rattle.fed_job_json.specs.declared.formats.Format.TheVariants.{Two}
-use Rattle.fed_job_json.specs.Fields.{IsField, IsName, IsPriority, IsAccount}
+use Rattle.fed_job_json.specs.Fields.{IsField}
 use Rattle.fed_job_json.specs.Grants.{IsStage, IsGrant}
 use Rattle.fed_job_json.specs.Pairs.{ascends, ArePairs}
 use Rattle.fed_job_json.specs.Progress.{IsBegun, IsProgress}
-use Rattle.fed_job_json.specs.Stamps.{IsSite, IsStamp, IsVersion}
-use Rattle.fed_wire.specs.Limits.{IsBeginning, IsEnding, IsInRange, IsWithinLimits}
-use Rattle.fed_wire.specs.Reservations.{IsWindow}
+use Rattle.fed_job_json.specs.Stamps.{IsVersion}
+use Rattle.fed_model.specs.Limits.{IsWithinLimits}
 
 -- ---- what an operation says
 

@@ -4,8 +4,8 @@ use Rattle.std.specs.Prelude.{codes, IfSome}
 use Rattle.std.proofs.lemmas.Bool.{ltb-true, lt-ltb}
 use Rattle.serde_json.specs.Data.{Data}
 use Rattle.fed_stamp.specs.declared.rosters.TheConstants.{MAX_NODES}
-use Rattle.fed_record.specs.declared.moments.TheConstants.{MAX_MOMENT}
-use Rattle.fed_record.specs.declared.windows.Window.{Window}
+use Rattle.fed_model.specs.declared.moments.TheConstants.{MAX_MOMENT}
+use Rattle.fed_model.specs.declared.windows.Window.{Window}
 use Rattle.fed_json.specs.declared.flaws.Flaw.TheVariants.{Shape}
 use Rattle.fed_json.specs.Reading.{mapped, both, where_true}
 use Rattle.fed_json.specs.Numbers.{natural_in}
@@ -16,12 +16,13 @@ use Rattle.fed_json.proofs.Steps.{bind_ok, mapped_ok, both_ok, when_ok, where_tr
 use Rattle.fed_json.proofs.NumberLaws.{natural_form}
 use Rattle.fed_json.proofs.FormLaws.{elements_takes, or_null_form}
 use Rattle.fed_json.proofs.ObjectLaws.{member_part, both_part, object_is, object_has}
-use Rattle.fed_job_json.specs.Stamps.{stamp_value, stamp_of, IsStamp, site_of}
+use Rattle.fed_job_json.specs.Stamps.{stamp_value, stamp_of, site_of}
+use Rattle.fed_model.specs.Ranges.{IsStamp, IsWindow}
 use Rattle.fed_job_json.specs.Fields.{field_value, field_of, IsField}
 use Rattle.fed_job_json.proofs.StampLaws.{site_form, stamp_form}
 use Rattle.fed_job_json.proofs.FieldLaws.{field_form}
 use Rattle.fed_job_json.proofs.GrantLaws.{four}
-use Rattle.fed_wire.specs.Reservations.{times_value, ends_later, times_from, times_of, IsWindow, window_value, window_of, reservation_members, reservation_value, reservation_names, reservation_of, IsReservation}
+use Rattle.fed_wire.specs.Reservations.{times_value, ends_later, times_from, times_of, window_value, window_of, reservation_members, reservation_value, reservation_names, reservation_of, IsReservation}
 
 four_take : (a b c d : Data) (w : Window) → times_from (a ∷ b ∷ c ∷ d ∷ []) ≡ Ok w → (list_value (a ∷ b ∷ c ∷ d ∷ []) ≡ times_value w) × IsWindow w
 four_take a b c d w e =

@@ -10,7 +10,7 @@ number_of (Shape place) = 3
 number_of (Range place) = 4
 number_of NoMemory = 5
 
--- the outcome is the one that is said, unless a growth was refused
+-- the outcome is the one that is said, unless an allocation failed
 abbrev pub Gives : {A : Type 0} → Result A WireFault → Result A WireFault → Type 0
 Gives said (Ok x) = Ok x ≡ said
 Gives said (Err e) = e ≢ NoMemory → Err e ≡ said

@@ -9,13 +9,14 @@ use Rattle.fed_lattice.specs.Latest.{is_before}
 use Rattle.fed_json.specs.Numbers.{natural_value}
 use Rattle.fed_json.specs.Values.{list_value}
 use Rattle.fed_json.specs.Objects.{Named, object_value}
-use Rattle.fed_record.specs.Reservation.{ReservationView}
+use Rattle.fed_model.specs.Reservation.{ReservationView}
 use Rattle.fed_board.specs.Counts.{names_of}
-use Rattle.fed_board.specs.declared.limits.TheConstants.{MAX_JOBS, MAX_RESERVATIONS}
+use Rattle.fed_model.specs.declared.capacities.TheConstants.{MAX_JOBS, MAX_RESERVATIONS}
 use Rattle.fed_delta.specs.Delta.{DeltaValue}
 use Rattle.fed_job_json.specs.declared.formats.Format.{Format}
 use Rattle.fed_job_json.specs.declared.formats.Format.TheVariants.{One, Two}
-use Rattle.fed_job_json.specs.Stamps.{version_value, IsVersion, IsSite}
+use Rattle.fed_job_json.specs.Stamps.{version_value, IsVersion}
+use Rattle.fed_model.specs.Ranges.{IsSite}
 use Rattle.fed_job_json.specs.Job.{Job, job_value, IsJob}
 use Rattle.fed_wire.specs.Reservations.{Reserved, reservation_value, IsReservation}
 

@@ -6,8 +6,7 @@ use Rattle.serde_json.specs.Read.{read}
 use Rattle.serde_json.specs.Find.{get, as_number, as_u64}
 use Rattle.fed_stamp.specs.declared.stamps.TheConstants.{MAX_COUNTER}
 use Rattle.fed_json.specs.declared.flaws.Flaw.TheVariants.{Shape as Misshapen, Range as OutOfRange}
-use Rattle.fed_json.specs.Reading.{◌>>=◌ as ◌>>-◌}
-use Rattle.fed_json.specs.Reading.{Reading, where_true}
+use Rattle.fed_json.specs.Reading.{◌>>=◌ as ◌>>-◌, Reading, where_true}
 use Rattle.fed_json.specs.Numbers.{natural_in}
 use Rattle.fed_json.specs.Values.{elements_of, list_of}
 use Rattle.fed_json.specs.Objects.{has_names}

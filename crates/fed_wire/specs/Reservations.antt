@@ -1,17 +1,18 @@
 -- Reservations as JSON values: a name, and the window beside the stamp of the operation that set it.
-use Rattle.std.specs.Prelude.{ℕ, ◌<◌, Bool, nat_lt, List, [], ◌∷◌, codes, if◌then◌else◌, Option, IfSome, Err}
+use Rattle.std.specs.Prelude.{ℕ, Bool, nat_lt, List, [], ◌∷◌, codes, if◌then◌else◌, Option, IfSome, Err}
 use Rattle.serde_json.specs.Data.{Data}
 use Rattle.fed_stamp.specs.Stamp.{StampValue}
 use Rattle.fed_stamp.specs.declared.rosters.TheConstants.{MAX_NODES}
-use Rattle.fed_record.specs.Reservation.{ReservationView}
-use Rattle.fed_record.specs.declared.moments.TheConstants.{MAX_MOMENT}
-use Rattle.fed_record.specs.declared.windows.Window.{Window}
+use Rattle.fed_model.specs.Reservation.{ReservationView}
+use Rattle.fed_model.specs.declared.moments.TheConstants.{MAX_MOMENT}
+use Rattle.fed_model.specs.declared.windows.Window.{Window}
 use Rattle.fed_json.specs.declared.flaws.Flaw.TheVariants.{Shape}
 use Rattle.fed_json.specs.Reading.{Reading, ◌>>=◌, mapped, both, where_true}
-use Rattle.fed_json.specs.Numbers.{natural_value, natural_in, IsFrom}
+use Rattle.fed_json.specs.Numbers.{natural_value, natural_in}
+use Rattle.fed_model.specs.Ranges.{IsFrom, IsStamp, IsSite, IsWindow}
 use Rattle.fed_json.specs.Values.{list_value, elements_of, or_null, null_or}
 use Rattle.fed_json.specs.Objects.{Named, object_value, has_names, member_of}
-use Rattle.fed_job_json.specs.Stamps.{stamp_value, stamp_of, IsStamp, site_of, IsSite}
+use Rattle.fed_job_json.specs.Stamps.{stamp_value, stamp_of, site_of}
 use Rattle.fed_job_json.specs.Fields.{field_value, field_of, IsField}
 
 abbrev pub times_value : Window → Data
@@ -28,9 +29,6 @@ times_from _ = Err Shape
 
 abbrev pub times_of : Data → Reading Window
 times_of d = elements_of d >>= times_from
-
-abbrev pub IsWindow : Window → Type 0
-IsWindow w = IsSite w.site × IsFrom 0 MAX_MOMENT w.start × IsFrom 0 MAX_MOMENT w.end × IsFrom 1 MAX_NODES w.nodes × (w.start < w.end)
 
 abbrev pub window_value : Option Window → Data
 window_value w = null_or times_value w

@@ -48,7 +48,7 @@ pub enum WireFault {
     /// 4: a value is out of its range.
     #[error("a value out of range at {place:?}")]
     Range { place: Place },
-    /// 5: a growth was refused memory.
+    /// 5: an allocation failed.
     #[error("out of memory")]
     NoMemory,
 }

@@ -3,16 +3,19 @@ ghost use Rattle.std.specs.Prelude.{◌≡◌, ℕ, List};
 ghost use Rattle.fed_stamp.specs.Version.{met};
 ghost use Rattle.fed_lattice.specs.History.{History};
 ghost use Rattle.fed_lattice.specs.VersionOf.{version_of};
-ghost use Rattle.fed_record.specs.Body.{Body};
-ghost use Rattle.fed_board.specs.Board.{reads};
-ghost use Rattle.fed_board.specs.Lawful.{IsLawful};
-ghost use Rattle.fed_board.specs.View.{view};
+ghost use Rattle.fed_model.specs.Body.{Body};
+ghost use Rattle.fed_board.specs.Board.{board_reads};
+ghost use Rattle.fed_model.specs.Lawful.{IsLawful};
+ghost use Rattle.fed_model.specs.View.{view};
 ghost use Rattle.fed_delta.specs.Cut.{cut};
 ghost use Rattle.fed_job_json.specs.declared.formats.Format.TheVariants.{Two};
-ghost use Rattle.fed_wire.specs.Limits.{IsWithinLimits};
+ghost use Rattle.fed_model.specs.Limits.{IsWithinLimits};
 ghost use Rattle.fed_wire.specs.Packet.{IsPacket};
 
+use crate::facts::sender_is_of_sixteen;
 use crate::packets::Packet;
+use fed_board::{records_are_covered, records_are_in_order};
+use fed_stamp::version_is_of_sixteen;
 
 /// A packet of what a board tells is within limits in format 2, where the board stands for a lawful set of operations
 /// whose values are in range and of whose jobs and reservations no site has named too many. So its text is read as the
@@ -20,14 +23,13 @@ use crate::packets::Packet;
 pub fn told_packets_are_within_limits(packet: &Packet)
     ensures { (ops : History Body) (seen : List ℕ) → IsLawful ops → IsWithinLimits ops →
         packet.now.delta.need ≡ met seen (version_of ops) →
-        reads packet.now.delta.changes ≡ cut (view ops) packet.now.delta.need → IsPacket Two packet.now }
+        board_reads packet.now.delta.changes ≡ cut (view ops) packet.now.delta.need → IsPacket Two packet.now }
 {
-    // What is known of the values of a packet, which the law rests on.
-    let _sender = packet.sender().get();
-    let need = packet.delta().need();
-    let _needed = need.counters();
-    let reached = packet.delta().reached();
-    let _reached = reached.counters();
-    let _jobs = packet.delta().changes().jobs();
-    let _reservations = packet.delta().changes().reservations();
+    sender_is_of_sixteen(packet);
+    let delta = packet.delta();
+    version_is_of_sixteen(&delta.need());
+    version_is_of_sixteen(&delta.reached());
+    let changes = delta.changes();
+    records_are_covered(changes);
+    records_are_in_order(changes);
 }

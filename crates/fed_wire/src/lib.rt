@@ -3,6 +3,8 @@
 
 /// Packets read from JSON values.
 mod bodies;
+/// Facts that the types keep.
+pub mod facts;
 /// Why a packet could not be read.
 pub mod faults;
 /// The jobs of a packet, read from a JSON value.
@@ -13,15 +15,18 @@ pub mod laws;
 mod names;
 /// Packets.
 pub mod packets;
+/// The text of a packet, printed job by job.
+mod printing;
 /// Versions and the sender of a packet, read from JSON values.
 pub mod readings;
 /// Reservations read from JSON values.
 pub mod reservations;
 /// Packets as text.
 pub mod texts;
-/// Packets written as JSON values.
+/// Packets without their jobs, written as JSON values.
 mod writing;
 
+pub use facts::sender_is_of_sixteen;
 pub use faults::{Part, Place, WireFault};
 pub use laws::told_packets_are_within_limits;
 pub use packets::Packet;

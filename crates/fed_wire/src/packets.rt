@@ -1,4 +1,4 @@
-//! Packets.
+//! A packet: what a site tells another of its board.
 ghost use Rattle.std.specs.Prelude.{◌≡◌, ◌↔◌, IsTrue};
 
 use fed_delta::Delta;

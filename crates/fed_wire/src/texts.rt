@@ -1,4 +1,4 @@
-//! Packets as text.
+//! How a packet is written as text, and read of it.
 ghost use Rattle.std.specs.Prelude.{◌≡◌, ◌↔◌, Some, Ok, IfOk};
 ghost use Rattle.serde_json.specs.Errors.{IsMemory};
 ghost use Rattle.serde_json.specs.Written.{compact_text};
@@ -11,7 +11,7 @@ ghost use Rattle.fed_wire.specs.Reading.{text_value, packet_in};
 use crate::bodies::packet;
 use crate::faults::WireFault;
 use crate::packets::Packet;
-use crate::writing::packet_value as value_of_packet;
+use crate::printing::packet_text;
 use fed_lattice::NoMemory;
 use serde_json::{Error, Value};
 use std::alloc::Global;
@@ -40,7 +40,7 @@ fn packet_in_text(alloc: Global, bytes: &[u8]) -> Result<Packet, WireFault>
 
 /// The packet that the text of either format is of. The bytes are accepted exactly where they are read as the JSON value
 /// of a packet within limits; else the fault is the first in the order of the checks. `NoMemory` is answered only where
-/// a growth was refused.
+/// an allocation failed.
 pub fn read(alloc: Global, bytes: &[u8]) -> Result<Packet, WireFault>
     ensures found { IfOk result (λ p. (format : AFormat) × IsPacket format p × (text_value bytes.now ≡ Some (packet_value format p))) }
     ensures only { (format : AFormat) (p : PacketValue) → IsPacket format p → text_value bytes.now ≡ Some (packet_value format p) → Gives (Ok p) result }
@@ -54,11 +54,10 @@ pub fn write(alloc: Global, packet: &Packet) -> Result<Vec<u8>, NoMemory>
     ensures text { IfOk result (λ b. b.items ≡ compact_text (packet_value Two packet.now)) }
     ensures again { IfOk result (λ b. text_value b.items ≡ Some (packet_value Two packet.now)) }
 {
-    let value = value_of_packet(alloc, packet)?;
-    Ok(value.to_vec(alloc)?)
+    Ok(packet_text(alloc, packet)?)
 }
 
-/// A packet within limits is read of its text again, unless a growth is refused.
+/// A packet within limits is read of its text again, unless an allocation fails.
 pub fn written_packets_are_read_again(alloc: Global, packet: &Packet) -> Result<Packet, WireFault>
     ensures { IsPacket Two packet.now → Gives (Ok packet.now) result }
 {

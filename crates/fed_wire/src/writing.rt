@@ -1,15 +1,15 @@
-//! Packets written as JSON values of format 2.
+//! Packets without their jobs, written as JSON values of format 2.
 ghost use Rattle.std.specs.Prelude.{◌≡◌, IsSome, IfOk, map};
 ghost use Rattle.serde_json.specs.View.{view};
 ghost use Rattle.fed_json.specs.Values.{list_value};
 ghost use Rattle.fed_job_json.specs.declared.formats.Format.TheVariants.{Two};
-ghost use Rattle.fed_job_json.specs.Job.{job_value};
 ghost use Rattle.fed_wire.specs.Packet.{packet_value as value_of};
+ghost use Rattle.fed_wire.specs.Printed.{without_jobs};
 ghost use Rattle.fed_wire.specs.Reservations.{window_value, reservation_value};
 
 use crate::packets::Packet;
 use fed_delta::Delta;
-use fed_job_write::{write_job, write_stamp, write_version};
+use fed_job_write::{write_stamp, write_version};
 use fed_record::{Reservation, Window};
 use fed_stamp::Stamp;
 use serde_json::{Map, Value, json, put};
@@ -48,26 +48,14 @@ fn reservations(alloc: Global, delta: &Delta) -> Result<Value, AllocError>
     Ok(Value::Array(values))
 }
 
-fn jobs(alloc: Global, delta: &Delta) -> Result<Value, AllocError>
-    ensures { IfOk result (λ v. view v ≡ list_value (map (job_value Two) delta.now.changes.jobs)) }
-{
-    // what `reached` ensures tells that the changed records are those of a board
-    let _reached = delta.reached();
-    let mut values = Vec::new(alloc);
-    for (id, job) in delta.jobs() {
-        values.push(write_job(alloc, *id, job)?)?;
-    }
-    Ok(Value::Array(values))
-}
-
-/// The format 2 value of the packet.
-pub(crate) fn packet_value(alloc: Global, packet: &Packet) -> Result<Value, AllocError>
-    ensures { IfOk result (λ v. view v ≡ value_of Two packet.now) }
+/// The format 2 value of the packet with no jobs.
+pub(crate) fn frame_value(alloc: Global, packet: &Packet) -> Result<Value, AllocError>
+    ensures { IfOk result (λ v. view v ≡ value_of Two (without_jobs packet.now)) }
 {
     let delta = packet.delta();
     let mut members = Map::new(alloc);
     put(&mut members, alloc, "format", Value::from(2u64))?;
-    put(&mut members, alloc, "jobs", jobs(alloc, delta)?)?;
+    put(&mut members, alloc, "jobs", Value::Array(Vec::new(alloc)))?;
     put(
         &mut members,
         alloc,

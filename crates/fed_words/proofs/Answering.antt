@@ -1,15 +1,17 @@
 -- What words ask, put together from their parts.
-use Rattle.std.proofs.Common.{◌≡◌, ℕ, List, ◌∷◌, Some, None, Ok, Err, refl, ◌∙◌}
+use Rattle.std.proofs.Common.{◌≡◌, ℕ, List, [], ◌∷◌, Some, None, Ok, Err, refl, ◌∙◌}
 use Rattle.fed_words.specs.declared.faults.UsageFault.{UsageFault}
 use Rattle.fed_words.specs.declared.settings.Settings.{Settings}
 use Rattle.fed_words.specs.declared.utilities.Utility.{Utility}
-use Rattle.fed_words.specs.Fault.{Answer, ◌>>=◌, answer_map}
+use Rattle.fed_words.specs.Fault.{OrFault, ◌>>=◌, answer_map}
+use Rattle.fed_words.specs.Reading.{reading}
 use Rattle.fed_words.specs.Request.{jobs_in, request_in, request_of}
 use Rattle.fed_words.specs.Setting.{settings_in}
 use Rattle.fed_words.specs.Spelling.{Spelling, spelling}
 use Rattle.fed_words.specs.Utility.{utility_named}
+use Rattle.fed_words.proofs.Readings.{first_fault, parts}
 
-mapped : {A B : Type 0} (a : Answer A) (f : A → B) → (a >>= λ x. Ok (f x)) ≡ answer_map f a
+mapped : {A B : Type 0} (a : OrFault A) (f : A → B) → (a >>= λ x. Ok (f x)) ≡ answer_map f a
 mapped (Ok x) f = refl
 mapped (Err fault) f = refl
 
@@ -20,5 +22,11 @@ module _ (roster : List (List ℕ × ℕ)) (here : ℕ) (name : List ℕ) (words
   pub asked-answer : (settings : Settings) (operands : List (List ℕ)) → settings_in roster spelled.items ≡ Ok settings → spelled.rest ≡ Ok operands → request_in roster here (name ∷ words) ≡ answer_map (request_of roster utility settings) (jobs_in roster here utility operands)
   asked-answer settings operands e f = asked ∙ rw (e, f) (mapped (jobs_in roster here utility operands) (request_of roster utility settings))
 
-  pub asked-fault : (fault : UsageFault) → settings_in roster spelled.items ≡ Err fault → request_in roster here (name ∷ words) ≡ Err fault
-  asked-fault fault e = asked ∙ rw e refl
+module _ (roster : List (List ℕ × ℕ)) (here : ℕ) (name : List ℕ) (words : List (List ℕ)) (utility : Utility) (named : utility_named name ≡ Some utility) where
+  pub read-answer : (settings : Settings) (operands : List (List ℕ)) → reading roster [] (spelling utility None words) ≡ Ok (settings, operands) → request_in roster here (name ∷ words) ≡ answer_map (request_of roster utility settings) (jobs_in roster here utility operands)
+  read-answer settings operands e =
+      let said = parts (settings_in roster (spelling utility None words).items) (spelling utility None words).rest settings operands e in
+      asked-answer roster here name words utility named (spelling utility None words) refl settings operands said.0 said.1
+
+  pub read-fault : (fault : UsageFault) → reading roster [] (spelling utility None words) ≡ Err fault → request_in roster here (name ∷ words) ≡ Err fault
+  read-fault fault e = rw named (first_fault (settings_in roster (spelling utility None words).items) (spelling utility None words).rest (λ settings operands. jobs_in roster here utility operands >>= λ jobs. Ok (request_of roster utility settings jobs)) fault e)

@@ -5,7 +5,7 @@ use Rattle.std.specs.List.{All, after_first, before_first, join_with_byte, list_
 use Rattle.std.proofs.lemmas.Bool.Decides.{nat_tests}
 use Rattle.std.proofs.lemmas.List.Elements.{All-cons, All-head, All-tail}
 use Rattle.std.proofs.lemmas.Bool.{eq-eqb}
-use Rattle.fed_words.specs.Fault.{Answer, each}
+use Rattle.fed_words.specs.Fault.{OrFault, each}
 
 -- no byte passes
 abbrev pub Free : (ℕ → Bool) → List ℕ → Type 0
@@ -76,7 +76,7 @@ all-map P f Q h [] all = λ k d within. absurd (omega arith)
 all-map P f Q h (x ∷ xs) all = All-cons P (f x) (map f xs) (h x (All-head Q x xs all)) (all-map P f Q h xs (All-tail Q x xs all))
 
 -- what each of a list says, where each says what it was made of
-pub each-said : {W A B : Type 0} (says : A → Answer B) (text : W → A) (means : W → B) (Q : W → Type 0) → ((w : W) → Q w → says (text w) ≡ Ok (means w)) → (ws : List W) → All Q ws → each says (map text ws) ≡ Ok (map means ws)
+pub each-said : {W A B : Type 0} (says : A → OrFault B) (text : W → A) (means : W → B) (Q : W → Type 0) → ((w : W) → Q w → says (text w) ≡ Ok (means w)) → (ws : List W) → All Q ws → each says (map text ws) ≡ Ok (map means ws)
 each-said says text means Q h [] all = refl
 each-said says text means Q h (w ∷ ws) all = rw (h w (All-head Q w ws all), each-said says text means Q h ws (All-tail Q w ws all)) refl
 

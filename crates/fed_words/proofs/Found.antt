@@ -10,13 +10,13 @@ use Rattle.std.proofs.lemmas.List.Elements.{All-append, All-cons, All-from_recur
 use Rattle.std.proofs.lemmas.List.Splits.{length-slice_split}
 use Rattle.fed_stamp.specs.declared.rosters.TheConstants.{MAX_NODES}
 use Rattle.fed_stamp.specs.declared.stamps.TheConstants.{MAX_COUNTER}
-use Rattle.fed_record.specs.declared.limits.TheConstants.{MAX_LIMIT}
+use Rattle.fed_model.specs.declared.limits.TheConstants.{MAX_LIMIT}
 use Rattle.fed_stamp.specs.Roster.{is_named, is_site_name}
 use Rattle.fed_stamp.specs.SiteSet.{set_of}
 use Rattle.fed_stamp.specs.Stamp.{StampValue}
 use Rattle.fed_stamp.specs.Word.{is_name}
-use Rattle.fed_record.specs.declared.holds.HoldKinds.{HoldKinds}
-use Rattle.fed_record.specs.Hold.{sum_of_bits}
+use Rattle.fed_model.specs.declared.holds.HoldKinds.{HoldKinds}
+use Rattle.fed_model.specs.Hold.{sum_of_bits}
 use Rattle.fed_words.specs.declared.faults.UsageFault.{UsageFault}
 use Rattle.fed_words.specs.declared.faults.UsageFault.TheVariants.{BadIdentifier, BadValue, UnknownSite, UnknownUtility}
 use Rattle.fed_words.specs.declared.identifiers.TheConstants.{MAX_SEQUENCE_DIGITS}
@@ -27,7 +27,7 @@ use Rattle.fed_words.specs.declared.settings.Settings.{Settings}
 use Rattle.fed_words.specs.declared.utilities.Choice.{Choice}
 use Rattle.fed_words.specs.declared.utilities.Utility.{Utility}
 use Rattle.fed_words.specs.declared.utilities.Utility.TheVariants.{Qsub, Qalter, Qhold, Qrls, Qdel, Qstat}
-use Rattle.fed_words.specs.Fault.{Answer, ◌>>=◌, answer_map, each}
+use Rattle.fed_words.specs.Fault.{OrFault, ◌>>=◌, answer_map, each}
 use Rattle.fed_words.specs.Identifier.{is_dot, job_in, place_in, sequence_in}
 use Rattle.fed_words.specs.Kinds.{has_letter, is_kind_letter, kinds_in}
 use Rattle.fed_words.specs.Number.{is_numeral, is_within, number_in}
@@ -44,11 +44,11 @@ use Rattle.fed_words.proofs.Each.{each-length}
 use Rattle.fed_words.proofs.Given.{option_map_some, when_some}
 use Rattle.fed_words.proofs.SiteNames.{found_in_range}
 
-bind_ok : {A B : Type 0} (a : Answer A) (f : A → Answer B) (y : B) → (a >>= f) ≡ Ok y → (x : A) × (a ≡ Ok x) × (f x ≡ Ok y)
+bind_ok : {A B : Type 0} (a : OrFault A) (f : A → OrFault B) (y : B) → (a >>= f) ≡ Ok y → (x : A) × (a ≡ Ok x) × (f x ≡ Ok y)
 bind_ok (Ok x) f y e = (x, refl, e)
 bind_ok (Err fault) f y e = absurd cc
 
-map_ok : {A B : Type 0} (f : A → B) (a : Answer A) (y : B) → answer_map f a ≡ Ok y → (x : A) × (a ≡ Ok x) × (f x ≡ y)
+map_ok : {A B : Type 0} (f : A → B) (a : OrFault A) (y : B) → answer_map f a ≡ Ok y → (x : A) × (a ≡ Ok x) × (f x ≡ y)
 map_ok f (Ok x) y e = (x, refl, cc)
 map_ok f (Err fault) y e = absurd cc
 
@@ -56,12 +56,12 @@ ok_or_ok : {A : Type 0} (o : Option A) (fault : UsageFault) (y : A) → ok_or o 
 ok_or_ok (Some x) fault y e = let same : x ≡ y = cc in ap Some same
 ok_or_ok None fault y e = absurd cc
 
-when_ok : {A : Type 0} (test : Bool) (a : Answer A) (fault : UsageFault) (y : A) → (if test then a else Err fault) ≡ Ok y → (test ≡ true) × (a ≡ Ok y)
+when_ok : {A : Type 0} (test : Bool) (a : OrFault A) (fault : UsageFault) (y : A) → (if test then a else Err fault) ≡ Ok y → (test ≡ true) × (a ≡ Ok y)
 when_ok true a fault y e = (refl, e)
 when_ok false a fault y e = absurd cc
 
 -- each value found is of a argument
-pub each_found : {W A B : Type 0} (says : A → Answer B) (means : W → B) (Q : W → Type 0) → ((x : A) (y : B) → says x ≡ Ok y → (w : W) × Q w × (means w ≡ y)) → (xs : List A) (ys : List B) → each says xs ≡ Ok ys → (ws : List W) × All Q ws × (map means ws ≡ ys)
+pub each_found : {W A B : Type 0} (says : A → OrFault B) (means : W → B) (Q : W → Type 0) → ((x : A) (y : B) → says x ≡ Ok y → (w : W) × Q w × (means w ≡ y)) → (xs : List A) (ys : List B) → each says xs ≡ Ok ys → (ws : List W) × All Q ws × (map means ws ≡ ys)
 each_found says means Q h [] ys e = ([], All-nil Q, cc)
 each_found says means Q h (x ∷ xs) ys e =
     let first = bind_ok (says x) _ ys e in
@@ -81,7 +81,7 @@ priority_found z word e =
     let found = when_some (is_numeral (without_leading_sign word) && is_priority (signed_digits_value 10 word)) (signed_digits_value 10 word) z e in
     rw (← found.1) (and_parts (is_numeral (without_leading_sign word)) (is_priority (signed_digits_value 10 word)) found.0).1
 
-abbrev answer : ℕ → Answer ℕ
+abbrev answer : ℕ → OrFault ℕ
 answer n = Ok n
 
 module _ (roster : List (List ℕ × ℕ)) where
@@ -247,13 +247,13 @@ spelling_known utility None (word ∷ words) h = elim (cases_Bool (bytes_eq word
   ]
 ]
   where
-    before_known : (utility : Utility) (items : List Item) (r : Answer (Option Choice)) (next : Option Choice → Spelling (List (List ℕ))) → All (KnownItem utility) items → ((x : Option Choice) → r ≡ Ok x → All (KnownItem utility) (next x).items) → All (KnownItem utility) (before items r next).items
+    before_known : (utility : Utility) (items : List Item) (r : OrFault (Option Choice)) (next : Option Choice → Spelling (List (List ℕ))) → All (KnownItem utility) items → ((x : Option Choice) → r ≡ Ok x → All (KnownItem utility) (next x).items) → All (KnownItem utility) (before items r next).items
     before_known utility items (Ok x) next front back = All-append (KnownItem utility) items (next x).items front (back x refl)
     before_known utility items (Err fault) next front back = front
 spelling_known utility (Some option) [] h = All-nil (KnownItem utility)
 spelling_known utility (Some option) (word ∷ words) h = All-cons (KnownItem utility) (option, word) (spelling utility None words).items (h option refl) (spelling_known utility None words (λ o e. absurd cc))
 
-each_found_of : {W A B : Type 0} (says : A → Answer B) (means : W → B) (P : A → Type 0) (Q : W → Type 0) → ((x : A) (y : B) → P x → says x ≡ Ok y → (w : W) × Q w × (means w ≡ y)) → (xs : List A) (ys : List B) → All P xs → each says xs ≡ Ok ys → (ws : List W) × All Q ws × (map means ws ≡ ys)
+each_found_of : {W A B : Type 0} (says : A → OrFault B) (means : W → B) (P : A → Type 0) (Q : W → Type 0) → ((x : A) (y : B) → P x → says x ≡ Ok y → (w : W) × Q w × (means w ≡ y)) → (xs : List A) (ys : List B) → All P xs → each says xs ≡ Ok ys → (ws : List W) × All Q ws × (map means ws ≡ ys)
 each_found_of says means P Q h [] ys all e = ([], All-nil Q, cc)
 each_found_of says means P Q h (x ∷ xs) ys all e =
     let first = bind_ok (says x) _ ys e in
@@ -263,7 +263,7 @@ each_found_of says means P Q h (x ∷ xs) ys all e =
     let whole : first.0 ∷ others.0 ≡ ys = cc (others.2) in
     (argument.0 ∷ arguments.0, All-cons Q argument.0 arguments.0 argument.1 arguments.1, rw (argument.2, arguments.2) whole)
 
-each_all : {A B : Type 0} (says : A → Answer B) (P : B → Type 0) → ((x : A) (y : B) → says x ≡ Ok y → P y) → (xs : List A) (ys : List B) → each says xs ≡ Ok ys → All P ys
+each_all : {A B : Type 0} (says : A → OrFault B) (P : B → Type 0) → ((x : A) (y : B) → says x ≡ Ok y → P y) → (xs : List A) (ys : List B) → each says xs ≡ Ok ys → All P ys
 each_all says P h [] ys e = let nothing : [] ≡ ys = cc in rw (← nothing) (All-nil P)
 each_all says P h (x ∷ xs) ys e =
     let first = bind_ok (says x) _ ys e in

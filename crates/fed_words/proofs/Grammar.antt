@@ -12,7 +12,7 @@ use Rattle.fed_words.specs.declared.utilities.Choice.{Choice}
 use Rattle.fed_words.specs.declared.utilities.Utility.{Utility}
 use Rattle.fed_words.specs.declared.utilities.Utility.TheVariants.{Qsub, Qalter, Qhold, Qrls, Qdel, Qstat}
 use Rattle.fed_words.specs.Spelling.{Item, Spelling, before, group, is_options, spelling, with_item}
-use Rattle.fed_words.specs.Syntax.{Argued, Ending, HasOption, IsEnding, IsLast, IsLine, IsOptionWord, Line, OptionWord, attached, bare, delimited, item_of_last, items_of_ending, items_of_flags, items_of_option, letters, missing, rest_of_ending, separate, unknown, words_behind, words_of_ending, words_of_line, words_of_option}
+use Rattle.fed_words.specs.Syntax.{Argued, Ending, HasOption, IsEnding, IsLast, IsLine, IsOptionWord, UtilityLine, OptionWord, attached, bare, delimited, item_of_last, items_of_ending, items_of_flags, items_of_option, letters, missing, rest_of_ending, separate, unknown, words_behind, words_of_ending, words_of_line, words_of_option}
 use Rattle.fed_words.specs.Utility.{choice_of, choices, letter_of, takes_argument}
 use Rattle.fed_words.proofs.Given.{option_map_some}
 use Rattle.fed_words.proofs.Spellings.{Words, with_items}
@@ -157,7 +157,7 @@ cut utility (letter ∷ text) = at (choice_of utility letter) refl (cut utility 
         ]
 
 record Parsed (utility : Utility) (words : Words) : Type 0 where
-  line : Line
+  line : UtilityLine
   is : IsLine utility line
   same : words ≡ words_of_line line
 
@@ -218,5 +218,5 @@ parsed : (utility : Utility) (words : Words) → Parsed utility words × ParsedB
 parsed utility [] = (ended utility [] (bare []) tt refl, tt)
 parsed utility (word ∷ rest) = let more = parsed utility rest in (step utility word rest more.0 more.1, more.0)
 
-pub line_of : (utility : Utility) (words : Words) → (line : Line) × IsLine utility line × (words ≡ words_of_line line)
+pub line_of : (utility : Utility) (words : Words) → (line : UtilityLine) × IsLine utility line × (words ≡ words_of_line line)
 line_of utility words = let found = (parsed utility words).0 in (found.line, found.is, found.same)

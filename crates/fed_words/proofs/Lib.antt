@@ -2,8 +2,9 @@ pub mod DigitWords
 pub mod Each
 pub mod Lasts
 pub mod Pieces
-pub mod Groups
 pub mod Spellings
+pub mod Readings
+pub mod Groups
 pub mod Onces
 pub mod SiteSteps
 pub mod Answering

@@ -10,7 +10,7 @@ use Rattle.std.proofs.lemmas.Iterator.{YieldsList}
 use Rattle.std.proofs.lemmas.Iterator.Splits.{YieldsList-from_str_split}
 use Rattle.std.proofs.lemmas.List.Splits.{length-slice_split}
 use Rattle.fed_stamp.specs.SiteSet.{set_of}
-use Rattle.fed_words.specs.Fault.{Answer, each}
+use Rattle.fed_words.specs.Fault.{OrFault, each}
 use Rattle.fed_words.proofs.Each.{each-length}
 
 pub pieces : {s t : _} (c : ℕ) (text : List ℕ) → c < 128 → t ≡ s → split_text s ≡ text → split_has_more s ≡ true → split_pattern s ≡ c → YieldsList (split_steps FindsChar (λ a b. b ≡ a)) (λ x. x.now) t (slice_split (λ b. eqb b c) text)
@@ -23,7 +23,7 @@ set-some : (sites : List ℕ) → 0 < length sites → (if length sites == 0 the
 set-some sites some = rw (not_zero (length sites) some) refl
 
 -- the set of the sites that a text names, of which there is one at least
-pub named_set : (says : List ℕ → Answer ℕ) (cut : ℕ → _) (text : List ℕ) (sites : List ℕ) → each says (slice_split cut text) ≡ Ok sites → (if length sites == 0 then None else Some (set_of sites)) ≡ Some (set_of sites)
+pub named_set : (says : List ℕ → OrFault ℕ) (cut : ℕ → _) (text : List ℕ) (sites : List ℕ) → each says (slice_split cut text) ≡ Ok sites → (if length sites == 0 then None else Some (set_of sites)) ≡ Some (set_of sites)
 named_set says cut text sites e = set-some sites (omega (arith, each-length says (slice_split cut text) sites e, length-slice_split cut text))
 
 pub some_from : {A : Type 0} (o : Option A) (x : A) → o ≡ Some x → IsSome o

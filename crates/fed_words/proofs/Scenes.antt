@@ -6,17 +6,17 @@ use Rattle.fed_stamp.specs.Roster.{is_site_name}
 use Rattle.fed_stamp.specs.SiteSet.{set_of}
 use Rattle.fed_stamp.specs.Stamp.{StampValue}
 use Rattle.fed_stamp.specs.Word.{is_name}
-use Rattle.fed_record.specs.declared.commands.Command.TheVariants.{Submit, Alter}
-use Rattle.fed_record.specs.declared.values.JobValues.{JobValues}
+use Rattle.fed_model.specs.declared.commands.Command.TheVariants.{Submit, Alter}
+use Rattle.fed_model.specs.declared.values.JobValues.{JobValues}
 use Rattle.fed_words.specs.declared.faults.UsageFault.TheVariants.{UnknownUtility, UnknownOption, MissingArgument, BadValue, BadIdentifier, UnknownSite, MissingOperand}
-use Rattle.fed_words.specs.Fault.{Answer}
+use Rattle.fed_words.specs.Fault.{OrFault}
 use Rattle.fed_words.specs.Request.{Asked, acts, list, request_in}
 
 roster : List (List ℕ × ℕ)
 roster = (codes "argonne", 8) ∷ (codes "lemont", 4) ∷ []
 
 -- the words of a line, parted by single spaces, read at argonne
-abbrev said : String → Answer Asked
+abbrev said : String → OrFault Asked
 said line = request_in roster 0 (slice_split (λ b. b == 32) (codes line))
 
 abbrev plain : JobValues
@@ -25,7 +25,7 @@ plain = record { name = codes "STDIN"; priority = pos 0; nodes = 1; limit = 3600
 abbrev with_priority : ℤ → JobValues
 with_priority priority = record { name = codes "STDIN"; priority = priority; nodes = 1; limit = 3600; account = None; sites = set_of (0 ∷ 1 ∷ []) }
 
-abbrev submits : JobValues → Bool → Answer Asked
+abbrev submits : JobValues → Bool → OrFault Asked
 submits values held = Ok (acts (Submit values held ∷ []))
 
 abbrev first : StampValue

@@ -9,8 +9,8 @@ use Rattle.fed_stamp.specs.Roster.{name_at}
 use Rattle.fed_stamp.specs.SiteSet.{set_of}
 use Rattle.fed_stamp.specs.Stamp.{StampValue}
 use Rattle.fed_stamp.specs.Word.{is_name}
-use Rattle.fed_record.specs.declared.limits.TheConstants.{MAX_LIMIT}
-use Rattle.fed_record.specs.Hold.{sum_of_bits}
+use Rattle.fed_model.specs.declared.limits.TheConstants.{MAX_LIMIT}
+use Rattle.fed_model.specs.Hold.{sum_of_bits}
 use Rattle.fed_words.specs.declared.resources.Resource.{Resource}
 use Rattle.fed_words.specs.declared.settings.Setting.{Setting}
 use Rattle.fed_words.specs.declared.utilities.Choice.{Choice}
@@ -22,7 +22,7 @@ use Rattle.fed_words.specs.Request.{Asked, once, request_of}
 use Rattle.fed_words.specs.Resource.{last_resources}
 use Rattle.fed_words.specs.Setting.{last_settings}
 use Rattle.fed_words.specs.Spelling.{Item}
-use Rattle.fed_words.specs.Syntax.{Line, OptionWord, delimited, separate, words_of_line}
+use Rattle.fed_words.specs.Syntax.{UtilityLine, OptionWord, delimited, separate, words_of_line}
 use Rattle.fed_words.specs.Utility.{choice_of, letter_of, takes_argument}
 
 -- ---- items
@@ -33,7 +33,7 @@ option_word_of item = if takes_argument item.0 then record { flags = []; last = 
     else record { flags = item.0 ∷ []; last = None }
 
 -- options, `--` and operands
-abbrev pub line_of : List Item → List (List ℕ) → Line
+abbrev pub line_of : List Item → List (List ℕ) → UtilityLine
 line_of items operands = record { options = map option_word_of items; ending = delimited operands }
 
 -- ---- identifiers

@@ -14,25 +14,25 @@ fault_number MissingOperand = 7
 fault_number NoMemory = 8
 
 -- a value or a fault
-abbrev pub Answer : Type 0 → Type 0
-Answer A = Result A UsageFault
+abbrev pub OrFault : Type 0 → Type 0
+OrFault A = Result A UsageFault
 
 -- what follows from a value; a fault stays
 infixl 10 ◌>>=◌
-abbrev pub ◌>>=◌ : {A B : Type 0} → Answer A → (A → Answer B) → Answer B
+abbrev pub ◌>>=◌ : {A B : Type 0} → OrFault A → (A → OrFault B) → OrFault B
 (Ok x) >>= f = f x
 (Err fault) >>= f = Err fault
 
-abbrev pub answer_map : {A B : Type 0} → (A → B) → Answer A → Answer B
+abbrev pub answer_map : {A B : Type 0} → (A → B) → OrFault A → OrFault B
 answer_map f (Ok x) = Ok (f x)
 answer_map f (Err fault) = Err fault
 
 -- what each of a list says, in order, or the first fault
-abbrev pub each : {A B : Type 0} → (A → Answer B) → List A → Answer (List B)
+abbrev pub each : {A B : Type 0} → (A → OrFault B) → List A → OrFault (List B)
 each says [] = Ok []
 each says (x ∷ xs) = says x >>= λ y. each says xs >>= λ ys. Ok (y ∷ ys)
 
 -- want of memory apart, what was returned is this answer
-abbrev pub Gives : {A B : Type 0} → (A → B) → Answer A → Answer B → Type 0
+abbrev pub Gives : {A B : Type 0} → (A → B) → OrFault A → OrFault B → Type 0
 Gives view result answer =
     MatchResult result (λ x. answer ≡ Ok (view x)) (λ fault. (fault ≡ NoMemory) ⊎ (answer ≡ Err fault))

@@ -6,7 +6,7 @@ use Rattle.fed_stamp.specs.declared.stamps.TheConstants.{MAX_COUNTER}
 use Rattle.fed_stamp.specs.Stamp.{StampValue}
 use Rattle.fed_words.specs.declared.faults.UsageFault.TheVariants.{BadIdentifier}
 use Rattle.fed_words.specs.declared.identifiers.TheConstants.{MAX_SEQUENCE_DIGITS}
-use Rattle.fed_words.specs.Fault.{Answer, ◌>>=◌}
+use Rattle.fed_words.specs.Fault.{OrFault, ◌>>=◌}
 use Rattle.fed_words.specs.Number.{number_in}
 use Rattle.fed_words.specs.Site.{site_in}
 
@@ -14,17 +14,17 @@ abbrev pub is_dot : ℕ → Bool
 is_dot byte = byte == 46
 
 -- 1 to MAX_SEQUENCE_DIGITS decimal digits, with the value of a counter
-abbrev pub sequence_in : List ℕ → Answer ℕ
+abbrev pub sequence_in : List ℕ → OrFault ℕ
 sequence_in word =
     if nat_le (length word) MAX_SEQUENCE_DIGITS then ok_or (number_in 1 MAX_COUNTER word) BadIdentifier else Err BadIdentifier
 
 -- what the word says of the site: the name behind the first dot, or, where there is none, the site that reads it
-abbrev pub place_in : List (List ℕ × ℕ) → ℕ → List ℕ → Answer ℕ
+abbrev pub place_in : List (List ℕ × ℕ) → ℕ → List ℕ → OrFault ℕ
 place_in roster here word =
     if is_some (position is_dot word) then site_in BadIdentifier roster (after_first is_dot word) else Ok here
 
 -- the job that a word names
-abbrev pub job_in : List (List ℕ × ℕ) → ℕ → List ℕ → Answer StampValue
+abbrev pub job_in : List (List ℕ × ℕ) → ℕ → List ℕ → OrFault StampValue
 job_in roster here word = do
   sequence ← sequence_in (before_first is_dot word)
   site ← place_in roster here word

@@ -2,8 +2,8 @@
 use Rattle.std.specs.Prelude.{ℕ, Bool, ◌&&◌, ◌||◌, ◌==◌, nat_lt, List, length, Option, Some, None, if◌then◌else◌}
 use Rattle.std.specs.List.{list_all, list_any}
 use Rattle.std.specs.Str.{byte}
-use Rattle.fed_record.specs.declared.holds.HoldKinds.{HoldKinds}
-use Rattle.fed_record.specs.Hold.{sum_of_bits}
+use Rattle.fed_model.specs.declared.holds.HoldKinds.{HoldKinds}
+use Rattle.fed_model.specs.Hold.{sum_of_bits}
 
 abbrev pub is_kind_letter : ℕ → Bool
 is_kind_letter b = (b == byte "u") || (b == byte "o") || (b == byte "s")

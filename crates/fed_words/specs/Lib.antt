@@ -7,6 +7,7 @@ pub mod Kinds
 pub mod Last
 pub mod Number
 pub mod Priority
+pub mod Reading
 pub mod Request
 pub mod RequestView
 pub mod Resource

@@ -1,7 +1,7 @@
 -- Words that are priorities.
 use Rattle.std.specs.Prelude.{ℕ, ℤ, Bool, ◌&&◌, int_le, List, Option, Some, None, if◌then◌else◌}
 use Rattle.std.specs.Str.Parse.{signed_digits_value, without_leading_sign}
-use Rattle.fed_record.specs.declared.priorities.TheConstants.{MIN_PRIORITY, MAX_PRIORITY}
+use Rattle.fed_model.specs.declared.priorities.TheConstants.{MIN_PRIORITY, MAX_PRIORITY}
 use Rattle.fed_words.specs.Number.{is_numeral}
 
 abbrev pub is_priority : ℤ → Bool

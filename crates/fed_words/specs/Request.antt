@@ -4,19 +4,19 @@ use Rattle.std.specs.List.{range_with_len}
 use Rattle.std.specs.Option.{ok_or}
 use Rattle.fed_stamp.specs.SiteSet.{set_of}
 use Rattle.fed_stamp.specs.Stamp.{StampValue, same_stamp}
-use Rattle.fed_record.specs.declared.commands.Command.{Command}
-use Rattle.fed_record.specs.declared.commands.Command.TheVariants.{Submit, Alter, Hold, Release, Delete}
-use Rattle.fed_record.specs.declared.holds.HoldKinds.{HoldKinds}
-use Rattle.fed_record.specs.declared.values.Changes.{Changes}
-use Rattle.fed_record.specs.declared.values.JobValues.{JobValues}
-use Rattle.fed_record.specs.Hold.{sum_of_bits}
+use Rattle.fed_model.specs.declared.commands.Command.{Command}
+use Rattle.fed_model.specs.declared.commands.Command.TheVariants.{Submit, Alter, Hold, Release, Delete}
+use Rattle.fed_model.specs.declared.holds.HoldKinds.{HoldKinds}
+use Rattle.fed_model.specs.declared.values.Changes.{Changes}
+use Rattle.fed_model.specs.declared.values.JobValues.{JobValues}
+use Rattle.fed_model.specs.Hold.{sum_of_bits}
 use Rattle.fed_words.specs.declared.faults.UsageFault.TheVariants.{UnknownUtility, MissingOperand}
 use Rattle.fed_words.specs.declared.requests.TheConstants.{DEFAULT_PRIORITY, DEFAULT_NODES, DEFAULT_LIMIT}
 use Rattle.fed_words.specs.declared.resources.Resources.{Resources}
 use Rattle.fed_words.specs.declared.settings.Settings.{Settings}
 use Rattle.fed_words.specs.declared.utilities.Utility.{Utility}
 use Rattle.fed_words.specs.declared.utilities.Utility.TheVariants.{Qsub, Qalter, Qhold, Qrls, Qdel, Qstat}
-use Rattle.fed_words.specs.Fault.{Answer, ◌>>=◌, answer_map, each}
+use Rattle.fed_words.specs.Fault.{OrFault, ◌>>=◌, answer_map, each}
 use Rattle.fed_words.specs.Identifier.{job_in}
 use Rattle.fed_words.specs.Resource.{last_resources}
 use Rattle.fed_words.specs.Setting.{settings_in}
@@ -74,11 +74,11 @@ abbrev pub once : List StampValue → List StampValue
 once [] = []
 once (job ∷ jobs) = job ∷ filter (λ other. not (same_stamp job other)) (once jobs)
 
-abbrev pub named_jobs : List (List ℕ × ℕ) → ℕ → List (List ℕ) → Answer (List StampValue)
+abbrev pub named_jobs : List (List ℕ × ℕ) → ℕ → List (List ℕ) → OrFault (List StampValue)
 named_jobs roster here operands = answer_map once (each (job_in roster here) operands)
 
 -- the jobs that operands name; those of `qsub` name none, and only `qstat` may have none
-abbrev pub jobs_in : List (List ℕ × ℕ) → ℕ → Utility → List (List ℕ) → Answer (List StampValue)
+abbrev pub jobs_in : List (List ℕ × ℕ) → ℕ → Utility → List (List ℕ) → OrFault (List StampValue)
 jobs_in roster here Qsub operands = Ok []
 jobs_in roster here Qstat operands = named_jobs roster here operands
 jobs_in roster here utility [] = Err MissingOperand
@@ -86,7 +86,7 @@ jobs_in roster here utility (operand ∷ operands) = named_jobs roster here (ope
 
 -- what words ask where they are read, or their first fault: the options that are split off stand before the place where
 -- splitting ends, and the operands behind it
-abbrev pub request_in : List (List ℕ × ℕ) → ℕ → List (List ℕ) → Answer Asked
+abbrev pub request_in : List (List ℕ × ℕ) → ℕ → List (List ℕ) → OrFault Asked
 request_in roster here [] = Err UnknownUtility
 request_in roster here (name ∷ words) = do
   utility ← ok_or (utility_named name) UnknownUtility

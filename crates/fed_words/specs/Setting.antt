@@ -2,21 +2,21 @@
 use Rattle.std.specs.Prelude.{ℕ, ℤ, Bool, true, false, List, Option, Some, None, option_map, Ok, Err, if◌then◌else◌}
 use Rattle.std.specs.List.{list_any}
 use Rattle.std.specs.Option.{ok_or}
-use Rattle.fed_record.specs.declared.holds.HoldKinds.{HoldKinds}
+use Rattle.fed_model.specs.declared.holds.HoldKinds.{HoldKinds}
 use Rattle.fed_stamp.specs.Word.{is_name}
 use Rattle.fed_words.specs.declared.faults.UsageFault.TheVariants.{BadValue}
 use Rattle.fed_words.specs.declared.resources.Resources.{Resources}
 use Rattle.fed_words.specs.declared.settings.Setting.{Setting}
 use Rattle.fed_words.specs.declared.settings.Settings.{Settings}
 use Rattle.fed_words.specs.declared.utilities.Choice.{Choice}
-use Rattle.fed_words.specs.Fault.{Answer, answer_map, each}
+use Rattle.fed_words.specs.Fault.{OrFault, answer_map, each}
 use Rattle.fed_words.specs.Kinds.{kinds_in}
 use Rattle.fed_words.specs.Last.{last_of}
 use Rattle.fed_words.specs.Priority.{priority_in}
 use Rattle.fed_words.specs.Resource.{resources_in}
 
 -- what an option with its argument sets
-abbrev pub setting_in : List (List ℕ × ℕ) → Choice → List ℕ → Answer Setting
+abbrev pub setting_in : List (List ℕ × ℕ) → Choice → List ℕ → OrFault Setting
 setting_in roster Choice.Account text = if is_name text then Ok (Setting.Account (Some text)) else Err BadValue
 setting_in roster Choice.Held text = Ok Setting.Held
 setting_in roster Choice.Kinds text = ok_or (option_map Setting.Kinds (kinds_in text)) BadValue
@@ -66,5 +66,5 @@ last_settings given = record {
 }
 
 -- what options with their arguments set
-abbrev pub settings_in : List (List ℕ × ℕ) → List (Choice × List ℕ) → Answer Settings
+abbrev pub settings_in : List (List ℕ × ℕ) → List (Choice × List ℕ) → OrFault Settings
 settings_in roster items = answer_map last_settings (each (λ item. setting_in roster item.0 item.1) items)

@@ -5,7 +5,7 @@ use Rattle.std.specs.Str.{byte, bytes_eq}
 use Rattle.fed_words.specs.declared.faults.UsageFault.TheVariants.{MissingArgument, UnknownOption}
 use Rattle.fed_words.specs.declared.utilities.Choice.{Choice}
 use Rattle.fed_words.specs.declared.utilities.Utility.{Utility}
-use Rattle.fed_words.specs.Fault.{Answer}
+use Rattle.fed_words.specs.Fault.{OrFault}
 use Rattle.fed_words.specs.Utility.{choice_of, takes_argument}
 
 -- an option and its argument, empty where it takes none
@@ -15,7 +15,7 @@ Item = Choice × List ℕ
 -- items, and what stands behind them, unless they end at a fault
 pub record Spelling (Rest : Type 0) : Type 0 where
   pub items : List Item
-  pub rest : Answer Rest
+  pub rest : OrFault Rest
 
 abbrev pub with_item : {Rest : Type 0} → Item → Spelling Rest → Spelling Rest
 with_item item spelling = record { items = item ∷ spelling.items; rest = spelling.rest }
@@ -36,7 +36,7 @@ abbrev pub is_options : List ℕ → Bool
 is_options word = nat_lt 1 (length word) && (slice_index word 0 == byte "-")
 
 -- these items, and then what follows of what stands behind them; a fault stays
-abbrev pub before : {R Rest : Type 0} → List Item → Answer R → (R → Spelling Rest) → Spelling Rest
+abbrev pub before : {R Rest : Type 0} → List Item → OrFault R → (R → Spelling Rest) → Spelling Rest
 before items (Ok x) next = record { items = items ++ (next x).items; rest = (next x).rest }
 before items (Err fault) next = record { items = items; rest = Err fault }
 

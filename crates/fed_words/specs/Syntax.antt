@@ -16,7 +16,7 @@ use Rattle.std.specs.Str.{byte, bytes_eq}
 use Rattle.fed_words.specs.declared.faults.UsageFault.TheVariants.{MissingArgument, UnknownOption}
 use Rattle.fed_words.specs.declared.utilities.Choice.{Choice}
 use Rattle.fed_words.specs.declared.utilities.Utility.{Utility}
-use Rattle.fed_words.specs.Fault.{Answer}
+use Rattle.fed_words.specs.Fault.{OrFault}
 use Rattle.fed_words.specs.Spelling.{Item, is_options}
 use Rattle.fed_words.specs.Utility.{choice_of, letter_of, takes_argument}
 
@@ -93,7 +93,7 @@ items_of_ending (unknown flags letter others words) = items_of_flags flags
 items_of_ending (missing flags option) = items_of_flags flags
 
 -- the operands, or the fault
-abbrev pub rest_of_ending : Ending → Answer (List (List ℕ))
+abbrev pub rest_of_ending : Ending → OrFault (List (List ℕ))
 rest_of_ending (delimited operands) = Ok operands
 rest_of_ending (bare operands) = Ok operands
 rest_of_ending (unknown flags letter others words) = Err UnknownOption
@@ -109,16 +109,16 @@ IsEnding utility (missing flags option) = All (HasOption utility false) flags ×
 
 -- ---- words
 
-pub record Line : Type 0 where
+pub record UtilityLine : Type 0 where
   pub options : List OptionWord
   pub ending : Ending
 
-pub record IsLine (utility : Utility) (line : Line) : Type 0 where
+pub record IsLine (utility : Utility) (line : UtilityLine) : Type 0 where
   pub options : All (IsOptionWord utility) line.options
   pub ending : IsEnding utility line.ending
 
-abbrev pub words_of_line : Line → List (List ℕ)
+abbrev pub words_of_line : UtilityLine → List (List ℕ)
 words_of_line line = flat_map words_of_option line.options ++ words_of_ending line.ending
 
-abbrev pub items_of_line : Line → List Item
+abbrev pub items_of_line : UtilityLine → List Item
 items_of_line line = flat_map items_of_option line.options ++ items_of_ending line.ending

@@ -32,7 +32,7 @@ pub enum UsageFault {
     /// 7: the utility takes one or more jobs, and no operand stands behind the options.
     #[error("no job is named")]
     MissingOperand,
-    /// 8: a growth was refused memory.
+    /// 8: an allocation failed.
     #[error("out of memory")]
     NoMemory,
 }

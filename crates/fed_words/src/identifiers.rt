@@ -1,6 +1,6 @@
 //! Identifiers of jobs.
-ghost use Rattle.std.specs.Prelude.{◌≡◌};
-ghost use Rattle.fed_words.specs.Identifier.{job_in, sequence_in};
+ghost use Rattle.std.specs.Prelude.{◌≡◌, position};
+ghost use Rattle.fed_words.specs.Identifier.{is_dot, job_in, sequence_in};
 
 use crate::faults::UsageFault;
 use crate::numbers::read_number;
@@ -18,14 +18,21 @@ pub const MAX_SEQUENCE_DIGITS: usize = 10;
 pub fn read_identifier(roster: &Roster, here: SiteId, word: &str) -> Result<JobId, UsageFault>
     ensures { result ≡ job_in roster.now here word.now }
 {
-    match word.split_once('.') {
-        Some((sequence, name)) => {
-            let counter = read_sequence(sequence)?;
-            let site = read_site(UsageFault::BadIdentifier, roster, name)?;
+    match dot_in(word.as_bytes()) {
+        Some(dot) => {
+            let counter = read_sequence(&word[..dot])?;
+            let site = read_site(UsageFault::BadIdentifier, roster, &word[dot + 1..])?;
             Ok(Stamp::new(counter, site).unwrap())
         }
         None => Ok(Stamp::new(read_sequence(word)?, here).unwrap()),
     }
+}
+
+/// The place of the first dot.
+fn dot_in(word: &[u8]) -> Option<usize>
+    ensures { result ≡ position is_dot word.now }
+{
+    word.iter().position(|byte| *byte == b'.')
 }
 
 /// The number that 1 to `MAX_SEQUENCE_DIGITS` decimal digits write.

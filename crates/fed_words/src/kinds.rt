@@ -3,7 +3,7 @@ ghost use Rattle.std.specs.Prelude.{◌≡◌};
 ghost use Rattle.std.specs.List.{list_all, list_any};
 ghost use Rattle.fed_words.specs.Kinds.{has_letter as stands_in, is_kind_letter as is_letter_of_kind, kinds_in};
 
-use fed_record::HoldKinds;
+use fed_model::HoldKinds;
 
 /// The kinds that a list of the letters `u`, `o` and `s` names, in any order and with repeats, or `None` where it is
 /// empty or has another character.

@@ -5,13 +5,13 @@ ghost use Rattle.fed_stamp.specs.Roster.{IsRoster};
 ghost use Rattle.fed_words.specs.declared.utilities.Utility.{Utility};
 ghost use Rattle.fed_words.specs.Request.{Asked, request_in};
 ghost use Rattle.fed_words.specs.Spelling.{spelling};
-ghost use Rattle.fed_words.specs.Syntax.{IsLine, Line, items_of_line, rest_of_ending, words_of_line};
+ghost use Rattle.fed_words.specs.Syntax.{IsLine, UtilityLine, items_of_line, rest_of_ending, words_of_line};
 ghost use Rattle.fed_words.specs.Askable.{CanBeAsked, words_for};
 
 /// Words of the utility syntax (POSIX.1-2017, XBD 12.2) are read as the options and operands that the grammar gives, or
 /// the fault that they end at.
 pub fn words_are_read_by_the_grammar()
-    ensures { (utility : Utility) (line : Line) → IsLine utility line →
+    ensures { (utility : Utility) (line : UtilityLine) → IsLine utility line →
         spelling utility None (words_of_line line)
         ≡ record { items = items_of_line line; rest = rest_of_ending line.ending } }
 {}
@@ -19,7 +19,7 @@ pub fn words_are_read_by_the_grammar()
 /// All words are of the grammar, with its two endings for faults.
 pub fn all_words_are_of_the_grammar()
     ensures { (utility : Utility) (words : List (List ℕ)) →
-        (line : Line) × IsLine utility line × (words ≡ words_of_line line) }
+        (line : UtilityLine) × IsLine utility line × (words ≡ words_of_line line) }
 {}
 
 /// Each request that a user can ask for is asked by words: by each option in a word of its own, with its argument in

@@ -25,7 +25,7 @@ pub mod settings;
 /// Names of sites.
 pub mod sites;
 /// What words spell: options and operands.
-pub mod spelling;
+mod spelling;
 /// The utilities and their options.
 pub mod utilities;
 

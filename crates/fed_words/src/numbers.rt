@@ -1,10 +1,10 @@
 //! Words that are numbers.
 ghost use Rattle.std.specs.Prelude.{◌≡◌};
 ghost use Rattle.fed_stamp.specs.declared.rosters.TheConstants.{MAX_NODES};
-ghost use Rattle.fed_record.specs.declared.limits.TheConstants.{MAX_LIMIT};
+ghost use Rattle.fed_model.specs.declared.limits.TheConstants.{MAX_LIMIT};
 ghost use Rattle.fed_words.specs.Number.{decimal_in, number_in};
 
-use fed_record::{Limit, Nodes};
+use fed_model::{Limit, Nodes};
 
 /// The number that a word writes in one or more decimal digits and no sign, of which the first may be zeros, or `None`
 /// where it has another form or the number doesn't fit in 64 bits.
@@ -12,7 +12,7 @@ pub fn read_number(word: &str) -> Option<u64>
     ensures { result ≡ decimal_in word.now }
 {
     // `parse` would read the digits behind a plus sign
-    if word.starts_with('+') {
+    if matches!(word.as_bytes(), [b'+', ..]) {
         return None;
     }
     word.parse().ok()

@@ -2,7 +2,7 @@
 ghost use Rattle.std.specs.Prelude.{◌≡◌};
 ghost use Rattle.fed_words.specs.Priority.{priority_in};
 
-use fed_record::Priority;
+use fed_model::Priority;
 
 /// The priority that a word writes: an optional `+` or `-`, then one or more decimal digits, with a value from
 /// `MIN_PRIORITY` to `MAX_PRIORITY`. `None` where the word has another form or the value is out of this range.

@@ -1,19 +1,18 @@
 //! What words ask.
 ghost use Rattle.std.specs.Prelude.{◌≡◌, ◌∷◌, [], IfOk, map};
-ghost use Rattle.fed_record.specs.declared.commands.Command.{Command};
+ghost use Rattle.fed_model.specs.declared.commands.Command.{Command};
 ghost use Rattle.fed_words.specs.Fault.{Gives, answer_map};
-ghost use Rattle.fed_words.specs.Item.{items_of, words_of};
+ghost use Rattle.fed_words.specs.Item.{words_of};
 ghost use Rattle.fed_words.specs.Request.{all_sites as set_of_all, changes_of, jobs_in, kinds_given, request_in, request_of, resources_given, values_of};
 ghost use Rattle.fed_words.specs.RequestView.{asked_by};
-ghost use Rattle.fed_words.specs.Setting.{settings_in};
 
 use crate::faults::UsageFault;
 use crate::jobs::read_jobs;
 use crate::resources::Resources;
-use crate::settings::{Settings, read_setting};
-use crate::spelling::{Item, Spelling, read_spelling};
+use crate::settings::Settings;
+use crate::spelling::read_options;
 use crate::utilities::Utility;
-use fed_record::{
+use fed_model::{
     Account, Changes, Command, HoldKind, HoldKinds, JobValues, Limit, Nodes, Priority,
 };
 use fed_stamp::{JobId, Roster, SITES, SiteId, SiteSet, Word};
@@ -40,18 +39,6 @@ pub enum Request {
         /// The jobs that are listed, each once; all jobs where there is none.
         jobs: Vec<JobId>,
     },
-}
-
-/// What options set, each the last of its letter.
-fn read_settings(alloc: Global, roster: &Roster, items: &[Item<'_>]) -> Result<Settings, UsageFault>
-    ensures { Gives (λ settings. settings) result (settings_in roster.now (items_of items.now)) }
-{
-    let mut settings = Settings::none();
-    for item in items {
-        let setting = read_setting(alloc, roster, item.option, item.argument)?;
-        settings.set(setting);
-    }
-    Ok(settings)
 }
 
 /// All sites of a roster.
@@ -218,7 +205,7 @@ fn answer(
 ///
 /// Words are read from left to right, a list of resources pair by pair and its sites name by name, and the first fault
 /// is answered; `UsageFault` says what each is. `MissingOperand` stands behind all options. `NoMemory` is answered where
-/// a growth was refused.
+/// an allocation failed.
 pub fn read_words(
     alloc: Global,
     words: &[&str],
@@ -229,9 +216,7 @@ pub fn read_words(
 {
     let (name, others) = words.split_first().ok_or(UsageFault::UnknownUtility)?;
     let utility = Utility::named(name).ok_or(UsageFault::UnknownUtility)?;
-    let Spelling { items, operands } = read_spelling(alloc, utility, others)?;
-    match read_settings(alloc, roster, items.as_slice()) {
-        Ok(settings) => answer(alloc, roster, here, utility, &settings, operands?),
-        Err(fault) => Err(fault),
-    }
+    let mut settings = Settings::none();
+    let operands = read_options(alloc, roster, utility, others, &mut settings)?;
+    answer(alloc, roster, here, utility, &settings, operands)
 }

@@ -7,7 +7,7 @@ ghost use Rattle.fed_words.specs.Resource.{last_resources, resource_in, resource
 use crate::faults::UsageFault;
 use crate::numbers::{read_limit, read_nodes};
 use crate::sites::read_site;
-use fed_record::{Limit, Nodes};
+use fed_model::{Limit, Nodes};
 use fed_stamp::{Roster, SiteSet};
 use std::alloc::Global;
 
@@ -116,7 +116,7 @@ fn read_resource(alloc: Global, roster: &Roster, pair: &str) -> Result<Resource,
 ///
 /// The first fault of the pairs in their order, and in a value of `sites` of its names in their order: `BadValue` where
 /// a pair has no `=`, names no resource, or has a value out of its range or form; `UnknownSite` where the roster has no
-/// site of a name; `NoMemory` where a growth was refused.
+/// site of a name; `NoMemory` where an allocation failed.
 pub fn read_resources(alloc: Global, roster: &Roster, text: &str) -> Result<Resources, UsageFault>
     ensures { Gives (λ resources. resources) result (resources_in roster.now text.now) }
 {

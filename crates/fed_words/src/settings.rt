@@ -1,19 +1,21 @@
 //! What options set.
-ghost use Rattle.std.specs.Prelude.{◌≡◌, ◌∷◌, ◌++◌, [], List, ℕ};
-ghost use Rattle.fed_words.specs.declared.settings.Setting.{Setting};
+ghost use Rattle.std.specs.Prelude.{◌≡◌, ◌∷◌, ◌++◌, [], List, Some, Ok, Err, if◌then◌else◌};
+ghost use Rattle.fed_stamp.specs.Word.{is_name};
+ghost use Rattle.fed_words.specs.declared.faults.UsageFault.{UsageFault};
 ghost use Rattle.fed_words.specs.Fault.{Gives};
-ghost use Rattle.fed_words.specs.Setting.{last_settings, setting_in};
+ghost use Rattle.fed_words.specs.Setting.{last_settings, settings_in};
+ghost use Rattle.fed_words.specs.Spelling.{Item};
 
 use crate::faults::UsageFault;
 use crate::kinds::read_kinds;
 use crate::priorities::read_priority;
 use crate::resources::{Resources, read_resources};
 use crate::utilities::Choice;
-use fed_record::{Account, HoldKinds, Priority};
+use fed_model::{Account, HoldKinds, Priority};
 use fed_stamp::{Roster, Word};
 use std::alloc::Global;
 
-/// What an option sets.
+/// What an option sets, as the definitions speak of it.
 #[derive(Clone, Copy, PartialEq, Eq, Debug)]
 pub enum Setting {
     /// `-A account_string`
@@ -67,65 +69,41 @@ impl Settings {
         }
     }
 
-    /// One option more, which takes the place of an earlier one of its letter.
-    pub(crate) fn set(&mut self, setting: Setting)
-        ensures { (given : List Setting) → self.old ≡ last_settings given →
-            self.new ≡ last_settings (given ++ setting ∷ []) }
+    /// Sets what an option with this argument sets, in the place of what an earlier one of its letter set. Not inlined,
+    /// so that settings stay where they are: a loop would move all of them in each turn.
+    #[inline(never)]
+    pub(crate) fn set(
+        &mut self,
+        alloc: Global,
+        roster: &Roster,
+        option: Choice,
+        argument: &str,
+    ) -> Result<(), UsageFault>
+        ensures { (items : List Item) → settings_in roster.now items ≡ Ok self.old →
+            Gives (λ _. self.new) result (settings_in roster.now (items ++ (option, argument.now) ∷ [])) }
     {
-        match setting {
-            Setting::Account(account) => self.account = Some(account),
-            Setting::Held => self.held = true,
-            Setting::Kinds(kinds) => self.kinds = Some(kinds),
-            Setting::Resources(resources) => self.resources = Some(resources),
-            Setting::Name(name) => self.name = Some(name),
-            Setting::Priority(priority) => self.priority = Some(priority),
-            Setting::Full => self.full = true,
+        match option {
+            Choice::Account => self.account = Some(read_account(argument)?),
+            Choice::Held => self.held = true,
+            Choice::Kinds => self.kinds = Some(read_kinds(argument).ok_or(UsageFault::BadValue)?),
+            Choice::Resources => self.resources = Some(read_resources(alloc, roster, argument)?),
+            Choice::Name => self.name = Some(Word::new(argument).ok_or(UsageFault::BadValue)?),
+            Choice::Priority => {
+                self.priority = Some(read_priority(argument).ok_or(UsageFault::BadValue)?)
+            }
+            Choice::Full => self.full = true,
         }
-    }
-}
-
-/// What an option with this argument sets.
-pub(crate) fn read_setting(
-    alloc: Global,
-    roster: &Roster,
-    option: Choice,
-    argument: &str,
-) -> Result<Setting, UsageFault>
-    ensures { Gives (λ setting. setting) result (setting_in roster.now option argument.now) }
-{
-    match option {
-        Choice::Account => read_account(argument),
-        Choice::Held => Ok(Setting::Held),
-        Choice::Kinds => match read_kinds(argument) {
-            Some(kinds) => Ok(Setting::Kinds(kinds)),
-            None => Err(UsageFault::BadValue),
-        },
-        Choice::Resources => {
-            let resources = read_resources(alloc, roster, argument)?;
-            Ok(Setting::Resources(resources))
-        }
-        Choice::Name => match Word::new(argument) {
-            Some(name) => Ok(Setting::Name(name)),
-            None => Err(UsageFault::BadValue),
-        },
-        Choice::Priority => match read_priority(argument) {
-            Some(priority) => Ok(Setting::Priority(priority)),
-            None => Err(UsageFault::BadValue),
-        },
-        Choice::Full => Ok(Setting::Full),
+        Ok(())
     }
 }
 
 /// The account that an account string names; an empty string names none.
 #[tactic(auto, unfolding(fed_stamp::specs::Word::is_name))]
-fn read_account(text: &str) -> Result<Setting, UsageFault>
-    ensures { (roster : List (List ℕ × ℕ)) → result ≡ setting_in roster Choice.Account text.now }
+fn read_account(text: &str) -> Result<Account, UsageFault>
+    ensures { result ≡ (if is_name text.now then Ok (Some text.now) else Err UsageFault.BadValue) }
 {
     if text.is_empty() {
         return Err(UsageFault::BadValue);
     }
-    match Account::new(text) {
-        Some(account) => Ok(Setting::Account(account)),
-        None => Err(UsageFault::BadValue),
-    }
+    Account::new(text).ok_or(UsageFault::BadValue)
 }

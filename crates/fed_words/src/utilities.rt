@@ -43,13 +43,13 @@ impl Utility {
     pub fn named(name: &str) -> Option<Utility>
         ensures { result ≡ utility_named name.now }
     {
-        match name {
-            "qsub" => Some(Utility::Qsub),
-            "qalter" => Some(Utility::Qalter),
-            "qhold" => Some(Utility::Qhold),
-            "qrls" => Some(Utility::Qrls),
-            "qdel" => Some(Utility::Qdel),
-            "qstat" => Some(Utility::Qstat),
+        match name.as_bytes() {
+            b"qsub" => Some(Utility::Qsub),
+            b"qalter" => Some(Utility::Qalter),
+            b"qhold" => Some(Utility::Qhold),
+            b"qrls" => Some(Utility::Qrls),
+            b"qdel" => Some(Utility::Qdel),
+            b"qstat" => Some(Utility::Qstat),
             _ => None,
         }
     }

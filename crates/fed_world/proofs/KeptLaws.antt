@@ -1,41 +1,35 @@
 -- What the code of a world does is what happens in the run.
 use Rattle.std.specs.Prelude.{cond, nat_lt, replicate, Option, Some, None, Result, Ok, Err, MatchResult}
-use Rattle.std.proofs.Common.{◌≡◌, ◌≢◌, ℕ, ◌+◌, ◌<◌, ◌≤◌, ◌==◌, List, [], ◌∷◌, ◌++◌, length, get_or, set, refl, sym, ap, subst, ◌∙◌, inl, inr, arith}
-use Rattle.std.proofs.lemmas.Bool.{cases_Bool, cases_eq, cond-true, cond-false, eqb-true, lt-ltb}
+use Rattle.std.proofs.Common.{◌≡◌, ◌≢◌, ℕ, ◌+◌, ◌<◌, ◌≤◌, List, [], ◌∷◌, ◌++◌, length, get_or, set, refl, sym, ap, subst, ◌∙◌, inl, inr, arith}
+use Rattle.std.proofs.lemmas.Bool.{cases_eq, cond-true, lt-ltb}
 use Rattle.std.proofs.lemmas.List.{get_or-set_same, get_or-set_other, get_or_push, get_or_append_left, get_or-replicate, length-set, length_push, take_more}
 use Rattle.std.proofs.Math.ListN.{take}
 use Rattle.fed_stamp.specs.Stamp.{StampValue}
 use Rattle.fed_lattice.specs.History.{History}
 use Rattle.fed_lattice.specs.VersionOf.{version_of}
-use Rattle.fed_record.specs.declared.askers.Who.{Who}
-use Rattle.fed_record.specs.declared.commands.Command.{Command}
-use Rattle.fed_record.specs.declared.refusals.Refusal.{Refusal}
-use Rattle.fed_record.specs.declared.replies.Reply.{Reply}
-use Rattle.fed_record.specs.Body.{Body}
-use Rattle.fed_board.specs.Board.{reads}
-use Rattle.fed_board.specs.Lawful.{IsLawful}
-use Rattle.fed_board.specs.View.{view}
-use Rattle.fed_board.proofs.ViewLaws.{view_push}
-use Rattle.fed_replica.specs.Answer.{Answer, Answer.Refuses, Answer.Replies, answer, answer_to}
+use Rattle.fed_model.specs.declared.askers.Who.{Who}
+use Rattle.fed_model.specs.declared.commands.Command.{Command}
+use Rattle.fed_model.specs.declared.refusals.Refusal.{Refusal}
+use Rattle.fed_model.specs.declared.replies.Reply.{Reply}
+use Rattle.fed_model.specs.Body.{Body}
+use Rattle.fed_board.specs.Board.{board_reads}
+use Rattle.fed_model.specs.Lawful.{IsLawful}
+use Rattle.fed_model.specs.View.{view}
+use Rattle.fed_theory.proofs.ViewLaws.{view_push}
+use Rattle.fed_model.specs.Answer.{Answer, Answer.Refuses, Answer.Replies, answer, answer_to}
 use Rattle.fed_stamp.specs.Indexes.{put}
 use Rattle.fed_replica.specs.Replica.{ReplicaValue, IsDone, heard_from}
-use Rattle.fed_replica.proofs.Allowed.{answer_allowed}
-use Rattle.fed_replica.proofs.NextStamps.{next_uncovered}
-use Rattle.fed_world.specs.declared.events.Event.{Event}
-use Rattle.fed_world.specs.declared.events.Event.TheVariants.{Do}
-use Rattle.fed_world.specs.declared.outcomes.Outcome.{Outcome}
+use Rattle.fed_theory.proofs.Allowed.{answer_allowed}
+use Rattle.fed_theory.proofs.NextStamps.{next_uncovered}
+use Rattle.fed_model.specs.declared.events.Event.{Event}
+use Rattle.fed_model.specs.declared.events.Event.TheVariants.{Do}
+use Rattle.fed_model.specs.declared.outcomes.Outcome.{Outcome}
 use Rattle.fed_world.specs.Kept.{WorldValue, IsReplica, AreReplicas}
-use Rattle.fed_world.specs.Run.{World, Step, start, stays, does, step, run, outcomes, with_operation}
-use Rattle.fed_world.proofs.Cuts.{cut_lawful}
-use Rattle.fed_world.proofs.Runs.{outcomes-push, put_same, run_good}
+use Rattle.fed_model.specs.Run.{World, Step, start, does, step, run, outcomes, with_operation}
+use Rattle.fed_theory.proofs.RunSteps.{does_others, site_lawful, do_here}
+use Rattle.fed_theory.proofs.Runs.{outcomes-push, put_same}
 
 -- ---- tables of sites and lists of replicas
-pub put_other : {T : Type 0} (f : ℕ → T) (i : ℕ) (t : T) (j : ℕ) → j ≢ i → put f i t j ≡ f j
-put_other f i t j apart = elim (cases_Bool (j == i)) [
-  | inl e ↦ absurd (apart (eqb-true j i e))
-  | inr e ↦ cond-false (j == i) t (f j) e
-]
-
 -- one replica takes the place of another, where the other sites stay as they are
 pub replica_set : (n : ℕ) (w v : World) (rs : List ReplicaValue) (i : ℕ) (r : ReplicaValue) → i < n → AreReplicas n w rs
     → ((j : ℕ) → j ≢ i → v.site j ≡ w.site j) → IsReplica i (v.site i) r → AreReplicas n v (set rs i r)
@@ -52,11 +46,6 @@ replica_set n w v rs i r small old same new = record {
 }
 
 -- ---- a command
-pub does_others : (w : World) (i : ℕ) (a : Answer) (j : ℕ) → j ≢ i → (does w i a).after.site j ≡ w.site j
-does_others w i (Refuses refusal) j apart = refl
-does_others w i (Replies reply None) j apart = refl
-does_others w i (Replies reply (Some new)) j apart = put_other w.site i (with_operation (w.site i) new) j apart
-
 -- where a replica does what an answer says, it is the replica of the site then
 module _ (w : World) (i : ℕ) (who : Who) (command : Command) (lawful : IsLawful (w.site i).set) (old new : ReplicaValue) (held : IsReplica i (w.site i) old)
     (site : new.site ≡ old.site) (heard : new.heard ≡ old.heard) where
@@ -66,10 +55,10 @@ module _ (w : World) (i : ℕ) (who : Who) (command : Command) (lawful : IsLawfu
   heard_still : (from : ℕ) → from < 16 → heard_from new from ≡ (w.site i).heard from
   heard_still from h = ap (λ hs. get_or hs from (replicate 16 0)) heard ∙ held.heard from h
 
-  stood : reads new.board ≡ view ops → IsReplica i (w.site i) new
+  stood : board_reads new.board ≡ view ops → IsReplica i (w.site i) new
   stood e = record { site = site ∙ held.site; board = e; heard = heard_still }
 
-  grown : (new_op : StampValue × Body) → reads new.board ≡ view (ops ++ new_op ∷ []) → IsReplica i (put w.site i (with_operation (w.site i) new_op) i) new
+  grown : (new_op : StampValue × Body) → board_reads new.board ≡ view (ops ++ new_op ∷ []) → IsReplica i (put w.site i (with_operation (w.site i) new_op) i) new
   grown e p = subst (λ s. IsReplica i s new) (sym (put_same w.site i (with_operation (w.site i) e)))
       (record { site = site ∙ held.site; board = p; heard = heard_still })
 
@@ -80,7 +69,7 @@ module _ (w : World) (i : ℕ) (who : Who) (command : Command) (lawful : IsLawfu
   abbrev Gone : Answer → Result Reply Refusal → Type 0
   Gone a said = MatchResult said (λ reply. Went a (Outcome.Replied reply)) (λ refusal. (refusal ≡ Refusal.NoMemory → ⊥) → Went a (Outcome.Refused refusal))
 
-  went : (a : Answer) → answer ops i who command ≡ a → (said : Result Reply Refusal) → IsDone a (view ops) said (reads new.board) → Gone a said
+  went : (a : Answer) → answer ops i who command ≡ a → (said : Result Reply Refusal) → IsDone a (view ops) said (board_reads new.board) → Gone a said
   went (Refuses refusal) is said d = subst (Gone (Refuses refusal)) (sym d.0) (λ _. (refl, stood d.1))
   went (Replies reply None) is said d = subst (Gone (Replies reply None)) (sym d.0) (refl, stood d.1)
   went (Replies reply (Some e)) is (Ok said) d =
@@ -88,32 +77,25 @@ module _ (w : World) (i : ℕ) (who : Who) (command : Command) (lawful : IsLawfu
       (ap (λ r. Outcome.Replied r) d.0, grown e (d.1 ∙ sym (view_push ops e lawful (next_uncovered (version_of ops) i e.0 allowed.0))))
   went (Replies reply (Some e)) is (Err refusal) d = λ full. absurd (full d.0)
 
-  here_done : (said : Result Reply Refusal) → IsDone (answer_to (reads old.board) old.site who command) (reads old.board) said (reads new.board) → IsDone (answer ops i who command) (view ops) said (reads new.board)
+  here_done : (said : Result Reply Refusal) → IsDone (answer_to (board_reads old.board) old.site who command) (board_reads old.board) said (board_reads new.board) → IsDone (answer ops i who command) (view ops) said (board_reads new.board)
   here_done said d =
-      subst (λ v. IsDone (answer_to v i who command) v said (reads new.board)) held.board (subst (λ (k : ℕ). IsDone (answer_to (reads old.board) k who command) (reads old.board) said (reads new.board)) held.site d)
+      subst (λ v. IsDone (answer_to v i who command) v said (board_reads new.board)) held.board (subst (λ (k : ℕ). IsDone (answer_to (board_reads old.board) k who command) (board_reads old.board) said (board_reads new.board)) held.site d)
 
-  pub command_went : (said : Result Reply Refusal) → IsDone (answer_to (reads old.board) old.site who command) (reads old.board) said (reads new.board) → Gone (answer ops i who command) said
+  pub command_went : (said : Result Reply Refusal) → IsDone (answer_to (board_reads old.board) old.site who command) (board_reads old.board) said (board_reads new.board) → Gone (answer ops i who command) said
   command_went said d = went (answer ops i who command) refl said (here_done said d)
 
   -- where want of memory is said, no other refusal was due
-  due_memory : (a : Answer) → IsDone a (view ops) (Err Refusal.NoMemory) (reads new.board) → (refusal : Refusal) → (does w i a).outcome ≡ Outcome.Refused refusal → refusal ≡ Refusal.NoMemory
+  due_memory : (a : Answer) → IsDone a (view ops) (Err Refusal.NoMemory) (board_reads new.board) → (refusal : Refusal) → (does w i a).outcome ≡ Outcome.Refused refusal → refusal ≡ Refusal.NoMemory
   due_memory (Refuses due) d refusal e = let p : Refusal.NoMemory ≡ due = (let q = d.0 in cc) in let r : due ≡ refusal = cc in cc
   due_memory (Replies reply None) d refusal e = cc
   due_memory (Replies reply (Some op)) d refusal e = cc
 
-  pub memory_went : (said : Result Reply Refusal) → said ≡ Err Refusal.NoMemory → IsDone (answer_to (reads old.board) old.site who command) (reads old.board) said (reads new.board)
+  pub memory_went : (said : Result Reply Refusal) → said ≡ Err Refusal.NoMemory → IsDone (answer_to (board_reads old.board) old.site who command) (board_reads old.board) said (board_reads new.board)
       → (refusal : Refusal) → (does w i (answer ops i who command)).outcome ≡ Outcome.Refused refusal → refusal ≡ Refusal.NoMemory
   memory_went said e d =
-      due_memory (answer ops i who command) (subst (λ r. IsDone (answer ops i who command) (view ops) r (reads new.board)) e (here_done said d))
+      due_memory (answer ops i who command) (subst (λ r. IsDone (answer ops i who command) (view ops) r (board_reads new.board)) e (here_done said d))
 
 -- ---- in the run
-pub site_lawful : (n : ℕ) (events : List Event) → n ≤ 16 → (i : ℕ) → IsLawful ((run n events).site i).set
-site_lawful n events few i = let g = run_good n events few in cut_lawful g.0 ((run n events).site i).set g.1.lawful (g.1.cuts i)
-
--- an event at a site of the federation, and at none
-pub do_here : (n : ℕ) (w : World) (i : ℕ) (who : Who) (command : Command) → i < n → step n w (Do i who command) ≡ does w i (answer (w.site i).set i who command)
-do_here n w i who command small = cond-true (nat_lt i n) _ (stays w Outcome.NoSite) (lt-ltb i n small)
-
 -- what an outcome and the replicas are of a step
 abbrev pub IsStep : ℕ → Step → Outcome → List ReplicaValue → Type 0
 IsStep n s o rs = (o ≡ s.outcome) × AreReplicas n s.after rs
@@ -125,7 +107,7 @@ module _ (n : ℕ) (events : List Event) (few : n ≤ 16) (rs : List ReplicaValu
   -- the replica that changed stands at k, the number of the site that was asked
   module _ (i k : ℕ) (at : k ≡ i) (who : Who) (command : Command) (small : k < n) (old new : ReplicaValue) (before : IsReplica k (w.site k) old)
       (site : new.site ≡ old.site) (heard : new.heard ≡ old.heard) (said : Result Reply Refusal)
-      (done : IsDone (answer_to (reads old.board) old.site who command) (reads old.board) said (reads new.board)) where
+      (done : IsDone (answer_to (board_reads old.board) old.site who command) (board_reads old.board) said (board_reads new.board)) where
     abbrev lawful : IsLawful (w.site k).set
     lawful = site_lawful n events few k
 
@@ -164,7 +146,7 @@ site_is k s o small e f =
 
 -- one more, of the next site, that has no operation and heard nothing
 pub replica_more : (k s : ℕ) (o : Option ℕ) (rs all : List ReplicaValue) (r : ReplicaValue) → AreReplicas k start rs → k < 16 → o ≡ Some s → o ≡ cond (nat_lt k 16) (Some k) None
-    → r.site ≡ s → reads r.board ≡ view [] → r.heard ≡ replicate 16 (replicate 16 0) → all ≡ rs ++ r ∷ [] → AreReplicas (k + 1) start all
+    → r.site ≡ s → board_reads r.board ≡ view [] → r.heard ≡ replicate 16 (replicate 16 0) → all ≡ rs ++ r ∷ [] → AreReplicas (k + 1) start all
 replica_more k s o rs all r old small e f site board heard pushed =
     subst (AreReplicas (k + 1) start) (sym pushed) (record {
       count = let c = old.count in let l = length_push rs r in omega arith;

@@ -1,19 +1,3 @@
--- Whole runs.
-pub mod Scenes
-pub mod GrantScenes
-pub mod CommandScenes
-pub mod PacketScenes
-pub mod Cuts
-pub mod Growth
-pub mod Runs
-pub mod Posts
-pub mod Promises
-pub mod Begins
-pub mod RangedRuns
-pub mod PacketLimits
+-- What the code of a world does is what happens in the run.
 pub mod KeptLaws
-pub mod HeardLaws
 pub mod SentLaws
-pub mod Convergence
-pub mod DoneCommands
-pub mod EqualVersions

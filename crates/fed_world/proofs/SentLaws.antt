@@ -1,7 +1,7 @@
 -- What the code of a world ships and takes is what is shipped and taken in the run.
-use Rattle.std.specs.Prelude.{cond, nat_lt, slice_get, Option, Some, None, Result, Ok}
-use Rattle.std.proofs.Common.{◌≡◌, ◌≢◌, ℕ, zero, suc, ◌+◌, ◌<◌, ◌≤◌, ◌==◌, ◌⊎◌, List, [], ◌∷◌, ◌++◌, true, not, ◌&&◌, length, get_or, set, refl, sym, ap, ap₂, subst, ◌∙◌, inl, inr, arith}
-use Rattle.std.proofs.lemmas.Bool.{cases_lt, cond-true, lt-ltb, le-ltb, and_from}
+use Rattle.std.specs.Prelude.{cond, slice_get, Option, Some, None, Result, Ok}
+use Rattle.std.proofs.Common.{◌≡◌, ℕ, zero, suc, ◌+◌, ◌<◌, ◌≤◌, ◌==◌, ◌⊎◌, List, [], ◌∷◌, ◌++◌, true, not, length, get_or, set, refl, sym, ap, ap₂, subst, ◌∙◌, inl, inr, arith}
+use Rattle.std.proofs.lemmas.Bool.{cases_lt, lt-ltb, le-ltb}
 use Rattle.std.proofs.lemmas.List.{get_or_past, take-append-le, take_all}
 use Rattle.std.proofs.lemmas.List.Elements.{All-push}
 use Rattle.std.proofs.Math.ListN.{take as list_take, drop}
@@ -13,32 +13,33 @@ use Rattle.fed_stamp.proofs.VersionLaws.{each_from_below}
 use Rattle.fed_lattice.specs.History.{History}
 use Rattle.fed_lattice.specs.VersionOf.{version_of}
 use Rattle.fed_lattice.proofs.VersionOfLaws.{length-version_of}
-use Rattle.fed_record.specs.Body.{Body}
-use Rattle.fed_board.specs.Board.{reads}
-use Rattle.fed_board.specs.Lawful.{AreKin, IsLawful}
-use Rattle.fed_board.specs.View.{View, view}
+use Rattle.fed_model.specs.Body.{Body}
+use Rattle.fed_board.specs.Board.{board_reads}
+use Rattle.fed_model.specs.Lawful.{AreKin, IsLawful}
+use Rattle.fed_model.specs.View.{View, view}
 use Rattle.fed_delta.specs.Cut.{cut}
 use Rattle.fed_job_json.specs.declared.formats.Format.TheVariants.{Two}
 use Rattle.fed_wire.specs.declared.faults.WireFault.{WireFault}
 use Rattle.fed_wire.specs.Faults.{Gives}
-use Rattle.fed_wire.specs.Limits.{IsWithinLimits}
+use Rattle.fed_model.specs.Limits.{IsWithinLimits}
 use Rattle.fed_wire.specs.Packet.{IsPacket, PacketValue, packet_value}
 use Rattle.fed_wire.specs.Reading.{text_value}
-use Rattle.fed_replica.specs.declared.taken.Taken.{Taken}
-use Rattle.fed_replica.specs.Packet.{Packet, missing, shipped, taken, takes_unless}
+use Rattle.fed_model.specs.declared.taken.Taken.{Taken}
+use Rattle.fed_model.specs.Packet.{Packet, missing, shipped, taken, takes_unless}
 use Rattle.fed_replica.specs.Replica.{ReplicaValue, heard_from}
-use Rattle.fed_world.specs.declared.events.Event.{Event}
-use Rattle.fed_world.specs.declared.events.Event.TheVariants.{Ship, Take}
-use Rattle.fed_world.specs.declared.outcomes.Outcome.{Outcome}
+use Rattle.fed_model.specs.declared.events.Event.{Event}
+use Rattle.fed_model.specs.declared.events.Event.TheVariants.{Ship, Take}
+use Rattle.fed_model.specs.declared.outcomes.Outcome.{Outcome}
 use Rattle.fed_world.specs.Kept.{IsReplica, AreReplicas, IsSentOf, IsTextOf, AreTexts, IsKept}
-use Rattle.fed_world.specs.Ranges.{AreRanged, IsRangedEvent}
-use Rattle.fed_world.specs.Run.{World, Step, stays, ships, receives, takes, packet, step, run}
-use Rattle.fed_world.proofs.HeardLaws.{heard_counters, met_below}
-use Rattle.fed_world.proofs.KeptLaws.{IsStep, put_other, replica_set, site_lawful}
-use Rattle.fed_world.proofs.PacketLimits.{site_within}
-use Rattle.fed_world.proofs.Posts.{none_missing}
-use Rattle.fed_world.proofs.Promises.{packets_kin}
-use Rattle.fed_world.proofs.Runs.{packet_Has, put_same, run-push, run_good}
+use Rattle.fed_model.specs.RangedEvents.{AreRanged, IsRangedEvent}
+use Rattle.fed_model.specs.Run.{World, Step, ships, receives, takes, packet, step, run}
+use Rattle.fed_theory.proofs.HeardLaws.{heard_counters, met_below}
+use Rattle.fed_world.proofs.KeptLaws.{IsStep, replica_set}
+use Rattle.fed_theory.proofs.RunSteps.{site_lawful, ship_here, take_here, receives_others}
+use Rattle.fed_theory.proofs.PacketLimits.{site_within}
+use Rattle.fed_theory.proofs.Posts.{none_missing}
+use Rattle.fed_theory.proofs.Promises.{packets_kin}
+use Rattle.fed_theory.proofs.Runs.{packet_Has, put_same, run-push, run_good}
 
 -- ---- lists of texts
 pub texts_push : (ps : List Packet) (ts : List (List ℕ)) (p : Packet) (t : List ℕ) → AreTexts ps ts → IsTextOf p t → AreTexts (ps ++ p ∷ []) (ts ++ t ∷ [])
@@ -78,9 +79,6 @@ read_sent p bytes t r c e g =
     let same : c ≡ t.sent = cc in subst (IsSentOf p) (sym same) t.stands
 
 -- ---- shipments
-pub ship_here : (n : ℕ) (w : World) (i to : ℕ) → i < n → to < n → step n w (Ship i to) ≡ ships w i to
-ship_here n w i to a b = cond-true (nat_lt i n && nat_lt to n) _ (stays w Outcome.NoSite) (and_from (nat_lt i n) (nat_lt to n) (lt-ltb i n a) (lt-ltb to n b))
-
 -- what an outcome and the packets are of a step
 abbrev pub IsShipped : Step → Outcome → List (List ℕ) → Type 0
 IsShipped s o ts = (o ≡ s.outcome) × AreTexts s.after.packets ts
@@ -88,7 +86,7 @@ IsShipped s o ts = (o ≡ s.outcome) × AreTexts s.after.packets ts
 -- a packet of what a board tells is within limits, where the board stands for a lawful set within limits
 abbrev pub IsTold : PacketValue → Type 0
 IsTold c = (ops : History Body) (seen : List ℕ) → IsLawful ops → IsWithinLimits ops → c.delta.need ≡ met seen (version_of ops) →
-    reads c.delta.changes ≡ cut (view ops) c.delta.need → IsPacket Two c
+    board_reads c.delta.changes ≡ cut (view ops) c.delta.need → IsPacket Two c
 
 module _ (n : ℕ) (events : List Event) (few : n ≤ 16) where
   abbrev w : World
@@ -98,7 +96,7 @@ module _ (n : ℕ) (events : List Event) (few : n ≤ 16) where
   known = (run_good n events few).1.known
 
   pub sent_of : (i to : ℕ) → i < n → to < n → (r : ReplicaValue) → IsReplica i (w.site i) r → (c : PacketValue) → c.sender ≡ r.site → c.delta.need ≡ met (heard_from r to) r.board.version
-      → reads c.delta.changes ≡ cut (reads r.board) c.delta.need → IsSentOf (shipped i (w.site i) to) c
+      → board_reads c.delta.changes ≡ cut (board_reads r.board) c.delta.need → IsSentOf (shipped i (w.site i) to) c
   sent_of i to small there r held c sender need cuts =
       let heard : heard_from r to ≡ (w.site i).heard to = held.heard to (omega arith) in
       let seen : r.board.version ≡ version_of (w.site i).set = ap (λ (v : View). v.version) held.board in
@@ -112,7 +110,7 @@ module _ (n : ℕ) (events : List Event) (few : n ≤ 16) where
       }
 
   pub sent_within : (i to : ℕ) → AreRanged events → (r : ReplicaValue) → IsReplica i (w.site i) r → (c : PacketValue) → IsTold c → c.delta.need ≡ met (heard_from r to) r.board.version
-      → reads c.delta.changes ≡ cut (reads r.board) c.delta.need → IsPacket Two c
+      → board_reads c.delta.changes ≡ cut (board_reads r.board) c.delta.need → IsPacket Two c
   sent_within i to ranged r held c told need cuts =
       let seen : r.board.version ≡ version_of (w.site i).set = ap (λ (v : View). v.version) held.board in
       told (w.site i).set (heard_from r to) (site_lawful n events few i) (site_within n events few ranged i)
@@ -120,7 +118,7 @@ module _ (n : ℕ) (events : List Event) (few : n ≤ 16) where
 
   -- the replica that ships stands at k, the number of the site
   pub ship_done : (i k to : ℕ) → k ≡ i → k < n → to < n → AreRanged events → (r : ReplicaValue) → IsReplica k (w.site k) r → (c : PacketValue) → IsTold c → c.sender ≡ r.site → c.delta.need ≡ met (heard_from r to) r.board.version
-      → reads c.delta.changes ≡ cut (reads r.board) c.delta.need → (text : List ℕ) → text ≡ compact_text (packet_value Two c) → text_value text ≡ Some (packet_value Two c)
+      → board_reads c.delta.changes ≡ cut (board_reads r.board) c.delta.need → (text : List ℕ) → text ≡ compact_text (packet_value Two c) → text_value text ≡ Some (packet_value Two c)
       → (ts after : List (List ℕ)) (number : ℕ) → AreTexts w.packets ts → after ≡ ts ++ text ∷ [] → number ≡ length ts + 1 → IsShipped (step n w (Ship i to)) (Outcome.Packet number) after
   ship_done i k to at small there ranged r held c told sender need cuts text written again ts after number all pushed count =
       let made : IsTextOf (shipped k (w.site k) to) text = record {
@@ -138,13 +136,6 @@ module _ (n : ℕ) (events : List Event) (few : n ≤ 16) where
       (subst (λ s. IsShipped s (Outcome.Packet number) after) (sym (ship_here n w k to small there)) here)
 
 -- ---- packets that are taken
-pub take_here : (n : ℕ) (w : World) (i k : ℕ) → i < n → step n w (Take i k) ≡ takes w i (packet w k)
-take_here n w i k small = cond-true (nat_lt i n) (takes w i (packet w k)) (stays w Outcome.NoSite) (lt-ltb i n small)
-
-pub receives_others : (w : World) (i : ℕ) (p : Packet) (lacks : Option ℕ) (j : ℕ) → j ≢ i → (receives w i (takes_unless lacks (w.site i) p)).after.site j ≡ w.site j
-receives_others w i p (Some from) j apart = refl
-receives_others w i p None j apart = put_other w.site i (taken (w.site i) p) j apart
-
 -- the least site of which more is needed
 pub first_missing : (need version : List ℕ) (site : ℕ) → site < 16 → IsFirstAbove need version site → missing need version ≡ Some site
 first_missing need version site small first =
@@ -196,7 +187,7 @@ module _ (n : ℕ) (events : List Event) (few : n ≤ 16) (rs : List ReplicaValu
 
     module _ (told : Taken) (grew : told.grew ≡ not (is_below c.delta.changes.version old.board.version)) (site : new.site ≡ old.site)
         (below : is_below c.delta.need old.board.version ≡ true)
-        (stands : (ops others : History Body) → AreKin ops others → reads old.board ≡ view ops → reads c.delta.changes ≡ cut (view others) c.delta.need → reads new.board ≡ view (ops ++ others))
+        (stands : (ops others : History Body) → AreKin ops others → board_reads old.board ≡ view ops → board_reads c.delta.changes ≡ cut (view others) c.delta.need → board_reads new.board ≡ view (ops ++ others))
         (heard : (from : ℕ) → from < 16 → heard_from new from ≡ put (heard_from old) c.sender (joined (heard_from old c.sender) c.delta.changes.version) from) where
       enough : missing p.need (version_of (u.site k).set) ≡ None
       enough = none_missing p.need (version_of (u.site k).set) (subst (λ v. is_below p.need v ≡ true) seen (subst (λ v. is_below v old.board.version ≡ true) sent.need below))

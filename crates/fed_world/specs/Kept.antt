@@ -1,18 +1,18 @@
 -- What the code keeps of a run: replicas that stand for the sites, and the texts of the packets made.
 use Rattle.std.specs.Prelude.{◌≡◌, ℕ, ◌<◌, ◌≤◌, List, [], ◌∷◌, length, slice_index_or, Some}
 use Rattle.fed_stamp.specs.declared.sites.TheConstants.{SITES}
-use Rattle.fed_board.specs.Board.{reads}
-use Rattle.fed_board.specs.View.{view}
+use Rattle.fed_board.specs.Board.{board_reads}
+use Rattle.fed_model.specs.View.{view}
 use Rattle.fed_delta.specs.Cut.{cut}
 use Rattle.serde_json.specs.Written.{compact_text}
 use Rattle.fed_job_json.specs.declared.formats.Format.TheVariants.{Two}
 use Rattle.fed_wire.specs.Packet.{PacketValue, IsPacket, packet_value}
 use Rattle.fed_wire.specs.Reading.{text_value}
-use Rattle.fed_replica.specs.Packet.{Site, Packet}
+use Rattle.fed_model.specs.Packet.{Site, Packet}
 use Rattle.fed_replica.specs.Replica.{ReplicaValue, heard_from}
-use Rattle.fed_world.specs.declared.events.Event.{Event}
-use Rattle.fed_world.specs.Ranges.{AreRanged}
-use Rattle.fed_world.specs.Run.{World, run}
+use Rattle.fed_model.specs.declared.events.Event.{Event}
+use Rattle.fed_model.specs.RangedEvents.{AreRanged}
+use Rattle.fed_model.specs.Run.{World, run}
 
 -- what a caller sees of a world: how many sites it has, and the events that were run
 pub record WorldValue : Type 0 where
@@ -22,7 +22,7 @@ pub record WorldValue : Type 0 where
 -- the board of the i-th site's replica stands for the site's set, and the replica heard what the site heard
 pub record IsReplica (i : ℕ) (s : Site) (r : ReplicaValue) : Type 0 where
   pub site : r.site ≡ i
-  pub board : reads r.board ≡ view s.set
+  pub board : board_reads r.board ≡ view s.set
   pub heard : (from : ℕ) → from < SITES → heard_from r from ≡ s.heard from
 
 -- each of the n sites has its replica
@@ -35,7 +35,7 @@ pub record IsSentOf (p : Packet) (sent : PacketValue) : Type 0 where
   pub small : p.sender < SITES
   pub sender : sent.sender ≡ p.sender
   pub need : sent.delta.need ≡ p.need
-  pub cut : reads sent.delta.changes ≡ cut (view p.gives) p.need
+  pub cut : board_reads sent.delta.changes ≡ cut (view p.gives) p.need
 
 -- the format 2 text of a packet within limits that is sent of it, and that is read as its value again
 pub record IsTextOf (p : Packet) (bytes : List ℕ) : Type 0 where

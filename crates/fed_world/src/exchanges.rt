@@ -3,21 +3,22 @@ ghost use Rattle.std.specs.Prelude.{◌≡◌, ◌<◌, ◌≤◌, ◌++◌, ℕ
 ghost use Rattle.fed_stamp.specs.declared.sites.TheConstants.{SITES};
 ghost use Rattle.fed_lattice.specs.Sets.{IsSameSet};
 ghost use Rattle.fed_lattice.specs.VersionOf.{version_of};
-ghost use Rattle.fed_board.specs.Board.{reads};
-ghost use Rattle.fed_board.specs.View.{view};
-ghost use Rattle.fed_replica.specs.Packet.{Packet as RunPacket};
-ghost use Rattle.fed_world.specs.declared.events.Event.{Event};
-ghost use Rattle.fed_world.specs.Exchange.{IsExchange};
+ghost use Rattle.fed_board.specs.Board.{board_reads};
+ghost use Rattle.fed_model.specs.View.{view};
+ghost use Rattle.fed_model.specs.Packet.{Packet as RunPacket};
+ghost use Rattle.fed_model.specs.declared.events.Event.{Event};
+ghost use Rattle.fed_model.specs.Exchange.{IsExchange};
 ghost use Rattle.fed_world.specs.Kept.{IsSentOf};
-ghost use Rattle.fed_world.specs.Run.{run};
+ghost use Rattle.fed_model.specs.Run.{run};
 
 use fed_board::{Board, boards_that_read_the_same_are_equal, records_that_read_the_same_are_equal};
+use fed_theory::run_laws::exchanges_converge;
 use fed_wire::Packet;
 
 /// Where two sites hold the same operations, their boards are equal, however the operations came.
 pub fn same_sets_have_equal_boards(x: &Board, y: &Board)
-    ensures { (n : ℕ) (events : List Event) → n ≤ SITES → (a b : ℕ) → reads x.now ≡ view ((run n events).site a).set →
-        reads y.now ≡ view ((run n events).site b).set →
+    ensures { (n : ℕ) (events : List Event) → n ≤ SITES → (a b : ℕ) → board_reads x.now ≡ view ((run n events).site a).set →
+        board_reads y.now ≡ view ((run n events).site b).set →
         IsSameSet ((run n events).site a).set ((run n events).site b).set → x.now ≡ y.now }
 {
     boards_that_read_the_same_are_equal(x, y);
@@ -29,8 +30,8 @@ pub fn versions_tell_equal_boards(x: &Board, y: &Board)
     ensures sets { (n : ℕ) (events : List Event) → n ≤ SITES → (a b : ℕ) →
         version_of ((run n events).site a).set ≡ version_of ((run n events).site b).set →
         IsSameSet ((run n events).site a).set ((run n events).site b).set }
-    ensures boards { (n : ℕ) (events : List Event) → n ≤ SITES → (a b : ℕ) → reads x.now ≡ view ((run n events).site a).set →
-        reads y.now ≡ view ((run n events).site b).set → x.now.version ≡ y.now.version → x.now ≡ y.now }
+    ensures boards { (n : ℕ) (events : List Event) → n ≤ SITES → (a b : ℕ) → board_reads x.now ≡ view ((run n events).site a).set →
+        board_reads y.now ≡ view ((run n events).site b).set → x.now.version ≡ y.now.version → x.now ≡ y.now }
 {
     same_sets_have_equal_boards(x, y);
 }
@@ -42,18 +43,12 @@ pub fn one_packet_is_sent(x: &Packet, y: &Packet)
     records_that_read_the_same_are_equal(x.delta().changes(), y.delta().changes());
 }
 
-/// Once no command is done any more and each site has made a packet for each other, which took it, all sites hold the
-/// same operations, whatever was lost, repeated or reordered before and meanwhile.
-pub fn exchanges_converge()
-    ensures { (n : ℕ) (early late : List Event) → n ≤ SITES → IsExchange n early late → (a b : ℕ) → a < n → b < n →
-        IsSameSet ((run n (early ++ late)).site a).set ((run n (early ++ late)).site b).set }
-{}
-
-/// So all their boards are equal.
+/// Once no command is done any more and each site has made a packet for each other, which took it, all boards are equal,
+/// whatever was lost, repeated or reordered before and meanwhile.
 pub fn exchanged_boards_are_equal(x: &Board, y: &Board)
     ensures { (n : ℕ) (early late : List Event) → n ≤ SITES → IsExchange n early late → (a b : ℕ) → a < n → b < n →
-        reads x.now ≡ view ((run n (early ++ late)).site a).set →
-        reads y.now ≡ view ((run n (early ++ late)).site b).set → x.now ≡ y.now }
+        board_reads x.now ≡ view ((run n (early ++ late)).site a).set →
+        board_reads y.now ≡ view ((run n (early ++ late)).site b).set → x.now ≡ y.now }
 {
     same_sets_have_equal_boards(x, y);
     exchanges_converge();

@@ -1,14 +1,8 @@
 //! All sites of a federation and the packets between them, over whole runs.
 #![tactic(auto)]
 
-/// Events.
-pub mod events;
 /// That sites which hold the same operations have equal boards, and that an exchange brings all sites there.
 pub mod exchanges;
-/// Laws of whole runs.
-pub mod laws;
-/// Outcomes.
-pub mod outcomes;
 /// What an event does to the replicas and the packets of a world.
 mod steps;
 /// The texts of packets.
@@ -16,6 +10,5 @@ mod texts;
 /// Worlds: all sites of a federation and the packets between them.
 pub mod worlds;
 
-pub use events::Event;
-pub use outcomes::Outcome;
+pub use fed_model::{Event, Outcome};
 pub use worlds::{World, run};

@@ -1,21 +1,20 @@
 //! What an event does to the replicas and the packets of a world.
 ghost use Rattle.std.specs.Prelude.{◌≡◌, ◌≢◌, ◌≤◌, ℕ, List, length, Ok, IfOk, OnErr};
-ghost use Rattle.fed_record.specs.declared.refusals.Refusal.{Refusal};
+ghost use Rattle.fed_model.specs.declared.refusals.Refusal.{Refusal};
 ghost use Rattle.fed_stamp.specs.declared.sites.TheConstants.{SITES};
-ghost use Rattle.fed_world.specs.declared.events.Event.{Event};
-ghost use Rattle.fed_world.specs.declared.events.Event.TheVariants.{Do, Ship, Take};
-ghost use Rattle.fed_world.specs.declared.outcomes.Outcome.TheVariants as Outcome;
+ghost use Rattle.fed_model.specs.declared.events.Event.{Event};
+ghost use Rattle.fed_model.specs.declared.events.Event.TheVariants.{Do, Ship, Take};
+ghost use Rattle.fed_model.specs.declared.outcomes.Outcome.TheVariants as Outcome;
 ghost use Rattle.fed_world.specs.Kept.{AreReplicas, AreTexts};
-ghost use Rattle.fed_world.specs.Ranges.{AreRanged, IsRangedEvent};
-ghost use Rattle.fed_world.specs.Run.{run, step};
+ghost use Rattle.fed_model.specs.RangedEvents.{AreRanged, IsRangedEvent};
+ghost use Rattle.fed_model.specs.Run.{run, step};
 
-use crate::events::Event;
-use crate::outcomes::Outcome;
 use crate::texts::Text;
 use fed_delta::Absorb;
 use fed_lattice::NoMemory;
+use fed_model::{Event, Outcome, commands_are_ranged};
 use fed_record::{Command, Refusal, Who};
-use fed_replica::{Replica, commands_are_ranged};
+use fed_replica::Replica;
 use fed_stamp::SiteId;
 use fed_wire::{read, told_packets_are_within_limits, write};
 use std::alloc::Global;

@@ -1,21 +1,20 @@
 //! Worlds: all sites of a federation and the packets between them.
 ghost use Rattle.std.specs.Prelude.{◌≡◌, ◌≢◌, ◌<◌, ◌≤◌, ◌++◌, ◌∷◌, [], ℕ, length, Ok, IfOk, None, Some, OnOk, OnErr, MatchOption, option_copied, vec_capacity, vec_len};
 ghost use Rattle.fed_stamp.specs.declared.sites.TheConstants.{SITES};
-ghost use Rattle.fed_board.specs.Board.{reads};
-ghost use Rattle.fed_board.specs.View.{view};
-ghost use Rattle.fed_wire.specs.Limits.{IsWithinLimits};
-ghost use Rattle.fed_replica.specs.Packet.{Packet};
-ghost use Rattle.fed_record.specs.declared.refusals.Refusal.{Refusal};
-ghost use Rattle.fed_world.specs.declared.outcomes.Outcome.TheVariants as Outcome;
+ghost use Rattle.fed_board.specs.Board.{board_reads};
+ghost use Rattle.fed_model.specs.View.{view};
+ghost use Rattle.fed_model.specs.Limits.{IsWithinLimits};
+ghost use Rattle.fed_model.specs.Packet.{Packet};
+ghost use Rattle.fed_model.specs.declared.refusals.Refusal.{Refusal};
+ghost use Rattle.fed_model.specs.declared.outcomes.Outcome.TheVariants as Outcome;
 ghost use Rattle.fed_world.specs.Kept.{AreReplicas, IsTextOf};
-ghost use Rattle.fed_world.specs.Run.{outcomes as outcomes_of, packet as packet_of, run as run_of, start, step as step_of};
+ghost use Rattle.fed_model.specs.Run.{outcomes as outcomes_of, packet as packet_of, run as run_of, start, step as step_of};
 
-use crate::events::Event;
-use crate::outcomes::Outcome;
 use crate::steps::{events_are_ranged, run_event};
 use crate::texts::Text;
 use fed_board::Board;
 use fed_lattice::NoMemory;
+use fed_model::{Event, Outcome};
 use fed_replica::Replica;
 use fed_stamp::{Roster, SiteId};
 use std::alloc::Global;
@@ -90,7 +89,7 @@ impl World {
     /// site holds once the events are run. These are within limits.
     pub fn board(&self, site: SiteId) -> Option<&Board>
         ensures stands { MatchOption (option_copied result) (self.now.sites ≤ site)
-            (λ b. (site < self.now.sites) × (reads b ≡ view ((run_of self.now.sites self.now.events).site site).set)) }
+            (λ b. (site < self.now.sites) × (board_reads b ≡ view ((run_of self.now.sites self.now.events).site site).set)) }
         ensures within { IsWithinLimits ((run_of self.now.sites self.now.events).site site).set }
     {
         let index = site.get() as usize;
@@ -122,7 +121,7 @@ impl World {
         Some(self.texts[place].bytes())
     }
 
-    /// Runs one event more. On an error, which a refused growth alone makes, the world is as before: want of memory is no
+    /// Runs one event more. On an error, which a failed allocation alone makes, the world is as before: want of memory is no
     /// outcome.
     pub fn step(&mut self, event: &Event) -> Result<Outcome, NoMemory>
         ensures outcome { IfOk result (λ o. o ≡

@@ -46,8 +46,8 @@ pub fn reason_text(
 }
 
 /// The nodes that a job has, if the site has begun it and it is not finished.
-fn running_nodes(here: SiteId, held: &JobRecord) -> u64 {
-    let progress = held.progress();
+fn running_nodes(here: SiteId, job: &JobRecord) -> u64 {
+    let progress = job.progress();
     match (progress.begun, progress.finished) {
         (Some((stamp, beginning)), None) if stamp.site() == here => beginning.nodes.get(),
         _ => 0,
@@ -70,8 +70,8 @@ fn reserved_nodes(here: SiteId, moment: u64, reservation: &Reservation) -> u64 {
 /// The nodes of a site that running jobs have.
 fn run_nodes(board: &Board, here: SiteId) -> u64 {
     let mut used = 0u64;
-    for (_job, held) in board.jobs() {
-        used = used.saturating_add(running_nodes(here, held));
+    for (_job, job) in board.jobs() {
+        used = used.saturating_add(running_nodes(here, job));
     }
     used
 }

@@ -89,8 +89,8 @@ fn job_of(command: &Command) -> Option<JobId> {
 }
 
 /// That the job has ended, and how.
-fn gone_text(alloc: Global, id: &str, held: &JobRecord) -> Result<String, AllocError> {
-    match held.progress().finished {
+fn gone_text(alloc: Global, id: &str, job: &JobRecord) -> Result<String, AllocError> {
+    match job.progress().finished {
         Some((_, ending)) => {
             let status = ending.status;
             format!(in alloc; "{id} is finished, with status {status}")
@@ -120,9 +120,9 @@ fn begun_text(
     alloc: Global,
     roster: &Roster,
     id: &str,
-    held: &JobRecord,
+    job: &JobRecord,
 ) -> Result<String, AllocError> {
-    match held.progress().begun {
+    match job.progress().begun {
         Some((stamp, _)) => {
             let name = site_text(alloc, roster, stamp.site())?;
             format!(in alloc; "{id} has begun at {name}")
@@ -133,22 +133,22 @@ fn begun_text(
 
 /// A command that names a job of the board.
 #[derive(Drop)]
-struct Asked<'a> {
+struct RefusedCommand<'a> {
     who: &'a Who,
     command: &'a Command,
     id: &'a str,
     job: JobId,
-    held: &'a JobRecord,
+    known: &'a JobRecord,
 }
 
 /// That the asker's role forbids it.
-fn not_permitted_text(alloc: Global, asked: &Asked<'_>) -> Result<String, AllocError> {
+fn not_permitted_text(alloc: Global, asked: &RefusedCommand<'_>) -> Result<String, AllocError> {
     let asker = asker_text(alloc, asked.who)?;
     let deed = deed_text(alloc, asked.command, asked.id)?;
-    if !asked.held.is_submitted() {
+    if !asked.known.is_submitted() {
         return format!(in alloc; "{asker} may not {deed}");
     }
-    let owner = asked.held.owner().1;
+    let owner = asked.known.owner().1;
     let owner = owner.as_str();
     format!(in alloc; "{asker} may not {deed}, whose owner is {owner}")
 }
@@ -157,22 +157,22 @@ fn not_permitted_text(alloc: Global, asked: &Asked<'_>) -> Result<String, AllocE
 fn why_of_job(
     alloc: Global,
     site: &Site,
-    asked: &Asked<'_>,
+    asked: &RefusedCommand<'_>,
     refusal: Refusal,
 ) -> Result<String, AllocError> {
     let roster = site.roster();
-    let (id, held) = (asked.id, asked.held);
+    let (id, known) = (asked.id, asked.known);
     match refusal {
         Refusal::NotPermitted => not_permitted_text(alloc, asked),
-        Refusal::Gone => gone_text(alloc, id, held),
-        Refusal::Granted => granted_text(alloc, roster, id, held.holder()),
+        Refusal::Gone => gone_text(alloc, id, known),
+        Refusal::Granted => granted_text(alloc, roster, id, known.holder()),
         Refusal::TakenBy(holder) => granted_text(alloc, roster, id, Some(holder)),
         Refusal::NotOrigin => {
             let origin = site_text(alloc, roster, asked.job.site())?;
             format!(in alloc; "{id} was submitted at {origin}, which alone grants it")
         }
         Refusal::Held => {
-            let kinds = letters_of(held.holds());
+            let kinds = letters_of(known.holds());
             format!(in alloc; "{id} is held (kinds {kinds})")
         }
         Refusal::NotEligible => match asked.command {
@@ -186,7 +186,7 @@ fn why_of_job(
             let here = site_text(alloc, roster, site.here())?;
             format!(in alloc; "{id} is not granted to {here}")
         }
-        Refusal::Begun => begun_text(alloc, roster, id, held),
+        Refusal::Begun => begun_text(alloc, roster, id, known),
         Refusal::NotBegun => format!(in alloc; "{id} has not begun"),
         _ => format!(in alloc; "{id}: {refusal}"),
     }
@@ -255,13 +255,13 @@ fn why_refused(
     };
     let id = identifier_text(alloc, site.roster(), job)?;
     match site.board().job(job) {
-        Some(held) if refusal != Refusal::UnknownJob => {
-            let asked = Asked {
+        Some(known) if refusal != Refusal::UnknownJob => {
+            let asked = RefusedCommand {
                 who,
                 command,
                 id: id.as_str(),
                 job,
-                held,
+                known,
             };
             why_of_job(alloc, site, &asked, refusal)
         }

@@ -1,4 +1,4 @@
-use Rattle.std.proofs.Common.{arith, slice_index_or, ◌+◌, sym, ◌∙◌}
+use Rattle.std.proofs.Common.{arith, length, slice_index_or, ◌+◌, sym, ◌∙◌}
 use Rattle.std.specs.Map.{keys_of}
 use Rattle.std.proofs.lemmas.List.{length-set}
 use Rattle.std.proofs.lemmas.Map.Entries.{length-keys_of}
@@ -10,8 +10,8 @@ pub overflow_add-more : goal.overflow_add-more
 overflow_add-more g c =
     let fits = counting_fits c.loop-name.more (keys_of c.args.table.now) _ _ c.name-item.result c.get.result c.loop-name.invariant.0 c.get.ensures.in_range (c.get.ensures.same ∙ c.site.ensures)
     (drop_item c.args.names.now _ _ c.loop-name-test.true c.name-item.is)
-    c.len-names.result (c.len-names.ensures ∙ sym (length-keys_of c.args.table.now)) c.loop-name.invariant.1 in
-    omega (arith, fits, c.len-names.type_inv)
+    (length c.args.table.now) (sym (length-keys_of c.args.table.now)) c.loop-name.invariant.1 in
+    omega (arith, fits, c.table_is_countable.ensures)
 
 pub loop-name-preserved : goal.loop-name-preserved
 loop-name-preserved g c = (

@@ -1,4 +1,4 @@
-use Rattle.std.proofs.Common.{arith, slice_index_or, ◌+◌, sym, ap, ◌∙◌}
+use Rattle.std.proofs.Common.{arith, length, slice_index_or, ◌+◌, sym, ap, ◌∙◌}
 use Rattle.std.proofs.lemmas.Map.Iter.{rest_more}
 use Rattle.std.specs.Map.{keys_of}
 use Rattle.std.specs.Map.Iter.{deref_pair}
@@ -11,8 +11,8 @@ pub overflow_add-counts : goal.overflow_add-counts
 overflow_add-counts g c =
     let first = ap keys_of (rest_more deref_pair _ _ _ _ c.in-Some.is c.next.ensures.steps) in
     let fits = counting_fits c.loop-name.counts (keys_of c.args.table.now) (keys_of c.loop-name.name-iterator) (keys_of c.next.new.self) c.in-Some.name.now c.get.result c.loop-name.invariant.0 c.get.ensures.in_range (c.get.ensures.same ∙ c.site.ensures) first
-    c.len-names.result (c.len-names.ensures ∙ sym (length-keys_of c.args.table.now)) c.loop-name.invariant.1 in
-    omega (arith, fits, c.len-names.type_inv)
+    (length c.args.table.now) (sym (length-keys_of c.args.table.now)) c.loop-name.invariant.1 in
+    omega (arith, fits, c.table_is_countable.ensures)
 
 pub loop-name-preserved : goal.loop-name-preserved
 loop-name-preserved g c = (

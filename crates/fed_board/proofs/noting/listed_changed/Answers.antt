@@ -5,5 +5,5 @@ use Rattle.fed_board.proofs.noting.listed_changed.Goals as goal
 pub returns : goal.returns
 returns c = record {
   changed = all_found c.args.changes.now c.args.need.now c.args.jobs.now c.loop-site.changed c.requires.listed c.requires.after c.requires.counters c.loop-site.invariant.part
-      (λ s job k small. c.loop-site.invariant.found s job k (omega arith)) c.iter-jobs.ensures.well_formed.0 c.iter-changed.ensures.well_formed.0;
+      (λ s job k small. c.loop-site.invariant.found s job k (omega arith)) c.table_is_well_formed.ensures.0 c.table_is_well_formed-2.ensures.0;
 }

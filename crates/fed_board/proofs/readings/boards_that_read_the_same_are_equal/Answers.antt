@@ -3,8 +3,8 @@ use Rattle.fed_board.proofs.readings.boards_that_read_the_same_are_equal.Goals a
 
 pub returns : goal.returns
 returns c =
-    let s = c.see_tables.ensures.jobs in
-    let t = c.see_tables-2.ensures.jobs in
-    same_where_read c.args.a.now c.args.b.now c.version.ensures.board c.version-2.ensures.board
+    let s = c.tables_are_well_formed.ensures.jobs in
+    let t = c.tables_are_well_formed-2.ensures.jobs in
+    same_where_read c.args.a.now c.args.b.now c.board_is_covered.ensures c.board_is_covered-2.ensures
     (s.0, λ k d l. let p = s.1 k d l in (p.2, p.3)) (t.0, λ k d l. let p = t.1 k d l in (p.2, p.3))
-    c.see_tables.ensures.reservations c.see_tables-2.ensures.reservations
+    c.tables_are_well_formed.ensures.reservations c.tables_are_well_formed-2.ensures.reservations

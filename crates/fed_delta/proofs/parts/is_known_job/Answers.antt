@@ -1,6 +1,5 @@
 use Rattle.std.proofs.Common.{◌<◌, subst, sym, ◌∙◌}
 use Rattle.fed_stamp.specs.declared.sites.TheConstants.{SITES}
-use Rattle.fed_record.specs.Record.{AreCovered}
 use Rattle.fed_delta.proofs.PartLaws.{known_job, stages_known}
 use Rattle.fed_delta.proofs.parts.is_known_job.Goals as goal
 
@@ -9,11 +8,9 @@ returns c =
     let version = c.args.version.now in
     let job = c.args.job.now in (
       λ stages. known_job version c.touched-touched.result c.args.name job c.touched-touched.ensures
-          (subst (λ n. n < SITES) (c.get-site.ensures.same ∙ c.site.ensures) c.get-site.ensures.in_range)
+          (subst (λ n. n < SITES) c.site.ensures c.site_is_of_sixteen.ensures)
           (sym c.covers.ensures ∙ c.if-not-covers.false) (sym c.le.ensures ∙ c.if-not-le.false) (sym c.is_submitted.ensures ∙ c.if-not-is_submitted.false)
-          c.counters-counters.ensures.version
-          (subst (AreCovered job.touched) c.hold_tags-holds.ensures.pairs c.hold_tags-holds.ensures.covered)
-          (subst (AreCovered job.touched) c.site_tags-sites.ensures.pairs c.site_tags-sites.ensures.covered)
+          c.version_is_of_sixteen.ensures c.tags_are_covered.ensures.holds c.tags_are_covered.ensures.sites
           (sym c.covers_fields.ensures ∙ c.if-not-covers_fields.false) (sym c.covers_stages.ensures ∙ stages),
       λ known. c.covers_stages.ensures ∙ stages_known version c.touched-touched.result c.args.name job c.touched-touched.ensures known,
     )

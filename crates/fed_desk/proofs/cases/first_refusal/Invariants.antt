@@ -1,5 +1,5 @@
 use Rattle.std.proofs.Common.{◌≡◌, drop}
-use Rattle.fed_desk.specs.Desk.{first_of}
+use Rattle.fed_model.specs.Desk.{first_of}
 use Rattle.fed_desk.proofs.cases.first_refusal.Given as goal
 
 abbrev pub invariant-loop-applies : goal.invariant-loop-applies

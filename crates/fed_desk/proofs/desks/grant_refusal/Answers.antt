@@ -1,8 +1,8 @@
 use Rattle.std.specs.Prelude.{Bool, true, false, Option, Some, None}
 use Rattle.std.proofs.Common.{◌≡◌, sym}
-use Rattle.fed_record.specs.declared.refusals.Refusal.{Refusal}
-use Rattle.fed_desk.specs.declared.decisions.Decision.{Decision}
-use Rattle.fed_desk.specs.Desk.{decision_unless}
+use Rattle.fed_model.specs.declared.refusals.Refusal.{Refusal}
+use Rattle.fed_model.specs.declared.decisions.Decision.{Decision}
+use Rattle.fed_model.specs.Desk.{decision_unless}
 use Rattle.fed_desk.proofs.desks.grant_refusal.Goals as goal
 
 -- a decision that refuses does so by the first refusal that applies

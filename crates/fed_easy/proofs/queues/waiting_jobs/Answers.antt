@@ -12,9 +12,9 @@ pub loop-id-preserved-in-Continue-1 : goal.loop-id-preserved-in-Continue-1
 loop-id-preserved-in-Continue-1 c =
     let items = c.in_ok-push.ensures.items in
     record {
-      waiting = waiting_more c.args.site c.args.capacity c.loop-id.waiting.items c.push.new.self.items c.loop-id.id-iterator (c.in-Some.id.now, c.in-Some.held.now) c.next.new.self c.in-Some-queued.job _
+      waiting = waiting_more c.args.site c.args.capacity c.loop-id.waiting.items c.push.new.self.items c.loop-id.id-iterator (c.in-Some.id.now, c.in-Some.job.now) c.next.new.self c.in-Some-queued.entry _
           c.in-Some.ensures.steps (sym c.queued.ensures.job ∙ c.in-Some-queued.is) items c.loop-id.invariant.waiting;
-      sized = rw items (All-push (IsSized c.args.capacity) c.loop-id.waiting.items c.in-Some-queued.job c.loop-id.invariant.sized c.in-Some-queued.ensures.sized);
+      sized = rw items (All-push (IsSized c.args.capacity) c.loop-id.waiting.items c.in-Some-queued.entry c.loop-id.invariant.sized c.in-Some-queued.ensures.sized);
     }
 
 -- all entries are looked at

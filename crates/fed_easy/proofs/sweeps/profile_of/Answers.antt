@@ -1,13 +1,13 @@
 use Rattle.std.proofs.Common.{◌≡◌, ◌-◌, ◌<◌, List, length, arith, sym, ◌∙◌, slice_index_or}
-use Rattle.fed_easy.specs.declared.events.Event.{Event}
+use Rattle.fed_easy.specs.declared.use_changes.UseChange.{UseChange}
 use Rattle.fed_easy.proofs.Sweep.{event_more, event_same, first_more, swept_all}
 use Rattle.fed_easy.proofs.sweeps.profile_of.Goals as goal
 use Rattle.fed_easy.proofs.sweeps.profile_of.Goals.{then-event-first+in_ok-push, else-event-first}
 
 pub loop-i-preserved : goal.loop-i-preserved
 loop-i-preserved c =
-    let xs : List Event = c.in_ok-events.events.items in
-    let e : Event = c.index-event.result.now in
+    let xs : List UseChange = c.in_ok-events.events.items in
+    let e : UseChange = c.index-event.result.now in
     let inv = c.loop-i.invariant in
     let count : c.len-count.result ≡ length xs = inv.count in
     let lt : c.loop-i.i < length xs = omega (arith, c.loop-i-test.true, inv.count) in

@@ -1,7 +1,7 @@
 use Rattle.std.specs.Ordering.{nat_cmp}
 use Rattle.fed_tags.specs.Tags.{pair_cmp}
-use Rattle.fed_record.specs.Hold.{kind_cmp}
-use Rattle.fed_job_json.specs.Stamps.{IsSite}
+use Rattle.fed_model.specs.Hold.{kind_cmp}
+use Rattle.fed_model.specs.Ranges.{IsSite}
 use Rattle.fed_job_json.specs.Parts.{job_from}
 use Rattle.fed_job_json.proofs.PairLaws.{sorted_where_ascending}
 use Rattle.fed_job_json.proofs.JobReads.{pairs_covered, holds_covered, sites_covered}

@@ -5,5 +5,5 @@ use Rattle.fed_looks.proofs.machines.runs_at.Goals as goal
 
 pub returns : goal.returns
 returns c =
-    runs_done c.args.here c.args.board.now c.jobs-job-items.ensures.ascending c.jobs-job-items.ensures.names c.loop-job.runs.keys
-    c.loop-job.job-iterator c.loop-job.invariant (rest_all deref_pair _ _ _ c.in-None.is c.next.ensures.steps)
+    runs_done c.args.here c.args.board.now c.jobs-id-items.ensures.ascending c.jobs-id-items.ensures.names c.loop-id.runs.keys
+    c.loop-id.id-iterator c.loop-id.invariant (rest_all deref_pair _ _ _ c.in-None.is c.next.ensures.steps)

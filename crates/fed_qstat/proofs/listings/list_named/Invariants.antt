@@ -1,8 +1,8 @@
 use Rattle.std.proofs.Common.{string_bytes, take}
-use Rattle.fed_board.specs.Board.{reads}
+use Rattle.fed_board.specs.Board.{board_reads}
 use Rattle.fed_qstat.specs.Layout.{lines_in}
 use Rattle.fed_qstat.proofs.BoardJobs.{AreWritten}
 use Rattle.fed_qstat.proofs.listings.list_named.Given as goal
 
 abbrev pub invariant-loop-name : goal.invariant-loop-name
-invariant-loop-name l = AreWritten (lines_in l.layout l.roster) (reads l.board) (string_bytes l.text) (take l.name-index l.name-items)
+invariant-loop-name l = AreWritten (lines_in l.layout l.roster) (board_reads l.board) (string_bytes l.text) (take l.name-index l.name-items)

@@ -1,5 +1,4 @@
-use Rattle.std.specs.Prelude.{slice_get}
-use Rattle.std.proofs.Common.{◌≡◌, ◌-◌, ◌≤◌, ℕ, List, drop, length, take, Some, None, arith, sym, ap, refl}
+use Rattle.std.proofs.Common.{◌≡◌, ◌-◌, ◌≤◌, ℕ, List, drop, length, take, Some, None, arith, sym, refl}
 use Rattle.std.specs.List.{position}
 use Rattle.std.specs.Char.{is_ascii_whitespace}
 use Rattle.std.proofs.lemmas.Grind.{common_steps}

@@ -5,7 +5,7 @@ use Rattle.std.proofs.Common.{◌≡◌, ◌∙◌, ap, subst, ℕ, List, ◌++�
 use Rattle.fed_site.specs.Journal.{after_lines, kept_lines}
 use Rattle.fed_journal.specs.Journal.{entries_in}
 use Rattle.fed_journal.specs.Lines.{recovered}
-use Rattle.fed_home.specs.Home.{held_by, home_device, site_of}
+use Rattle.fed_home.specs.Home.{state_in, home_device, site_of}
 use Rattle.fed_home.specs.Replay.{AreReplies}
 use Rattle.fed_serve.specs.Inputs.{lines_in}
 use Rattle.fed_serve.specs.Served.{answered_text}
@@ -17,14 +17,14 @@ returns-in-Ok-clause-served g c =
     let old = c.args.home.now in
     let new = c.answer.new.self in
     let r = (site_of old).roster in
-    let s = held_by old in
+    let s = state_in old in
     let w = g.W.Write.contents in
     let given : map (λ (line : Bor (List ℕ)). line.now) c.deref.result.now ≡ lines_in c.args.text.now = ap (map (λ (line : Bor (List ℕ)). line.now)) c.deref.ensures.value ∙ c.in_ok-lines.ensures in
     let said : c.deref-3.result.now ≡ answered_text c.in_ok-answers.answers.items = c.deref-3.ensures.value ∙ c.in_ok-said.ensures ∙ ap answered_text c.deref-2.ensures.value in
     record {
       is_open = c.in_ok-answers.ensures.open;
       roster = c.in_ok-answers.ensures.roster;
-      left = subst (λ (ls : List (List ℕ)). held_by new ≡ after_lines r s ls) given c.in_ok-answers.ensures.left;
+      left = subst (λ (ls : List (List ℕ)). state_in new ≡ after_lines r s ls) given c.in_ok-answers.ensures.left;
       kept = subst (λ (ls : List (List ℕ)). recovered (g.D.Device.seen (home_device new)) ≡ Ok (entries_in (g.D.Device.seen (home_device old)) ++ kept_lines r s ls)) given c.in_ok-answers.ensures.kept;
       answered = (
         c.in_ok-answers.answers.items,

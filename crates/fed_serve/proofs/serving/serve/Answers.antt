@@ -6,7 +6,7 @@ use Rattle.std.proofs.lemmas.List.Elements.{All-nil}
 use Rattle.fed_journal.specs.Device.{LeavesOnly}
 use Rattle.fed_journal.specs.Journal.{IsBeforeOrAfter, entries_in}
 use Rattle.fed_site.specs.Journal.{kept_lines}
-use Rattle.fed_home.specs.Home.{held_by, home_device, site_of}
+use Rattle.fed_home.specs.Home.{state_in, home_device, site_of}
 use Rattle.fed_serve.specs.Inputs.{lines_in}
 use Rattle.fed_serve.specs.Served.{HasServed, WritesNothing}
 use Rattle.fed_serve.specs.declared.faults.ServeFault.TheVariants.{Read}
@@ -45,7 +45,7 @@ returns-in-Ok-eq0-clause-any_moment g c =
     ended_leaves g.D.Device.seen g.D.Device.may_leave g.D.Device.moment g.D.Device.left_since c.args.home.now c.loop.home c.answer_text.new.home (g.R.Read.remaining c.args.reader.now) (g.R.Read.remaining c.loop.reader) (g.R.Read.remaining c.read_chunk.new.reader) c.loop.begun.items
     (g.W.Write.contents c.args.writer.now) (g.W.Write.contents c.loop.writer) c.loop.invariant.serving end (c.in-Ok-eq0.ensures.read.2 zero)
     (subst (λ (t : List ℕ). LeavesOnly g.D.Device.moment g.D.Device.left_since (home_device c.loop.home) (home_device c.answer_text.new.home)
-    (IsBeforeOrAfter (entries_in (g.D.Device.seen (home_device c.loop.home))) (kept_lines (site_of c.loop.home).roster (held_by c.loop.home) (lines_in t)))) c.deref.ensures.value c.answer_text.ensures.any_moment)
+    (IsBeforeOrAfter (entries_in (g.D.Device.seen (home_device c.loop.home))) (kept_lines (site_of c.loop.home).roster (state_in c.loop.home) (lines_in t)))) c.deref.ensures.value c.answer_text.ensures.any_moment)
 
 -- ---- faults
 pub returns-in-Err-clause-served : goal.returns-in-Err-clause-served
@@ -73,7 +73,7 @@ returns-in-Err-answer_text-clause-any_moment g c =
     let consumed : Consumes (g.R.Read.remaining c.loop.reader) (g.R.Read.remaining c.read_chunk.new.reader) came =
     subst (λ (bs : List ℕ). Consumes (g.R.Read.remaining c.loop.reader) (g.R.Read.remaining c.read_chunk.new.reader) (take c.in-Ok.count bs)) same c.in-Ok.ensures.read.1 in
     let leaves = subst (λ (t : List ℕ). LeavesOnly g.D.Device.moment g.D.Device.left_since (home_device c.loop.home) (home_device c.answer_text-in-loop.new.home)
-    (IsBeforeOrAfter (entries_in (g.D.Device.seen (home_device c.loop.home))) (kept_lines (site_of c.loop.home).roster (held_by c.loop.home) (lines_in t)))) c.deref-in-loop-2.ensures.value c.answer_text-in-loop.ensures.any_moment in
+    (IsBeforeOrAfter (entries_in (g.D.Device.seen (home_device c.loop.home))) (kept_lines (site_of c.loop.home).roster (state_in c.loop.home) (lines_in t)))) c.deref-in-loop-2.ensures.value c.answer_text-in-loop.ensures.any_moment in
     serving_leaves g.D.Device.seen g.D.Device.may_leave g.D.Device.moment g.D.Device.left_since c.args.home.now c.loop.home c.answer_text-in-loop.new.home (g.R.Read.remaining c.args.reader.now) (g.R.Read.remaining c.loop.reader) (g.R.Read.remaining c.read_chunk.new.reader) c.loop.begun.items came c.in_ok-lines.lines.items c.take_lines.new.begun.items
     (g.W.Write.contents c.args.writer.now) (g.W.Write.contents c.loop.writer) c.loop.invariant.serving takes consumed leaves
 
@@ -87,7 +87,7 @@ loop-preserved g c =
     let consumed : Consumes (g.R.Read.remaining c.loop.reader) (g.R.Read.remaining c.read_chunk.new.reader) came =
     subst (λ (bs : List ℕ). Consumes (g.R.Read.remaining c.loop.reader) (g.R.Read.remaining c.read_chunk.new.reader) (take c.in-Ok.count bs)) same c.in-Ok.ensures.read.1 in
     let leaves = subst (λ (t : List ℕ). LeavesOnly g.D.Device.moment g.D.Device.left_since (home_device c.loop.home) (home_device c.answer_text-in-loop.new.home)
-    (IsBeforeOrAfter (entries_in (g.D.Device.seen (home_device c.loop.home))) (kept_lines (site_of c.loop.home).roster (held_by c.loop.home) (lines_in t)))) c.deref-in-loop-2.ensures.value c.answer_text-in-loop.ensures.any_moment in
+    (IsBeforeOrAfter (entries_in (g.D.Device.seen (home_device c.loop.home))) (kept_lines (site_of c.loop.home).roster (state_in c.loop.home) (lines_in t)))) c.deref-in-loop-2.ensures.value c.answer_text-in-loop.ensures.any_moment in
     record {
       serving = serving_more g.D.Device.seen g.D.Device.may_leave g.D.Device.moment g.D.Device.left_since c.args.home.now c.loop.home c.answer_text-in-loop.new.home (g.R.Read.remaining c.args.reader.now) (g.R.Read.remaining c.loop.reader) (g.R.Read.remaining c.read_chunk.new.reader) c.loop.begun.items came c.in_ok-lines.lines.items c.take_lines.new.begun.items
           (g.W.Write.contents c.args.writer.now) (g.W.Write.contents c.loop.writer) (g.W.Write.contents c.answer_text-in-loop.new.writer) c.loop.invariant.serving takes consumed

@@ -1,5 +1,5 @@
 use Rattle.std.specs.Prelude.{None}
-use Rattle.fed_world.specs.Outcome.{outcome_of}
+use Rattle.fed_model.specs.Outcome.{outcome_of}
 use Rattle.fed_threads.specs.declared.journal.Asked.TheVariants.{Do}
 use Rattle.fed_threads.specs.Seat.{known_by}
 use Rattle.fed_threads.proofs.Steps.{steps}
@@ -8,19 +8,19 @@ use Rattle.fed_threads.proofs.calls.call_in.Goals as goal
 
 pub returns-clause-ok : goal.returns-clause-ok
 returns-clause-ok c =
-    steps c.args.held.now c.call.new.self (known_by c.args.seat.now) (known_by c.reserve.new.self) (known_by c.claim.new.self)
+    steps c.args.locked.now c.call.new.self (known_by c.args.seat.now) (known_by c.reserve.new.self) (known_by c.claim.new.self)
     c.args.site c.len-index.result c.version.result c.version-2.result (Do c.args.site c.args.who.now c.args.command.now) None (outcome_of c.in_ok-said.said)
     c.in_ok-said.ensures.ok c.in_ok-said.ensures.named c.len-index.ensures c.version.ensures.value c.version.ensures.counters c.version-2.ensures.value c.in_ok-check.ensures.ok c.reserve.ensures.same
     (rw (← c.outcome_of.ensures) c.claim.ensures)
 
 pub returns-in_err-check-clause-behind : goal.returns-in_err-check-clause-behind
 returns-in_err-check-clause-behind c =
-    behind c.args.held.now (known_by c.args.seat.now) c.args.site c.len-index.result c.version.result c.len-index.ensures c.version.ensures.value c.from_residual.result c.in_err-check.field-0.0 c.in_err-check.ensures.err c.from_residual.ensures.1
+    behind c.args.locked.now (known_by c.args.seat.now) c.args.site c.len-index.result c.version.result c.len-index.ensures c.version.ensures.value c.from_residual.result c.in_err-check.field-0.0 c.in_err-check.ensures.err c.from_residual.ensures.1
 
 pub returns-in_err-reserve-clause-behind : goal.returns-in_err-reserve-clause-behind
 returns-in_err-reserve-clause-behind c =
-    wanting c.args.held.now (known_by c.args.seat.now) c.args.site c.len-index.result c.version.result c.len-index.ensures c.version.ensures.value c.from_residual-in_err-reserve.result c.in_ok-check.ensures.ok c.from_residual-in_err-reserve.ensures.1
+    wanting c.args.locked.now (known_by c.args.seat.now) c.args.site c.len-index.result c.version.result c.len-index.ensures c.version.ensures.value c.from_residual-in_err-reserve.result c.in_ok-check.ensures.ok c.from_residual-in_err-reserve.ensures.1
 
 pub returns-in_err-said-clause-behind : goal.returns-in_err-said-clause-behind
 returns-in_err-said-clause-behind c =
-    wanting c.args.held.now (known_by c.args.seat.now) c.args.site c.len-index.result c.version.result c.len-index.ensures c.version.ensures.value c.from_residual-in_err-said.result c.in_ok-check.ensures.ok c.from_residual-in_err-said.ensures.1
+    wanting c.args.locked.now (known_by c.args.seat.now) c.args.site c.len-index.result c.version.result c.len-index.ensures c.version.ensures.value c.from_residual-in_err-said.result c.in_ok-check.ensures.ok c.from_residual-in_err-said.ensures.1

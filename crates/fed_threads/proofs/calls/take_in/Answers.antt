@@ -1,26 +1,26 @@
 use Rattle.std.specs.Prelude.{Some}
-use Rattle.fed_threads.specs.Replay.{outcome_of_receipt}
+use Rattle.fed_threads.specs.Replay.{outcome_of_delivered}
 use Rattle.fed_threads.specs.declared.journal.Asked.TheVariants.{Take}
 use Rattle.fed_threads.specs.Seat.{known_by}
-use Rattle.fed_threads.proofs.Steps.{named_receipt, steps}
+use Rattle.fed_threads.proofs.Steps.{named_delivered, steps}
 use Rattle.fed_threads.proofs.CallFaults.{behind, wanting}
 use Rattle.fed_threads.proofs.calls.take_in.Goals as goal
 
 pub returns-clause-ok : goal.returns-clause-ok
 returns-clause-ok c =
-    steps c.args.held.now c.take.new.self (known_by c.args.seat.now) (known_by c.reserve.new.self) (known_by c.claim.new.self)
-    c.args.site c.len-index.result c.version.result c.version-2.result (Take c.args.site c.args.parcel.sender c.args.parcel.place) (Some c.args.parcel.packet) (outcome_of_receipt c.in_ok-receipt.receipt)
-    c.in_ok-receipt.ensures.ok (named_receipt c.in_ok-receipt.receipt) c.len-index.ensures c.version.ensures.value c.version.ensures.counters c.version-2.ensures.value c.in_ok-check.ensures.ok c.reserve.ensures.same
-    (rw (← c.outcome_of_receipt.ensures) c.claim.ensures)
+    steps c.args.locked.now c.take.new.self (known_by c.args.seat.now) (known_by c.reserve.new.self) (known_by c.claim.new.self)
+    c.args.site c.len-index.result c.version.result c.version-2.result (Take c.args.site c.args.parcel.sender c.args.parcel.place) (Some c.args.parcel.packet) (outcome_of_delivered c.in_ok-receipt.receipt)
+    c.in_ok-receipt.ensures.ok (named_delivered c.in_ok-receipt.receipt) c.len-index.ensures c.version.ensures.value c.version.ensures.counters c.version-2.ensures.value c.in_ok-check.ensures.ok c.reserve.ensures.same
+    (rw (← c.outcome_of_delivered.ensures) c.claim.ensures)
 
 pub returns-in_err-check-clause-behind : goal.returns-in_err-check-clause-behind
 returns-in_err-check-clause-behind c =
-    behind c.args.held.now (known_by c.args.seat.now) c.args.site c.len-index.result c.version.result c.len-index.ensures c.version.ensures.value c.from_residual.result c.in_err-check.field-0.0 c.in_err-check.ensures.err c.from_residual.ensures.1
+    behind c.args.locked.now (known_by c.args.seat.now) c.args.site c.len-index.result c.version.result c.len-index.ensures c.version.ensures.value c.from_residual.result c.in_err-check.field-0.0 c.in_err-check.ensures.err c.from_residual.ensures.1
 
 pub returns-in_err-reserve-clause-behind : goal.returns-in_err-reserve-clause-behind
 returns-in_err-reserve-clause-behind c =
-    wanting c.args.held.now (known_by c.args.seat.now) c.args.site c.len-index.result c.version.result c.len-index.ensures c.version.ensures.value c.from_residual-in_err-reserve.result c.in_ok-check.ensures.ok c.from_residual-in_err-reserve.ensures.1
+    wanting c.args.locked.now (known_by c.args.seat.now) c.args.site c.len-index.result c.version.result c.len-index.ensures c.version.ensures.value c.from_residual-in_err-reserve.result c.in_ok-check.ensures.ok c.from_residual-in_err-reserve.ensures.1
 
 pub returns-in_err-receipt-clause-behind : goal.returns-in_err-receipt-clause-behind
 returns-in_err-receipt-clause-behind c =
-    wanting c.args.held.now (known_by c.args.seat.now) c.args.site c.len-index.result c.version.result c.len-index.ensures c.version.ensures.value c.from_residual-in_err-receipt.result c.in_ok-check.ensures.ok c.from_residual-in_err-receipt.ensures.1
+    wanting c.args.locked.now (known_by c.args.seat.now) c.args.site c.len-index.result c.version.result c.len-index.ensures c.version.ensures.value c.from_residual-in_err-receipt.result c.in_ok-check.ensures.ok c.from_residual-in_err-receipt.ensures.1

@@ -1,6 +1,6 @@
 use Rattle.std.proofs.Common.{◌≡◌, ℕ, List, length, sym, ◌∙◌}
 use Rattle.fed_replica.specs.State.{empty_at}
-use Rattle.fed_world.specs.Run.{start}
+use Rattle.fed_model.specs.Run.{start}
 use Rattle.fed_site.specs.Journal.{after_lines}
 use Rattle.fed_site.proofs.Replays.{replayed}
 use Rattle.fed_turns.specs.Crash.{Happening, journal_of, lines_all, turns_from}

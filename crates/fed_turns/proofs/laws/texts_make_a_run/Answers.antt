@@ -1,5 +1,5 @@
 use Rattle.std.proofs.Common.{length}
-use Rattle.fed_world.specs.Run.{start}
+use Rattle.fed_model.specs.Run.{start}
 use Rattle.fed_turns.specs.Turn.{beginning}
 use Rattle.fed_turns.proofs.Alarms.{start_stands}
 use Rattle.fed_turns.proofs.Reached.{start_reached}

@@ -2,10 +2,10 @@ use Rattle.std.specs.Map.{keys_of}
 use Rattle.std.specs.Ordering.{nat_cmp}
 use Rattle.std.proofs.Common.{sym, ap, ◌∙◌}
 use Rattle.serde_json.specs.View.{view}
-use Rattle.fed_board.specs.declared.limits.TheConstants.{MAX_JOBS}
+use Rattle.fed_model.specs.declared.capacities.TheConstants.{MAX_JOBS}
 use Rattle.fed_stamp.specs.Version.{is_below}
 use Rattle.fed_tags.specs.Tags.{pair_cmp}
-use Rattle.fed_record.specs.Hold.{kind_cmp}
+use Rattle.fed_model.specs.Hold.{kind_cmp}
 use Rattle.fed_job_json.specs.Job.{Job, job_of}
 use Rattle.fed_job_json.proofs.JobLaws.{job_form}
 use Rattle.fed_job_json.proofs.PairLaws.{sorted_where_ascending}

@@ -1,7 +1,7 @@
 use Rattle.std.specs.Map.{keys_of}
 use Rattle.std.proofs.Common.{◌&&◌, Option, Some, None, IsSome, refl, sym, ◌∙◌}
 use Rattle.serde_json.specs.View.{view}
-use Rattle.fed_board.specs.declared.limits.TheConstants.{MAX_RESERVATIONS}
+use Rattle.fed_model.specs.declared.capacities.TheConstants.{MAX_RESERVATIONS}
 use Rattle.fed_stamp.specs.Stamp.{StampValue}
 use Rattle.fed_stamp.specs.Version.{covers}
 use Rattle.fed_job_json.specs.Fields.{IsField}

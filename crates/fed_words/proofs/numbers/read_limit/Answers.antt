@@ -1,5 +1,5 @@
 use Rattle.std.proofs.Common.{arith, ◌∙◌}
-use Rattle.fed_record.specs.declared.limits.TheConstants.{MAX_LIMIT}
+use Rattle.fed_model.specs.declared.limits.TheConstants.{MAX_LIMIT}
 use Rattle.fed_words.proofs.DigitWords.{narrower}
 use Rattle.fed_words.proofs.numbers.read_limit.Goals as goal
 

@@ -1,37 +1,48 @@
-use Rattle.std.proofs.Common.{◌≡◌, ◌<◌, [], Ok, Err, None, Some, length, refl, sym, ◌∙◌}
-use Rattle.std.specs.Str.Iter.{chars_rest}
-use Rattle.std.proofs.lemmas.List.{nil_from_length}
-use Rattle.fed_words.specs.declared.faults.UsageFault.TheVariants.{UnknownOption}
-use Rattle.fed_words.proofs.Groups.{group-unknown, group-switch, group-wanted, group-argument, group-stops, group-ends, group-goes, some_from, zero_from}
+use Rattle.std.proofs.Common.{◌≡◌, ◌+◌, ◌<◌, ◌++◌, ◌∷◌, [], Some, length, get_or, drop, refl, sym, ◌∙◌, inl, inr}
+use Rattle.std.proofs.lemmas.Str.{IsCharBoundary-after_ascii}
+use Rattle.fed_words.specs.Utility.{choice_of}
+use Rattle.fed_words.proofs.Each.{gives-either}
+use Rattle.fed_words.proofs.Groups.{letter-argument, letter-argument-wrong, letter-switch, letter-switch-wrong, letter_is_low, some_from}
 use Rattle.fed_words.proofs.spelling.read_group.Goals as goal
 
-pub loop-letter-init : goal.loop-letter-init
-loop-letter-init c = rw c.chars-rest.ensures.rest (refl, refl)
+pub range_from-argument-requires : goal.range_from-argument-requires
+range_from-argument-requires c = λ some.
+    let known : choice_of c.args.utility (get_or c.args.word.now c.loop-index.index 0) ≡ Some c.in-Some.option = rw c.as_bytes-bytes.ensures.value at (sym c.in-Some.ensures) in
+    let within : c.loop-index.index < length c.args.word.now = rw c.as_bytes-bytes.ensures.value at c.loop-index-test.true in
+    IsCharBoundary-after_ascii c.args.word.now c.loop-index.index c.utf8.word within (letter_is_low c.args.utility (get_or c.args.word.now c.loop-index.index 0) c.in-Some.option known)
 
-pub returns-in_default-choice : goal.returns-in_default-choice
-returns-in_default-choice c =
-    group-stops c.args.utility c.args.letters.now c.args.items.now.items (chars_rest c.loop-letter.rest) c.loop-letter.items.items c.loop-letter.invariant (Err UnknownOption)
-    (group-unknown c.args.utility c.in-Some.letter (chars_rest c.loop-letter.rest) (chars_rest c.next.new.self) c.in-Some.ensures.steps.0 (sym c.in_default-choice.ensures))
+pub returns-in_err-set : goal.returns-in_err-set
+returns-in_err-set c = λ items e.
+    let known : choice_of c.args.utility (get_or c.args.word.now c.loop-index.index 0) ≡ Some c.in-Some.option = rw c.as_bytes-bytes.ensures.value at (sym c.in-Some.ensures) in
+    let within : c.loop-index.index < length c.args.word.now = rw c.as_bytes-bytes.ensures.value at c.loop-index-test.true in
+    let some : 0 < length (drop (c.loop-index.index + 1) c.args.word.now) = rw c.range_from-argument.ensures.value at (some_from (length c.range_from-argument.result.now) (sym c.if-is_empty.false ∙ c.is_empty.ensures)) in
+    let far = c.loop-index.invariant items e in
+    gives-either _ c.from_residual.result _ c.in_err-set.field-0.0 c.from_residual.ensures.1 (elim (c.in_err-set.ensures far.0 far.1) [
+      | inl refused ↦ inl refused
+      | inr wrong ↦ inr (far.2 ∙ letter-argument-wrong c.args.roster.now c.args.utility c.args.word.now c.loop-index.index far.0 (get_or c.args.word.now c.loop-index.index 0) within refl c.in-Some.option known c.in_err-set.field-0.0 (sym c.if-takes_argument.ensures) some (rw c.range_from-argument.ensures.value at wrong))
+    ])
 
-pub loop-letter-preserved : goal.loop-letter-preserved
-loop-letter-preserved c =
-    group-goes c.args.utility c.args.letters.now c.args.items.now.items (chars_rest c.loop-letter.rest) c.loop-letter.items.items c.loop-letter.invariant (chars_rest c.next.new.self) _ c.push.new.self.items
-    (group-switch c.args.utility c.in-Some.letter (chars_rest c.loop-letter.rest) (chars_rest c.next.new.self) c.in-Some.ensures.steps.0 c.in-Some-choice.option (sym c.in-Some-choice.ensures) (sym c.if-not-takes_argument.ensures))
-    c.in_ok-push.ensures.ok
+pub returns-then-takes_argument : goal.returns-then-takes_argument
+returns-then-takes_argument c = λ items e.
+    let known : choice_of c.args.utility (get_or c.args.word.now c.loop-index.index 0) ≡ Some c.in-Some.option = rw c.as_bytes-bytes.ensures.value at (sym c.in-Some.ensures) in
+    let within : c.loop-index.index < length c.args.word.now = rw c.as_bytes-bytes.ensures.value at c.loop-index-test.true in
+    let some : 0 < length (drop (c.loop-index.index + 1) c.args.word.now) = rw c.range_from-argument.ensures.value at (some_from (length c.range_from-argument.result.now) (sym c.if-is_empty.false ∙ c.is_empty.ensures)) in
+    let far = c.loop-index.invariant items e in
+    far.2 ∙ letter-argument c.args.roster.now c.args.utility c.args.word.now c.loop-index.index far.0 (get_or c.args.word.now c.loop-index.index 0) within refl c.in-Some.option known c.set.new.self (sym c.if-takes_argument.ensures) some (rw c.range_from-argument.ensures.value at (c.in_ok-set.ensures far.0 far.1))
 
-pub returns-then-is_empty : goal.returns-then-is_empty
-returns-then-is_empty c =
-    let none : length c.as_str-argument.result.now ≡ 0 = zero_from (length c.as_str-argument.result.now) (sym c.if-is_empty.true ∙ c.is_empty.ensures) in
-    group-stops c.args.utility c.args.letters.now c.args.items.now.items (chars_rest c.loop-letter.rest) c.loop-letter.items.items c.loop-letter.invariant (Ok (Some c.in-Some-choice.option))
-    (group-wanted c.args.utility c.in-Some.letter (chars_rest c.loop-letter.rest) (chars_rest c.next.new.self) c.in-Some.ensures.steps.0 c.in-Some-choice.option (sym c.in-Some-choice.ensures) (sym c.if-not-takes_argument.ensures) (rw c.as_str-argument.ensures at none))
+pub returns-in_err-set-2 : goal.returns-in_err-set-2
+returns-in_err-set-2 c = λ items e.
+    let known : choice_of c.args.utility (get_or c.args.word.now c.loop-index.index 0) ≡ Some c.in-Some.option = rw c.as_bytes-bytes.ensures.value at (sym c.in-Some.ensures) in
+    let within : c.loop-index.index < length c.args.word.now = rw c.as_bytes-bytes.ensures.value at c.loop-index-test.true in
+    let far = c.loop-index.invariant items e in
+    gives-either _ c.from_residual-in_err-set-2.result _ c.in_err-set-2.field-0.0 c.from_residual-in_err-set-2.ensures.1 (elim (c.in_err-set-2.ensures far.0 far.1) [
+      | inl refused ↦ inl refused
+      | inr wrong ↦ inr (far.2 ∙ letter-switch-wrong c.args.roster.now c.args.utility c.args.word.now c.loop-index.index far.0 (get_or c.args.word.now c.loop-index.index 0) within refl c.in-Some.option known (sym c.if-takes_argument.ensures) c.in_err-set-2.field-0.0 wrong)
+    ])
 
-pub returns-in-Some : goal.returns-in-Some
-returns-in-Some c =
-    let some : 0 < length c.as_str-argument.result.now = some_from (length c.as_str-argument.result.now) (sym c.if-is_empty.false ∙ c.is_empty.ensures) in
-    group-ends c.args.utility c.args.letters.now c.args.items.now.items (chars_rest c.loop-letter.rest) c.loop-letter.items.items c.loop-letter.invariant (Ok None) (record { option = c.in-Some-choice.option; argument = c.as_str-argument.result }) c.push-in-Some.new.self.items
-    (rw c.as_str-argument.ensures (group-argument c.args.utility c.in-Some.letter (chars_rest c.loop-letter.rest) (chars_rest c.next.new.self) c.in-Some.ensures.steps.0 c.in-Some-choice.option (sym c.in-Some-choice.ensures) (sym c.if-not-takes_argument.ensures) (rw c.as_str-argument.ensures at some))) c.in_ok-push-2.ensures.ok
-
-pub returns : goal.returns
-returns c =
-    let nothing : chars_rest c.loop-letter.rest ≡ [] = nil_from_length (chars_rest c.loop-letter.rest) c.in_default.ensures.steps.0.0 in
-    group-stops c.args.utility c.args.letters.now c.args.items.now.items (chars_rest c.loop-letter.rest) c.loop-letter.items.items c.loop-letter.invariant (Ok None) (rw nothing refl)
+pub loop-index-preserved : goal.loop-index-preserved
+loop-index-preserved c = λ items e.
+    let known : choice_of c.args.utility (get_or c.args.word.now c.loop-index.index 0) ≡ Some c.in-Some.option = rw c.as_bytes-bytes.ensures.value at (sym c.in-Some.ensures) in
+    let within : c.loop-index.index < length c.args.word.now = rw c.as_bytes-bytes.ensures.value at c.loop-index-test.true in
+    let far = c.loop-index.invariant items e in
+    (far.0 ++ (c.in-Some.option, []) ∷ [], c.in_ok-set-2.ensures far.0 far.1, far.2 ∙ letter-switch c.args.roster.now c.args.utility c.args.word.now c.loop-index.index far.0 (get_or c.args.word.now c.loop-index.index 0) within refl c.in-Some.option known (sym c.if-takes_argument.ensures))

@@ -1,6 +1,10 @@
-use Rattle.std.specs.Str.Iter.{chars_rest}
-use Rattle.fed_words.proofs.Groups.{Grown}
+use Rattle.std.proofs.Common.{◌≡◌, List, Ok, drop}
+use Rattle.fed_words.specs.Reading.{reading}
+use Rattle.fed_words.specs.Setting.{settings_in}
+use Rattle.fed_words.specs.Spelling.{Item, group}
 use Rattle.fed_words.proofs.spelling.read_group.Given as goal
 
-abbrev pub invariant-loop-letter : goal.invariant-loop-letter
-invariant-loop-letter l = Grown l.utility l.letters l.fn.items.items (chars_rest l.rest) l.items.items
+abbrev pub invariant-loop-index : goal.invariant-loop-index
+invariant-loop-index l = (items : List Item) → settings_in l.roster items ≡ Ok l.fn.settings →
+    (done : List Item) × (settings_in l.roster done ≡ Ok l.settings)
+    × (reading l.roster items (group l.utility (drop 1 l.word)) ≡ reading l.roster done (group l.utility (drop l.index l.word)))

@@ -1,5 +1,5 @@
 use Rattle.std.proofs.Common.{sym, ◌∙◌}
-use Rattle.fed_world.proofs.Convergence.{same_views}
+use Rattle.fed_theory.proofs.Convergence.{same_views}
 use Rattle.fed_world.proofs.exchanges.same_sets_have_equal_boards.Goals as goal
 
 pub returns : goal.returns

@@ -1,6 +1,6 @@
 use Rattle.std.proofs.Common.{ℕ, List, ap, sym, ◌∙◌}
-use Rattle.fed_board.specs.View.{View}
-use Rattle.fed_world.proofs.EqualVersions.{same_version_same_set}
+use Rattle.fed_model.specs.View.{View}
+use Rattle.fed_theory.proofs.EqualVersions.{same_version_same_set}
 use Rattle.fed_world.proofs.exchanges.versions_tell_equal_boards.Goals as goal
 
 pub returns-clause-sets : goal.returns-clause-sets

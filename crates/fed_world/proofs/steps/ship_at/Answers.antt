@@ -1,7 +1,7 @@
 use Rattle.std.proofs.Common.{◌<◌, arith, subst, sym, ap, ◌∙◌}
 use Rattle.fed_wire.specs.Reading.{text_value}
 use Rattle.fed_world.specs.Kept.{IsReplica}
-use Rattle.fed_world.specs.Run.{run}
+use Rattle.fed_model.specs.Run.{run}
 use Rattle.fed_world.proofs.SentLaws.{ship_done}
 use Rattle.fed_world.proofs.steps.ship_at.Goals as goal
 

@@ -2,7 +2,7 @@ use Rattle.std.proofs.Common.{◌≡◌, ◌<◌, ◌-◌, suc, length, inl, inr
 use Rattle.fed_job_json.specs.declared.formats.Format.TheVariants.{Two}
 use Rattle.fed_wire.specs.Reading.{text_value}
 use Rattle.fed_world.specs.Kept.{IsSentOf, IsTextOf}
-use Rattle.fed_world.specs.Run.{packet, run}
+use Rattle.fed_model.specs.Run.{packet, run}
 use Rattle.fed_world.proofs.SentLaws.{no_packet, text_at, read_sent, gap_done, taken_done}
 use Rattle.fed_world.proofs.steps.take_at.Goals.{then-number-eq0-via-then-number-eq0, then-number-eq0-via-else-number-eq0+then-number-texts}
 use Rattle.fed_world.proofs.steps.take_at.Goals as goal

@@ -1,5 +1,5 @@
 use Rattle.std.proofs.Common.{◌≡◌, length, take}
-use Rattle.fed_world.specs.Run.{outcomes}
+use Rattle.fed_model.specs.Run.{outcomes}
 use Rattle.fed_world.proofs.worlds.run.Given as goal
 
 abbrev pub invariant-loop-event : goal.invariant-loop-event

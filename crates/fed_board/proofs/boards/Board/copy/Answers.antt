@@ -2,7 +2,7 @@ use Rattle.std.proofs.Common.{List, sym, subst}
 use Rattle.std.specs.Map.{keys_of}
 use Rattle.fed_stamp.specs.Stamp.{StampValue}
 use Rattle.fed_record.specs.JobRecord.{JobRecordValue}
-use Rattle.fed_record.specs.Reservation.{ReservationView}
+use Rattle.fed_model.specs.Reservation.{ReservationView}
 use Rattle.fed_board.specs.Board.{BoardValue, IsBoard}
 use Rattle.fed_board.specs.Changes.{AreListed}
 use Rattle.fed_board.specs.Counts.{AreCounts}

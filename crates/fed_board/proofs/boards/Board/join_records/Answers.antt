@@ -4,7 +4,7 @@ use Rattle.std.specs.List.Sorted.{IsStrictlySortedBy}
 use Rattle.fed_lattice.specs.Latest.{stamp_cmp}
 use Rattle.fed_record.proofs.JobRecordReads.{joined_jobs_read}
 use Rattle.fed_record.specs.JobRecordSteps.{joined_record}
-use Rattle.fed_board.specs.Board.{BoardValue, IsBoard, reads}
+use Rattle.fed_board.specs.Board.{BoardValue, IsBoard, board_reads}
 use Rattle.fed_board.specs.Changes.{AreListed}
 use Rattle.fed_board.proofs.BoardKeeps.{join_touched}
 use Rattle.fed_board.proofs.ListedJobs.{joined_listed}
@@ -14,14 +14,14 @@ use Rattle.fed_board.proofs.boards.Board.join_records.Goals as goal
 
 pub count_more-self-inside-requires : goal.count_more-self-inside-requires
 count_more-self-inside-requires c =
-    let sorted = subst (λ (b : BoardValue). IsStrictlySortedBy stamp_cmp (keys_of b.jobs)) (sym c.self.view_is) c.see_tables.ensures.jobs.0 in
-    let other = subst (λ (b : BoardValue). IsStrictlySortedBy stamp_cmp (keys_of b.jobs)) (sym c.other.view_is) c.see_tables-2.ensures.jobs.0 in
+    let sorted = subst (λ (b : BoardValue). IsStrictlySortedBy stamp_cmp (keys_of b.jobs)) (sym c.self.view_is) c.tables_are_well_formed.ensures.jobs.0 in
+    let other = subst (λ (b : BoardValue). IsStrictlySortedBy stamp_cmp (keys_of b.jobs)) (sym c.other.view_is) c.tables_are_well_formed-2.ensures.jobs.0 in
     counting_joined c.self.inside.job_counts _ c.self.inside.jobs _ _ _ sorted other c.self.invariant.1 c.in_ok-jobs.ensures.first (c.deref.ensures.value ∙ c.in_ok-jobs.ensures.new_first)
 
 pub count_more-self-inside-requires-2 : goal.count_more-self-inside-requires-2
 count_more-self-inside-requires-2 c =
-    let sorted = subst (λ (b : BoardValue). IsStrictlySortedBy stamp_cmp (keys_of b.reservations)) (sym c.self.view_is) c.see_tables.ensures.reservations.0 in
-    let other = subst (λ (b : BoardValue). IsStrictlySortedBy stamp_cmp (keys_of b.reservations)) (sym c.other.view_is) c.see_tables-2.ensures.reservations.0 in
+    let sorted = subst (λ (b : BoardValue). IsStrictlySortedBy stamp_cmp (keys_of b.reservations)) (sym c.self.view_is) c.tables_are_well_formed.ensures.reservations.0 in
+    let other = subst (λ (b : BoardValue). IsStrictlySortedBy stamp_cmp (keys_of b.reservations)) (sym c.other.view_is) c.tables_are_well_formed-2.ensures.reservations.0 in
     counting_joined c.self.inside.reservation_counts _ c.self.inside.reservations _ _ _ sorted other c.self.invariant.2 c.in_ok-jobs.ensures.second (c.deref-2.ensures.value ∙ c.in_ok-jobs.ensures.new_second)
 
 pub invariant_of-self-2 : goal.invariant_of-self-2
@@ -53,5 +53,5 @@ returns-clause-value c =
 pub returns-clause-joined : goal.returns-clause-joined
 returns-clause-joined c =
     let whole = subst IsBoard c.other.view_is c.other.invariant in
-    ap reads (returns-clause-value c)
+    ap board_reads (returns-clause-value c)
     ∙ with_records_reads joined_record joined_jobs_read c.args.self.now c.args.other.now whole

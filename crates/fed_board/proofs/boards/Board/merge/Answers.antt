@@ -2,8 +2,8 @@ use Rattle.std.proofs.Common.{[], replicate, refl, ap₂, sym, subst, ◌∙◌}
 use Rattle.fed_lattice.proofs.VersionOfLaws.{joined_zeros}
 use Rattle.fed_record.proofs.JobRecordReads.{joined_jobs_read}
 use Rattle.fed_record.specs.JobRecordSteps.{joined_record}
-use Rattle.fed_board.specs.Board.{BoardValue, IsBoard, reads, no_operation}
-use Rattle.fed_board.specs.ViewSteps.{join_views}
+use Rattle.fed_board.specs.Board.{BoardValue, IsBoard, board_reads, no_operation}
+use Rattle.fed_theory.specs.ViewSteps.{join_views}
 use Rattle.fed_board.proofs.BoardKeeps.{merged_keeps}
 use Rattle.fed_board.proofs.BoardReads.{merged_reads, merged_same}
 use Rattle.fed_board.proofs.ListedJobs.{listed_after}
@@ -42,9 +42,9 @@ returns-clause-joined c =
     let version = c.join-self-inside.ensures in
     let jobs = c.in_ok-jobs.ensures.joined in
     let reservations = c.in_ok-reservations.ensures.joined in
-    (λ i. reads (record { version = version i; jobs = jobs i; reservations = reservations i }))
+    (λ i. board_reads (record { version = version i; jobs = jobs i; reservations = reservations i }))
     ∙ merged_reads joined_record joined_jobs_read (λ v w i. record { fields = no_operation.fields; holds = []; sites = []; stages = no_operation.stages; touched = joined_zeros 16 (replicate 16 0) refl i }) b d
-    ∙ ap₂ (λ x y. join_views (reads x) (reads y)) c.self.view_is c.other.view_is
+    ∙ ap₂ (λ x y. join_views (board_reads x) (board_reads y)) c.self.view_is c.other.view_is
 
 pub returns-clause-stands : goal.returns-clause-stands
 returns-clause-stands c = stands_merged _ _ _ (returns-clause-joined c)

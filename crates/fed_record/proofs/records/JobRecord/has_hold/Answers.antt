@@ -1,5 +1,5 @@
-use Rattle.fed_record.specs.Hold.{kind_cmp}
-use Rattle.fed_record.specs.HoldLaws.{kind_total, exact_kind}
+use Rattle.fed_model.specs.Hold.{kind_cmp}
+use Rattle.fed_model.specs.HoldLaws.{kind_total, exact_kind}
 use Rattle.fed_record.proofs.PresentPairs.{present_answer}
 use Rattle.fed_record.proofs.records.JobRecord.has_hold.Goals as goal
 

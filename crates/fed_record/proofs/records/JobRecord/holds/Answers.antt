@@ -1,5 +1,5 @@
 use Rattle.std.proofs.Common.{◌∙◌}
-use Rattle.fed_record.specs.declared.holds.HoldKind.TheVariants.{User, Operator, System}
+use Rattle.fed_model.specs.declared.holds.HoldKind.TheVariants.{User, Operator, System}
 use Rattle.fed_record.proofs.records.JobRecord.holds.Goals as goal
 
 -- each kind is in the set exactly where a hold of it is present

@@ -1,4 +1,4 @@
-use Rattle.fed_replica.proofs.NextStamps.{next_is, next_uncovered}
+use Rattle.fed_theory.proofs.NextStamps.{next_is, next_uncovered}
 use Rattle.fed_replica.proofs.StepLaws.{sources, step_answer}
 use Rattle.fed_replica.proofs.Unrefused.{named}
 use Rattle.fed_replica.proofs.replicas.Replica.act.Goals as goal

@@ -1,6 +1,6 @@
 use Rattle.std.specs.Cow.{cow_str_bytes}
 use Rattle.std.proofs.Common.{◌≡◌, sym, ap, ◌∙◌}
-use Rattle.fed_board.specs.Board.{reads}
+use Rattle.fed_board.specs.Board.{board_reads}
 use Rattle.fed_script.specs.LineView.{said_by}
 use Rattle.fed_answers.specs.Listed.{listed}
 use Rattle.fed_answers.specs.Planned.{plan_if_any}
@@ -13,7 +13,7 @@ returns-in-List-clause-said c =
     let roster : c.get-roster.result.now ≡ c.args.self.now.roster = c.get-roster.ensures ∙ ap (λ (v : SiteValue). v.roster) c.self.view_is in
     let board : c.board.result.now ≡ c.args.self.now.replica.board = c.board.ensures ∙ ap (λ (v : SiteValue). v.replica.board) c.self.view_is in
     lists_said c.args.self.now (said_by c.args.line) c.in-List.site c.in-List.full c.in-List.jobs.items c.told-in-List.result c.told-in-List.ensures.kept c.told-in-List.ensures.complaint (ap said_by c.in-List.is)
-    (c.told-in-List.ensures.bytes ∙ c.in_ok-text-in-List.ensures ∙ (λ i. listed c.in-List.full (roster i) (reads (board i)) (c.deref-in-List.ensures.value i)))
+    (c.told-in-List.ensures.bytes ∙ c.in_ok-text-in-List.ensures ∙ (λ i. listed c.in-List.full (roster i) (board_reads (board i)) (c.deref-in-List.ensures.value i)))
 
 pub returns-in-Plan-clause-said : goal.returns-in-Plan-clause-said
 returns-in-Plan-clause-said c =
@@ -21,4 +21,4 @@ returns-in-Plan-clause-said c =
     let board : c.board-in-Plan.result.now ≡ c.args.self.now.replica.board = c.board-in-Plan.ensures ∙ ap (λ (v : SiteValue). v.replica.board) c.self.view_is in
     let here : c.self.inside.here ≡ c.args.self.now.replica.site = sym c.self.invariant.0 ∙ ap (λ (v : SiteValue). v.replica.site) c.self.view_is in
     plans_said cow_str_bytes c.in_ok-plan-in-Plan.plan c.args.self.now (said_by c.args.line) c.in-Plan.site c.in-Plan.moment c.plan_answer.result c.plan_answer.ensures.kept c.plan_answer.ensures.complaint (ap said_by c.in-Plan.is)
-    c.plan_answer.ensures.bytes (c.in_ok-plan-in-Plan.ensures ∙ (λ i. plan_if_any (roster i) (reads (board i)) (here i) c.in-Plan.moment))
+    c.plan_answer.ensures.bytes (c.in_ok-plan-in-Plan.ensures ∙ (λ i. plan_if_any (roster i) (board_reads (board i)) (here i) c.in-Plan.moment))

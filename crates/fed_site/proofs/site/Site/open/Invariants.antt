@@ -1,9 +1,8 @@
 use Rattle.std.specs.Prelude.{map}
 use Rattle.std.specs.Borrow.{Bor}
 use Rattle.std.proofs.Common.{◌≡◌, ℕ, List, drop}
-use Rattle.fed_replica.specs.State.{empty_at}
+use Rattle.fed_replica.specs.State.{empty_at, state_of}
 use Rattle.fed_site.specs.Journal.{after_lines}
-use Rattle.fed_replica.specs.State.{state_of}
 use Rattle.fed_site.proofs.site.Site.open.Given as goal
 
 abbrev pub invariant-loop-line : goal.invariant-loop-line

@@ -4,7 +4,7 @@ use Rattle.std.specs.BTreeSet.{insert_key}
 use Rattle.fed_lattice.specs.Latest.{stamp_cmp}
 use Rattle.fed_lattice.specs.LatestLaws.{stamp_total}
 use Rattle.fed_lattice.specs.ExactLaws.{exact_stamp}
-use Rattle.fed_tags.specs.TagLaws.{sorted_insert_key}
+use Rattle.fed_lattice.specs.KeySetLaws.{sorted_insert_key}
 use Rattle.fed_tags.proofs.StampLists.{insert_found, insert_same_found}
 use Rattle.fed_tags.proofs.tags.Tags.insert.Goals as goal
 

@@ -34,7 +34,7 @@ returns-clause-boards g c =
     let journals = entries_of c.in_ok-journals.journals.items in
     let roster : length c.into_parts-roster.result.0 ≡ length c.args.self.roster = rw c.into_parts-roster.ensures.roster refl in
     let few : length (entries_of c.in_ok-journals.journals.items) ≤ 16 =
-    omega (arith, c.len-count.ensures.roster.at_most, length-map c.in_ok-journals.journals.items (λ (v : Vec Entry). v.items)) in
+    omega (arith, c.roster_is_lawful.ensures.at_most, length-map c.in_ok-journals.journals.items (λ (v : Vec Entry). v.items)) in
     let many : c.in_ok-world.world.sites ≡ length (entries_of c.in_ok-journals.journals.items) =
     omega (arith, c.in_ok-world.ensures.sites, length-map c.in_ok-journals.journals.items (λ (v : Vec Entry). v.items)) in
     let settled = rw (c.deref-3.ensures.value, c.deref-4.ensures.value, c.in_ok-claims.ensures) at c.in_ok-world.ensures.ok in

@@ -1,5 +1,5 @@
 use Rattle.std.proofs.Common.{length}
-use Rattle.fed_world.proofs.PacketLimits.{site_within}
+use Rattle.fed_theory.proofs.PacketLimits.{site_within}
 use Rattle.fed_world.proofs.worlds.World.board.Goals as goal
 
 pub returns-then-index-len-clause-within : goal.returns-then-index-len-clause-within

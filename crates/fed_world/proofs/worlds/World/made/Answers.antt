@@ -1,5 +1,5 @@
 use Rattle.std.proofs.Common.{length, sym, ◌∙◌}
-use Rattle.fed_world.specs.Run.{run}
+use Rattle.fed_model.specs.Run.{run}
 use Rattle.fed_world.proofs.SentLaws.{texts_length}
 use Rattle.fed_world.proofs.worlds.World.made.Goals as goal
 

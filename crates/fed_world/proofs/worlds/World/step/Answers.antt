@@ -1,7 +1,7 @@
 use Rattle.std.proofs.Common.{◌≡◌, List, length, sym, subst, ap, ◌∙◌, ◌++◌, ◌∷◌, []}
 use Rattle.fed_replica.specs.Replica.{ReplicaValue}
 use Rattle.fed_world.specs.Kept.{AreReplicas, IsKept}
-use Rattle.fed_world.specs.Run.{run}
+use Rattle.fed_model.specs.Run.{run}
 use Rattle.fed_world.proofs.SentLaws.{kept_after, lent_whole}
 use Rattle.fed_world.proofs.worlds.World.step.Goals as goal
 

@@ -1,6 +1,6 @@
 use Rattle.std.proofs.Common.{◌≡◌, ◌<◌, ◌-◌, suc, length, inl, inr, arith, ap, subst, sym, ◌∙◌}
 use Rattle.fed_world.specs.Kept.{IsTextOf}
-use Rattle.fed_world.specs.Run.{packet, run}
+use Rattle.fed_model.specs.Run.{packet, run}
 use Rattle.fed_world.proofs.SentLaws.{none_at, text_at}
 use Rattle.fed_world.proofs.worlds.World.text.Goals.{then-packet-eq0-via-then-packet-eq0, then-packet-eq0-via-else-packet-eq0+then-packet-len}
 use Rattle.fed_world.proofs.worlds.World.text.Goals as goal

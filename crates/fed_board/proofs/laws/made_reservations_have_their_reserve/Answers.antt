@@ -1,5 +1,0 @@
-use Rattle.fed_board.proofs.SubmitLaws.{reserve_of, made_from}
-use Rattle.fed_board.proofs.laws.made_reservations_have_their_reserve.Goals as goal
-
-pub returns : goal.returns
-returns c ops name l = (reserve_of ops name l, made_from ops name)

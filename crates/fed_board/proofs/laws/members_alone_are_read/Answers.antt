@@ -1,5 +1,0 @@
-use Rattle.fed_board.proofs.ViewLaws.{view_same}
-use Rattle.fed_board.proofs.laws.members_alone_are_read.Goals as goal
-
-pub returns : goal.returns
-returns c = view_same

@@ -1,5 +1,0 @@
-use Rattle.fed_board.proofs.SubmitLaws.{submit_of, submitted_by}
-use Rattle.fed_board.proofs.laws.submitted_jobs_have_their_submit.Goals as goal
-
-pub returns : goal.returns
-returns c ops job = (submit_of ops job, submitted_by ops job)

@@ -1,0 +1,100 @@
+//! Boards and deltas where memory may be refused. A call answers as with ample memory, or by want of memory; then it leaves
+//! all as before, and answers as with ample memory when it is asked again. So the tests pass whichever allocation fails,
+//! which `rt try --test --fail-alloc N` does for the Nth.
+use crate::boards::{has_jobs, submit, submitted};
+use fed_board::Board;
+use fed_delta::{Absorb, Delta, absorb, delta_since};
+use fed_record::{HoldKind, HoldKinds, Operation};
+use fed_stamp::{Stamp, Version};
+use fed_test_values::stamp;
+use std::process::Abort;
+
+fn copied(rt: &impl Abort, board: &Board) -> Board {
+    match board.copy() {
+        Ok(copy) => copy,
+        Err(_) => board.copy().expect(rt, "memory"),
+    }
+}
+
+/// All that the board tells.
+fn told(rt: &(impl Abort + AllocGlobal), board: &Board) -> Delta {
+    let nothing = Version::default();
+    match delta_since(rt.alloc(), board, &nothing) {
+        Ok(delta) => delta,
+        Err(_) => delta_since(rt.alloc(), board, &nothing).expect(rt, "memory"),
+    }
+}
+
+/// Adds an operation whose stamp is new and whose job or reservation is there. A failed allocation leaves the board.
+fn applied(rt: &impl Abort, board: &mut Board, at: Stamp, operation: &Operation) {
+    let before = copied(rt, board);
+    assert!(rt; !board.version().covers(at) && board.has_named(operation));
+    if board.apply(at, operation).is_err() {
+        assert!(rt; *board == before);
+        assert!(rt; !board.version().covers(at) && board.has_named(operation));
+        board.apply(at, operation).expect(rt, "memory");
+    }
+}
+
+#[test]
+fn failed_allocations_of_operations(rt: HostRuntime) {
+    let (job, held) = (stamp(1, 0), stamp(2, 0));
+    let mut board = Board::new(rt.alloc());
+    applied(&rt, &mut board, job, &submit(false));
+    let hold = Operation::Hold {
+        job,
+        kinds: HoldKinds::USER,
+    };
+    applied(&rt, &mut board, held, &hold);
+    let record = board.job(job).expect(&rt, "the job");
+    assert!(rt; record.hold_tags().eq([(HoldKind::User, held)]));
+    assert!(rt; board.version() == Version::default().with(held));
+}
+
+#[test]
+fn failed_allocations_of_a_merge(rt: HostRuntime) {
+    let one = submitted(&rt, stamp(1, 0), false);
+    let other = submitted(&rt, stamp(1, 1), false);
+    let mut both = copied(&rt, &one);
+    if both.merge(&other).is_err() {
+        assert!(rt; both == one);
+        both.merge(&other).expect(&rt, "memory");
+    }
+    assert!(rt; has_jobs(&both, [stamp(1, 0), stamp(1, 1)]));
+}
+
+#[test]
+fn failed_allocations_of_a_delta(rt: HostRuntime) {
+    let one = submitted(&rt, stamp(1, 0), false);
+    let other = submitted(&rt, stamp(1, 1), false);
+    let news = told(&rt, &other);
+    let mut both = copied(&rt, &one);
+    if let Err(fault) = absorb(&mut both, &news) {
+        assert!(rt; fault == Absorb::NoMemory && both == one);
+        absorb(&mut both, &news).expect(&rt, "memory");
+    }
+    assert!(rt; has_jobs(&both, [stamp(1, 0), stamp(1, 1)]));
+}
+
+/// A copy of the board, on which another site holds the job and submits another.
+fn gone_on(rt: &(impl Abort + AllocGlobal), board: &Board, job: Stamp, next: Stamp) -> Board {
+    let mut later = copied(rt, board);
+    let kinds = HoldKinds::USER;
+    applied(rt, &mut later, stamp(2, 1), &Operation::Hold { job, kinds });
+    applied(rt, &mut later, next, &submit(false));
+    later
+}
+
+#[test]
+fn failed_allocations_of_a_delta_of_a_known_job(rt: HostRuntime) {
+    let (job, next) = (stamp(1, 0), stamp(3, 1));
+    let one = submitted(&rt, job, false);
+    let later = gone_on(&rt, &one, job, next);
+    let news = told(&rt, &later);
+    let mut both = copied(&rt, &one);
+    if let Err(fault) = absorb(&mut both, &news) {
+        assert!(rt; fault == Absorb::NoMemory && both == one);
+        absorb(&mut both, &news).expect(&rt, "memory");
+    }
+    assert!(rt; has_jobs(&both, [job, next]) && both == later);
+}

@@ -1,0 +1,10 @@
+use Rattle.std.proofs.Common.{◌≡◌, map, drop}
+use Rattle.serde_json.specs.View.{view}
+use Rattle.fed_json.specs.Values.{all_of, pair_of}
+use Rattle.fed_json.proofs.ListLaws.{after}
+use Rattle.fed_job_json.specs.Stamps.{stamp_of}
+use Rattle.fed_job_json.specs.Pairs.{kind_of}
+use Rattle.fed_job_json.proofs.live_pairs.all_holds.Given as goal
+
+abbrev pub invariant-loop-value : goal.invariant-loop-value
+invariant-loop-value l = after l.in_range l.holds.items (all_of (pair_of kind_of stamp_of) (map view (drop l.value-index l.values))) ≡ all_of (pair_of kind_of stamp_of) (map view l.values)

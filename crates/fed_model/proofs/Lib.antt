@@ -1,0 +1,2 @@
+-- Accounts, for callers too.
+pub mod AccountLaws

@@ -1,0 +1,64 @@
+-- Operations: what a site does, each time under a stamp of its own. A set of operations is a history of their
+-- bodies.
+use Rattle.std.specs.Prelude.{ℕ, Bool, false, List, filter, Option, Some, None}
+use Rattle.fed_stamp.specs.Stamp.{StampValue, same_stamp}
+use Rattle.fed_lattice.specs.History.{History}
+use Rattle.fed_model.specs.declared.holds.HoldKind.{HoldKind}
+use Rattle.fed_model.specs.declared.holds.HoldKinds.{HoldKinds}
+use Rattle.fed_model.specs.declared.values.JobValues.{JobValues}
+use Rattle.fed_model.specs.declared.values.Changes.{Changes}
+use Rattle.fed_model.specs.declared.beginnings.Beginning.{Beginning}
+use Rattle.fed_model.specs.declared.beginnings.Ending.{Ending}
+use Rattle.fed_model.specs.declared.windows.Window.{Window}
+
+-- `removed` tests pairs of an element and the stamp of the operation that added it
+pub data Body : Type 0 where
+  Submit : (owner : List ℕ) (values : JobValues) (held : Bool) → Body
+  Set : (job : StampValue) (changes : Changes) (removed : ℕ → StampValue → Bool) → Body
+  Hold : (job : StampValue) (kinds : HoldKinds) → Body
+  Release : (job : StampValue) (removed : HoldKind → StampValue → Bool) → Body
+  Delete : (job : StampValue) → Body
+  Grant : (job : StampValue) (site : ℕ) (term : ℕ) → Body
+  HandBack : (job : StampValue) (term : ℕ) → Body
+  Begin : (job : StampValue) (beginning : Beginning) → Body
+  Finish : (job : StampValue) (ending : Ending) → Body
+  Reserve : (window : Window) → Body
+  Cancel : (reservation : StampValue) → Body
+
+-- the job that the operation is of: a job is named by the stamp of its Submit
+abbrev pub job_of : StampValue → Body → Option StampValue
+job_of t (Submit owner values held) = Some t
+job_of t (Set job changes removed) = Some job
+job_of t (Hold job kinds) = Some job
+job_of t (Release job removed) = Some job
+job_of t (Delete job) = Some job
+job_of t (Grant job site term) = Some job
+job_of t (HandBack job term) = Some job
+job_of t (Begin job beginning) = Some job
+job_of t (Finish job ending) = Some job
+job_of t (Reserve window) = None
+job_of t (Cancel reservation) = None
+
+-- the reservation that the operation is of: a reservation is named by the stamp of its Reserve
+abbrev pub reservation_of : StampValue → Body → Option StampValue
+reservation_of t (Reserve window) = Some t
+reservation_of t (Cancel reservation) = Some reservation
+reservation_of t _ = None
+
+abbrev pub is_named : StampValue → Option StampValue → Bool
+is_named name None = false
+is_named name (Some t) = same_stamp t name
+
+abbrev pub is_of_job : StampValue → StampValue × Body → Bool
+is_of_job job e = is_named job (job_of e.0 e.1)
+
+abbrev pub is_of_reservation : StampValue → StampValue × Body → Bool
+is_of_reservation name e = is_named name (reservation_of e.0 e.1)
+
+-- the operations of one job
+abbrev pub of_job : StampValue → History Body → History Body
+of_job job ops = filter (is_of_job job) ops
+
+-- the operations of one reservation
+abbrev pub of_reservation : StampValue → History Body → History Body
+of_reservation name ops = filter (is_of_reservation name) ops

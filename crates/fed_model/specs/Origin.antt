@@ -1,0 +1,20 @@
+-- How many jobs and reservations bear the name of one site.
+use Rattle.std.specs.Prelude.{ℕ, suc, Bool, is_some, count_by}
+use Rattle.std.specs.List.{range_with_len}
+use Rattle.fed_stamp.specs.Stamp.{StampValue}
+use Rattle.fed_stamp.specs.Version.{counter_of}
+use Rattle.fed_model.specs.Letter.{is_submitted}
+use Rattle.fed_model.specs.View.{View}
+
+-- how many of the site's stamps that the view's version covers pass the test
+abbrev pub count_at : View → ℕ → (StampValue → Bool) → ℕ
+count_at v site test = count_by (λ counter. test (record { counter = counter; site = site }))
+    (range_with_len 0 (suc (counter_of v.version site)))
+
+-- the jobs that were submitted at the site, those that are gone among them
+abbrev pub jobs_of : View → ℕ → ℕ
+jobs_of v site = count_at v site (λ job. is_submitted (v.job job))
+
+-- the reservations that were made at the site, those that are cancelled among them
+abbrev pub reservations_of : View → ℕ → ℕ
+reservations_of v site = count_at v site (λ name. is_some (v.reservation name))

@@ -1,0 +1,89 @@
+-- Why a command is refused: the table of refusals. `ClockFull` for want of a counter stands in Answer, since it is
+-- looked for last and wherever an operation would be added.
+use Rattle.std.specs.Prelude.{ℕ, Bool, false, not, ◌&&◌, ◌||◌, ◌==◌, nat_le, nat_lt, List, [], ◌∷◌, ◌++◌, Option, Some, None, is_some, is_none}
+use Rattle.fed_stamp.specs.declared.rosters.TheConstants.{MAX_NODES}
+use Rattle.fed_model.specs.declared.askers.Who.{Who}
+use Rattle.fed_model.specs.declared.commands.Command.{Command}
+use Rattle.fed_model.specs.declared.grants.GrantStage.{GrantStage}
+use Rattle.fed_model.specs.declared.grants.GrantStage.TheVariants.{Returned}
+use Rattle.fed_model.specs.declared.moments.TheConstants.{MAX_MOMENT}
+use Rattle.fed_model.specs.declared.refusals.Refusal.{Refusal}
+use Rattle.fed_model.specs.declared.terms.TheConstants.{MAX_TERM}
+use Rattle.fed_model.specs.declared.windows.Window.{Window}
+use Rattle.fed_model.specs.Letter.{is_granted, is_held, is_submitted, is_gone, is_granted_to}
+use Rattle.fed_model.specs.Reservation.{ReservationView}
+use Rattle.fed_model.specs.View.{View}
+use Rattle.fed_model.specs.declared.capacities.TheConstants.{MAX_JOBS, MAX_RESERVATIONS}
+use Rattle.fed_model.specs.Desk.{Case, grant_refusals}
+use Rattle.fed_model.specs.Origin.{jobs_of, reservations_of}
+use Rattle.fed_model.specs.Permission.{is_operator, may_alter, may_hold_all}
+
+-- the end is not above the start or above the last moment, or the nodes are none or more than a site may have
+abbrev pub is_bad_window : Window → Bool
+is_bad_window w = nat_le w.end w.start || (nat_lt MAX_MOMENT w.end || (w.nodes == 0 || nat_lt MAX_NODES w.nodes))
+
+-- the reservation is made and not cancelled
+abbrev pub is_standing : ReservationView → Bool
+is_standing None = false
+is_standing (Some latest) = is_some latest.1
+
+-- the last term there is was handed back
+abbrev pub is_last_term : Option GrantStage → Bool
+is_last_term (Some (Returned term stamp)) = nat_le MAX_TERM term
+is_last_term _ = false
+
+-- what is looked for at each command, in this order
+abbrev pub refusals : View → ℕ → Who → Command → List Case
+refusals v here who (Command.Submit values held) = (nat_le MAX_JOBS (jobs_of v here), Refusal.SiteFull) ∷ []
+refusals v here who (Command.Alter job changes) =
+    (not (is_submitted (v.job job)), Refusal.UnknownJob)
+    ∷ (not (may_alter who (v.job job)), Refusal.NotPermitted)
+    ∷ (is_gone (v.job job), Refusal.Gone)
+    ∷ (is_granted (v.job job), Refusal.Granted)
+    ∷ []
+refusals v here who (Command.Hold job kinds) =
+    (not (is_submitted (v.job job)), Refusal.UnknownJob)
+    ∷ (not (may_hold_all who (v.job job) kinds), Refusal.NotPermitted)
+    ∷ (is_gone (v.job job), Refusal.Gone)
+    ∷ (is_granted (v.job job), Refusal.Granted)
+    ∷ []
+refusals v here who (Command.Release job kinds) =
+    (not (is_submitted (v.job job)), Refusal.UnknownJob)
+    ∷ (not (may_hold_all who (v.job job) kinds), Refusal.NotPermitted)
+    ∷ (is_gone (v.job job), Refusal.Gone)
+    ∷ []
+refusals v here who (Command.Delete job) =
+    (not (is_submitted (v.job job)), Refusal.UnknownJob)
+    ∷ (not (may_alter who (v.job job)), Refusal.NotPermitted)
+    ∷ (is_gone (v.job job), Refusal.Gone)
+    ∷ []
+refusals v here who (Command.Grant job asker) =
+    grant_refusals v here job asker ++ (is_last_term (v.job job).grant, Refusal.ClockFull) ∷ []
+refusals v here who (Command.HandBack job) =
+    (not (is_submitted (v.job job)), Refusal.UnknownJob)
+    ∷ (is_gone (v.job job), Refusal.Gone)
+    ∷ (not (is_granted_to (v.job job) here), Refusal.NotGranted)
+    ∷ (is_some (v.job job).begun, Refusal.Begun)
+    ∷ []
+refusals v here who (Command.Begin job moment) =
+    (not (is_submitted (v.job job)), Refusal.UnknownJob)
+    ∷ (is_gone (v.job job), Refusal.Gone)
+    ∷ (is_held (v.job job) && is_none (v.job job).begun, Refusal.Held)
+    ∷ (not (is_granted_to (v.job job) here), Refusal.NotGranted)
+    ∷ (is_some (v.job job).begun, Refusal.Begun)
+    ∷ []
+refusals v here who (Command.Finish job moment status) =
+    (not (is_submitted (v.job job)), Refusal.UnknownJob)
+    ∷ (is_gone (v.job job), Refusal.Gone)
+    ∷ (not (is_granted_to (v.job job) here), Refusal.NotGranted)
+    ∷ (is_none (v.job job).begun, Refusal.NotBegun)
+    ∷ []
+refusals v here who (Command.Reserve window) =
+    (not (is_operator who.role), Refusal.NotPermitted)
+    ∷ (is_bad_window window, Refusal.BadWindow)
+    ∷ (nat_le MAX_RESERVATIONS (reservations_of v here), Refusal.SiteFull)
+    ∷ []
+refusals v here who (Command.Cancel name) =
+    (not (is_operator who.role), Refusal.NotPermitted)
+    ∷ (not (is_standing (v.reservation name)), Refusal.UnknownReservation)
+    ∷ []

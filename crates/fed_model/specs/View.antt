@@ -1,0 +1,33 @@
+-- What a set of operations says as a whole.
+use Rattle.std.specs.Prelude.{ℕ, Bool, List}
+use Rattle.fed_stamp.specs.Stamp.{StampValue}
+use Rattle.fed_lattice.specs.Sets.{Has}
+use Rattle.fed_lattice.specs.History.{History}
+use Rattle.fed_lattice.specs.VersionOf.{version_of}
+use Rattle.fed_model.specs.declared.values.JobValues.{JobValues}
+use Rattle.fed_model.specs.declared.windows.Window.{Window}
+use Rattle.fed_model.specs.Body.{Body, Body.Submit, Body.Reserve, of_job, of_reservation}
+use Rattle.fed_model.specs.JobView.{JobView, job_view}
+use Rattle.fed_model.specs.Reservation.{ReservationView, reservation_view}
+
+-- all that can be read of a set: its version, each job by the stamp of its Submit, and each reservation by the
+-- stamp of its Reserve. A board stands for the set where it reads as this
+pub record View : Type 0 where
+  pub version : List ℕ
+  pub job : StampValue → JobView
+  pub reservation : StampValue → ReservationView
+
+abbrev pub view : History Body → View
+view ops = record {
+  version = version_of ops;
+  job = λ job. job_view (of_job job ops);
+  reservation = λ name. reservation_view (of_reservation name ops);
+}
+
+-- the set has the Submit of the job
+abbrev pub HasSubmit : History Body → StampValue → Type 0
+HasSubmit ops job = (owner : List ℕ) × (values : JobValues) × (held : Bool) × Has ops (job, Submit owner values held)
+
+-- the set has the Reserve of the reservation
+abbrev pub HasReserve : History Body → StampValue → Type 0
+HasReserve ops name = (window : Window) × Has ops (name, Reserve window)

@@ -1,0 +1,112 @@
+//! Why a site refuses a command, each cause with its number.
+ghost use Rattle.std.specs.Prelude.{◌≡◌, ◌≤◌};
+ghost use Rattle.fed_model.specs.Refusal.{number_of};
+
+use fed_lattice::NoMemory;
+use fed_stamp::{ClockFull, SiteId};
+use thiserror::Error;
+
+/// Why a command is refused, in the order in which the reasons are looked for: the first that applies is
+/// answered, and nothing changes. A job is granted where its grant is open: given to a site and not handed back.
+#[derive(Clone, Copy, PartialEq, Eq, Debug, Drop, Error)]
+pub enum Refusal {
+    /// 1: the job isn't on the site's board. To all commands that name a job.
+    #[error("unknown job")]
+    UnknownJob,
+    /// 2: the asker's role forbids it. To Alter, Hold, Release, Delete, Reserve and Cancel.
+    #[error("not permitted")]
+    NotPermitted,
+    /// 3: the job has no letter: it is finished, or was deleted before it began. To all commands that name a job.
+    #[error("the job is gone")]
+    Gone,
+    /// 4: the job is granted, to whatever site. To Alter and Hold.
+    #[error("the job is granted to a site")]
+    Granted,
+    /// 5: the job was submitted at another site than this. To Grant.
+    #[error("the job was submitted at another site")]
+    NotOrigin,
+    /// 6: a hold is present, and the job is not granted (to Grant) or not begun (to Begin).
+    #[error("a hold is present")]
+    Held,
+    /// 7: the job is not granted, and the asker isn't among its sites. To Grant.
+    #[error("the job may not run there")]
+    NotEligible,
+    /// 8: the job is granted to another site than the asker, which this names. To Grant.
+    #[error("the job is granted to site {number}", number = .0.get())]
+    TakenBy(SiteId),
+    /// 9: the job isn't granted to the site that is asked. To Begin, Finish and HandBack.
+    #[error("the job is not granted to this site")]
+    NotGranted,
+    /// 10: the job has begun. To Begin and HandBack.
+    #[error("the job has begun")]
+    Begun,
+    /// 11: the job hasn't begun. To Finish.
+    #[error("the job has not begun")]
+    NotBegun,
+    /// 12: the window's end is not above its start or is above `MAX_MOMENT`, or its nodes are 0 or above
+    /// `MAX_NODES`. To Reserve.
+    #[error("bad window")]
+    BadWindow,
+    /// 13: the reservation isn't on the site's board, or is cancelled. To Cancel.
+    #[error("unknown reservation")]
+    UnknownReservation,
+    /// 14: 10,000 or more jobs were submitted at this site (to Submit), or 1,000 or more reservations made at it (to
+    /// Reserve). Jobs that are gone and reservations that are cancelled count.
+    #[error("the site is full")]
+    SiteFull,
+    /// 15: an operation would be added, and the greatest counter that the site has seen is `MAX_COUNTER`. To all
+    /// commands. To Grant also where the term that was handed back is `MAX_TERM`.
+    #[error("every counter is in use")]
+    ClockFull,
+    /// 16: an allocation failed. To all commands.
+    #[error("out of memory")]
+    NoMemory,
+}
+
+/// 16: memory was refused.
+impl From<NoMemory> for Refusal {
+    ghost use Rattle.fed_model.specs.declared.refusals.Refusal.TheVariants.{NoMemory};
+
+    ghost from_gives = { λ _ refusal. refusal ≡ NoMemory };
+
+    fn from(_error: NoMemory) -> Refusal {
+        Refusal::NoMemory
+    }
+}
+
+/// 15: no greater counter is left for a stamp.
+impl From<ClockFull> for Refusal {
+    ghost use Rattle.fed_model.specs.declared.refusals.Refusal.TheVariants.{ClockFull};
+
+    ghost from_gives = { λ _ refusal. refusal ≡ ClockFull };
+
+    fn from(_error: ClockFull) -> Refusal {
+        Refusal::ClockFull
+    }
+}
+
+impl Refusal {
+    /// The number of the refusal, from 1 to 16.
+    pub fn number(self) -> u8
+        ensures { result ≡ number_of self }
+    {
+        match self {
+            Refusal::UnknownJob => 1,
+            Refusal::NotPermitted => 2,
+            Refusal::Gone => 3,
+            Refusal::Granted => 4,
+            Refusal::NotOrigin => 5,
+            Refusal::Held => 6,
+            Refusal::NotEligible => 7,
+            Refusal::TakenBy(_) => 8,
+            Refusal::NotGranted => 9,
+            Refusal::Begun => 10,
+            Refusal::NotBegun => 11,
+            Refusal::BadWindow => 12,
+            Refusal::UnknownReservation => 13,
+            Refusal::SiteFull => 14,
+            Refusal::ClockFull => 15,
+            Refusal::NoMemory => 16,
+        }
+    }
+}

@@ -1,0 +1,280 @@
+-- What holds of each operation that an answer adds to a lawful set.
+use Rattle.std.specs.Prelude.{if◌then◌else◌, is_some, is_none, Result, Ok, Err}
+use Rattle.std.specs.List.{list_any}
+use Rattle.std.proofs.Common.{◌≡◌, ℕ, zero, suc, ◌+◌, ◌≤◌, ◌<◌, List, [], ◌∷◌, ◌++◌, Bool, true, false, not, ◌&&◌, Option, Some, None, refl, sym, ap, subst, ◌∙◌, inl, inr, arith, add-one}
+use Rattle.std.proofs.lemmas.Bool.{and_parts, or_left, cases_Bool, both_ways, not-false, leb-false, eqb-true}
+use Rattle.fed_stamp.specs.declared.versions.ClockFull.{ClockFull}
+use Rattle.fed_stamp.specs.Stamp.{StampValue, same_stamp}
+use Rattle.fed_stamp.specs.Version.{next_stamp}
+use Rattle.fed_lattice.specs.Sets.{Has}
+use Rattle.fed_lattice.specs.History.{History}
+use Rattle.fed_lattice.specs.Latest.{is_before}
+use Rattle.fed_lattice.specs.SetLaws.{found, Has-left}
+use Rattle.fed_lattice.proofs.FilterLaws.{Has-filter, filter-Has}
+use Rattle.fed_lattice.specs.VersionOf.{version_of}
+use Rattle.fed_model.specs.declared.askers.Who.{Who}
+use Rattle.fed_model.specs.declared.commands.Command.{Command}
+use Rattle.fed_model.specs.declared.grants.GrantStage.{GrantStage}
+use Rattle.fed_model.specs.declared.grants.GrantStage.TheVariants.{Open, Returned}
+use Rattle.fed_model.specs.declared.holds.HoldKinds.{HoldKinds}
+use Rattle.fed_model.specs.declared.beginnings.Beginning.{Beginning}
+use Rattle.fed_model.specs.declared.beginnings.Ending.{Ending}
+use Rattle.fed_model.specs.declared.refusals.Refusal.{Refusal}
+use Rattle.fed_model.specs.declared.replies.Reply.{Reply}
+use Rattle.fed_model.specs.declared.windows.Window.{Window}
+use Rattle.fed_model.specs.Body.{Body, Body.Submit, Body.Grant, Body.HandBack, Body.Begin, Body.Finish, Body.Reserve, is_of_job, is_of_reservation, of_job, of_reservation}
+use Rattle.fed_model.specs.Field.{begin_in, finish_in, window_in, field}
+use Rattle.fed_model.specs.JobView.{JobView}
+use Rattle.fed_model.specs.Letter.{is_submitted, is_gone, is_granted_to}
+use Rattle.fed_model.specs.Pairs.{adds_site, removes_site, adds_hold, removes_hold, adds_pair, is_live}
+use Rattle.fed_model.specs.Reservation.{ReservationView}
+use Rattle.fed_theory.proofs.FoundLaws.{some_found, none_found, field_found, field_none}
+use Rattle.fed_lattice.specs.ExactLaws.{same_stamp_is, same_stamp_itself}
+use Rattle.fed_model.specs.View.{view}
+use Rattle.fed_model.specs.Lawful.{IsSubmitted, IsReserved, HasAdded, IsNextTerm, IsGrounded, IsHolder, IsLawful}
+use Rattle.fed_theory.specs.MayFollow.{MayFollow}
+use Rattle.fed_theory.proofs.GrowthLaws.{lawful_push}
+use Rattle.fed_theory.proofs.LawfulLaws.{grounded_more}
+use Rattle.fed_theory.proofs.SubmitLaws.{submit_of}
+use Rattle.fed_model.specs.Answer.{Answer.Replies, effect, replies, answer_unless, answer_to, answer, replaced_sites, released_holds, term_in}
+use Rattle.fed_model.specs.Desk.{Case, is_taken, first_of}
+use Rattle.fed_model.specs.Origin.{jobs_of, reservations_of}
+use Rattle.fed_model.specs.Refusals.{is_bad_window, refusals, is_standing, is_last_term}
+use Rattle.fed_theory.proofs.GrantReads.{grants_below, no_grants, open_kept, open_granted, returned_made, granted_open, open_holder}
+use Rattle.fed_theory.proofs.NextStamps.{IsNext, next_is, before_next, fresh_next}
+
+-- a Grant is made by the job's origin, and a Finish by the site that began the job
+abbrev pub IsPlaced : History Body → StampValue → Body → Type 0
+IsPlaced ops t (Grant job site term) = t.site ≡ job.site
+IsPlaced ops t (Finish job ending) = (s : StampValue) × (a : Beginning) × Has ops (s, Begin job a) × (s.site ≡ t.site)
+IsPlaced ops t _ = Unit {0}
+
+-- what the limits ask: the site is not full, terms are at most 1,000,000,000, and windows are as they may be
+abbrev pub IsWithin : History Body → StampValue → Body → Type 0
+IsWithin ops t (Submit owner values held) = jobs_of (view ops) t.site < 10_000
+IsWithin ops t (Grant job site term) = term ≤ 1_000_000_000
+IsWithin ops t (Reserve window) = (is_bad_window window ≡ false) × (reservations_of (view ops) t.site < 1_000)
+IsWithin ops t _ = Unit {0}
+
+pub record IsAllowed (ops : History Body) (t : StampValue) (body : Body) : Type 0 where
+  pub grounded : IsGrounded ops t body
+  pub may : MayFollow ops t body
+  pub placed : IsPlaced ops t body
+  pub limited : IsWithin ops t body
+
+-- two sites that hold a job's grant are one
+pub same_holder : (ops : History Body) → IsLawful ops → (job : StampValue) (a b : ℕ) → IsHolder ops job a → IsHolder ops job b → a ≡ b
+same_holder ops l job a b h k =
+    let low : h.term ≤ k.term = k.greatest h.stamp a h.term h.granted in
+    let high : k.term ≤ h.term = h.greatest k.stamp b k.term k.granted in
+    let same : k.term ≡ h.term = omega arith in
+    let g : Has ops (k.stamp, Grant job b h.term) = subst (λ (n : ℕ). Has ops (k.stamp, Grant job b n)) same k.granted in
+    let e = l.distinct (h.stamp, Grant job a h.term) (k.stamp, Grant job b h.term) h.granted g (l.one_grant job h.stamp k.stamp a b h.term h.granted g) in
+    let p : ◌≡◌ {A = Body} (Grant job a h.term) (Grant job b h.term) = ap (λ (x : StampValue × Body). x.1) e in cc
+
+-- ---- tables of refusals
+-- none applies
+abbrev pub AreClear : List Case → Type 0
+AreClear [] = Unit {0}
+AreClear (c ∷ cases) = (c.0 ≡ false) × AreClear cases
+
+clear_rest : (b : Bool) (r : Refusal) (rest : Option Refusal) → (if b then Some r else rest) ≡ None → (b ≡ false) × (rest ≡ None)
+clear_rest true r rest e = cc
+clear_rest false r rest e = (refl, e)
+
+pub clear : (cases : List Case) → first_of cases ≡ None → AreClear cases
+clear [] e = tt
+clear (c ∷ cases) e = let p = clear_rest c.0 c.1 (first_of cases) e in (p.0, clear cases p.1)
+
+-- ---- what is read of one job
+module _ (ops : History Body) (l : IsLawful ops) (here : ℕ) (t : StampValue) (next : IsNext (version_of ops) here t) where
+  before : (s : StampValue) (body : Body) → Has ops (s, body) → is_before s t ≡ true
+  before s body h = before_next ops l.sites here t next (s, body) h
+
+  submitted : (job : StampValue) → not (is_submitted ((view ops).job job)) ≡ false → IsSubmitted ops t job
+  submitted job e =
+      let s = submit_of ops job (not-false _ e) in
+      (s.0, s.1, s.2, (s.3, before job (Submit s.0 s.1 s.2) s.3))
+
+  live_added : {E : Type 0} (adds : Body → E → Bool) (removes : Body → E → StampValue → Bool) (job : StampValue) (element : E) (tag : StampValue) → is_live adds removes (of_job job ops) element tag ≡ true
+      → (body : Body) × (Has ops (tag, body)) × (is_of_job job (tag, body) ≡ true) × (adds body element ≡ true)
+  live_added adds removes job element tag e =
+      let f = found (adds_pair adds removes element tag) (of_job job ops) (and_parts (list_any (adds_pair adds removes element tag) (of_job job ops)) _ e).0 in
+      let p = and_parts (same_stamp f.0.0 tag) (adds f.0.1 element) f.2 in
+      let h : Has (of_job job ops) (tag, f.0.1) = subst (λ (s : StampValue). Has (of_job job ops) (s, f.0.1)) (same_stamp_is f.0.0 tag p.0) f.1 in
+      let m = Has-filter (is_of_job job) ops (tag, f.0.1) h in
+      (f.0.1, m.0, m.1, p.1)
+
+  sites_added : (job : StampValue) (named : Option (List Bool)) → HasAdded adds_site ops t job (replaced_sites ((view ops).job job) named)
+  sites_added job None site tag e = cc
+  sites_added job (Some sites) site tag e =
+      let a = live_added adds_site removes_site job site tag e in (a.0, (a.1, before tag a.0 a.1), a.2, a.3)
+
+  holds_added : (job : StampValue) (kinds : HoldKinds) → HasAdded adds_hold ops t job (released_holds ((view ops).job job) kinds)
+  holds_added job kinds kind tag e =
+      let a = live_added adds_hold removes_hold job kind tag (and_parts _ (((view ops).job job).holds kind tag) e).1 in (a.0, (a.1, before tag a.0 a.1), a.2, a.3)
+
+  -- ---- progress
+  begin_body : (job : StampValue) (body : Body) (a : Beginning) (s : StampValue) → begin_in body ≡ Some a → is_of_job job (s, body) ≡ true → body ≡ Begin job a
+  begin_body job (Begin named b) a s e of =
+      let p : named ≡ job = same_stamp_is named job of in let q : b ≡ a = cc in (λ i. Begin (p i) (q i))
+  begin_body job _ a s e of = cc
+
+  begun : (job : StampValue) → is_none ((view ops).job job).begun ≡ false → (s : StampValue) × (a : Beginning) × Has ops (s, Begin job a)
+  begun job e =
+      let o = some_found (field begin_in (of_job job ops)) (not-false _ e) in
+      let f = field_found begin_in (of_job job ops) o.0 o.1 in
+      let m = Has-filter (is_of_job job) ops (o.0.0, f.0) f.1 in
+      (o.0.0, o.0.1, subst (λ (body : Body). Has ops (o.0.0, body)) (begin_body job f.0 o.0.1 o.0.0 f.2 m.1) m.0)
+
+  not_begun : (job : StampValue) → is_some ((view ops).job job).begun ≡ false → (s : StampValue) (a : Beginning) → Has ops (s, Begin job a) → ⊥
+  not_begun job e s a h =
+      let n = field_none begin_in (of_job job ops) (none_found _ e) s (Begin job a) (filter-Has (is_of_job job) ops (s, Begin job a) h (same_stamp_itself job)) in cc
+
+  gone_from_finished : (job : StampValue) → is_some ((view ops).job job).finished ≡ true → is_gone ((view ops).job job) ≡ true
+  gone_from_finished job e =
+      let j : JobView = (view ops).job job in or_left (is_some j.finished) (j.deleted && is_none j.begun) e
+
+  not_finished : (job : StampValue) → is_gone ((view ops).job job) ≡ false → (s : StampValue) (a : Ending) → Has ops (s, Finish job a) → ⊥
+  not_finished job e s a h = elim (cases_Bool (is_some ((view ops).job job).finished)) [
+    | inl there ↦ both_ways _ e (gone_from_finished job there)
+    | inr none ↦ (let n = field_none finish_in (of_job job ops) (none_found _ none) s (Finish job a) (filter-Has (is_of_job job) ops (s, Finish job a) h (same_stamp_itself job)) in cc)
+  ]
+
+  -- ---- reservations
+  window_body : (name : StampValue) (body : Body) (w : Window) (s : StampValue) → window_in body ≡ Some (Some w) → is_of_reservation name (s, body) ≡ true → ◌≡◌ {A = StampValue × Body} (s, body) (name, Reserve w)
+  window_body name (Reserve window) w s e of =
+      let p : s ≡ name = same_stamp_is s name of in let q : window ≡ w = cc in (λ i. (p i, Reserve (q i)))
+  window_body name _ w s e of = cc
+
+  standing : (name : StampValue) (o : ReservationView) → (view ops).reservation name ≡ o → is_standing o ≡ true → IsReserved ops t name
+  standing name None is e = cc
+  standing name (Some (s, None)) is e = cc
+  standing name (Some (s, Some w)) is e =
+      let f = field_found window_in (of_reservation name ops) (s, Some w) is in
+      let m = Has-filter (is_of_reservation name) ops (s, f.0) f.1 in
+      let h : Has ops (name, Reserve w) = subst (Has ops) (window_body name f.0 w s f.2 m.1) m.0 in
+      (w, (h, before name (Reserve w) h))
+
+  -- ---- grants
+  next_term : (job : StampValue) (term : ℕ) (s : StampValue) → Has ops (s, HandBack job term) → IsNextTerm ops t job (suc term)
+  next_term job zero s h = tt
+  next_term job (suc term) s h = (s, (h, before s (HandBack job (suc term)) h))
+
+  grant_follows : (job : StampValue) (asker : ℕ) (g : Option GrantStage) → ((view ops).job job).grant ≡ g → is_taken asker ((view ops).job job) ≡ false → is_granted_to ((view ops).job job) asker ≡ false → is_last_term g ≡ false
+      → (IsNextTerm ops t job (term_in g + 1)) × (MayFollow ops t (Grant job asker (term_in g + 1))) × (term_in g + 1 ≤ 1_000_000_000)
+  grant_follows job asker None is free not_mine last = (tt, λ s other h. no_grants ops job is s other 1 h, omega arith)
+  grant_follows job asker (Some (Open term s holder)) is free not_mine last =
+      let a = rw is at free in let b = rw is at not_mine in let c = rw b at a in cc
+  grant_follows job asker (Some (Returned term s)) is free not_mine last =
+      let below = leb-false 1_000_000_000 term last in (
+        subst (IsNextTerm ops t job) (sym (add-one term)) (next_term job term s (returned_made ops job term s is)),
+        λ u other h. let le : term + 1 ≤ term = grants_below ops job (Returned term s) is u other (term + 1) h in omega arith,
+        omega arith,
+      )
+
+  -- ---- what a command that is not refused adds
+  is_body : (body new : Body) → Some body ≡ Some new → IsAllowed ops t body → IsAllowed ops t new
+  is_body body new e h = let p : body ≡ new = cc in subst (λ b. IsAllowed ops t b) p h
+
+  body_if : (b : Bool) (body new : Body) → (if b then Some body else None) ≡ Some new → (b ≡ true → IsAllowed ops t body) → IsAllowed ops t new
+  body_if true body new e h = is_body body new e (h refl)
+  body_if false body new e h = cc
+
+  body_unless : (b : Bool) (body new : Body) → (if b then None else Some body) ≡ Some new → (b ≡ false → IsAllowed ops t body) → IsAllowed ops t new
+  body_unless true body new e h = cc
+  body_unless false body new e h = is_body body new e (h refl)
+
+  at_here : (job : StampValue) (site term : ℕ) → ((s : StampValue) × Has ops (s, Grant job here term)) → (s : StampValue) × Has ops (s, Grant job t.site term)
+  at_here job site term g = (g.0, subst (λ (n : ℕ). Has ops (g.0, Grant job n term)) (sym next.site) g.1)
+
+  handed_back : (job : StampValue) → is_granted_to ((view ops).job job) here ≡ true → IsSubmitted ops t job → is_some ((view ops).job job).begun ≡ false → IsAllowed ops t (HandBack job (term_in ((view ops).job job).grant))
+  handed_back job e sub idle =
+      let o = granted_open ops job here e in
+      let term : ℕ = o.0 in
+      let g = at_here job here term (o.1, open_granted ops job term o.1 here o.2) in
+      let same : term ≡ term_in ((view ops).job job).grant = sym (ap term_in o.2) in
+      subst (λ (n : ℕ). IsAllowed ops t (HandBack job n)) same (record {
+        grounded = (sub, (g.0, (g.1, before g.0 (Grant job t.site term) g.1)));
+        may = (λ s h. open_kept ops job term o.1 here o.2 s h, not_begun job idle);
+        placed = tt;
+        limited = tt;
+      })
+
+  holds : (job : StampValue) → is_granted_to ((view ops).job job) here ≡ true → IsHolder ops job t.site
+  holds job e = let o = granted_open ops job here e in subst (IsHolder ops job) (sym next.site) (open_holder ops job here o.0 o.1 o.2)
+
+  effect_allowed : (who : Who) (command : Command) (new : Body) → AreClear (refusals (view ops) here who command) → effect (view ops) who command ≡ Some new → IsAllowed ops t new
+  effect_allowed who (Command.Submit values held) new r e = is_body _ new e (record {
+    grounded = tt;
+    may = tt;
+    placed = tt;
+    limited = subst (λ (site : ℕ). jobs_of (view ops) site < 10_000) (sym next.site) (leb-false 10_000 (jobs_of (view ops) here) r.0);
+  })
+  effect_allowed who (Command.Alter job changes) new r e =
+      is_body _ new e (record { grounded = (submitted job r.0, sites_added job changes.sites); may = tt; placed = tt; limited = tt })
+  effect_allowed who (Command.Hold job kinds) new r e =
+      is_body _ new e (record { grounded = submitted job r.0; may = tt; placed = tt; limited = tt })
+  effect_allowed who (Command.Release job kinds) new r e =
+      body_if _ _ new e (λ _. record { grounded = (submitted job r.0, holds_added job kinds); may = tt; placed = tt; limited = tt })
+  effect_allowed who (Command.Delete job) new r e =
+      is_body _ new e (record { grounded = submitted job r.0; may = tt; placed = tt; limited = tt })
+  effect_allowed who (Command.Grant job asker) new r e =
+      body_unless (is_granted_to ((view ops).job job) asker) _ new e (λ f.
+      let g = grant_follows job asker ((view ops).job job).grant refl r.1.1.1.1.1.0 f r.1.1.1.1.1.1.0 in
+      record {
+        grounded = (submitted job r.0, g.0);
+        may = g.1;
+        placed = next.site ∙ sym (eqb-true job.site here (not-false _ r.1.1.0));
+        limited = g.2;
+      })
+  effect_allowed who (Command.HandBack job) new r e =
+      is_body _ new e (handed_back job (not-false _ r.1.1.0) (submitted job r.0) r.1.1.1.0)
+  effect_allowed who (Command.Begin job moment) new r e =
+      is_body _ new e (record {
+        grounded = submitted job r.0;
+        may = (not_begun job r.1.1.1.1.0, holds job (not-false _ r.1.1.1.0));
+        placed = tt;
+        limited = tt;
+      })
+  effect_allowed who (Command.Finish job moment status) new r e =
+      let b = begun job r.1.1.1.0 in
+      is_body _ new e (record {
+        grounded = (submitted job r.0, b);
+        may = not_finished job r.1.0;
+        placed = (b.0, b.1, b.2, same_holder ops l job b.0.site t.site (l.begun_held job b.0 b.1 b.2) (holds job (not-false _ r.1.1.0)));
+        limited = tt;
+      })
+  effect_allowed who (Command.Reserve window) new r e = is_body _ new e (record {
+    grounded = tt;
+    may = tt;
+    placed = tt;
+    limited = (r.1.0, subst (λ (site : ℕ). reservations_of (view ops) site < 1_000) (sym next.site) (leb-false 1_000 (reservations_of (view ops) here) r.1.1.0));
+  })
+  effect_allowed who (Command.Cancel name) new r e =
+      is_body _ new e (record { grounded = standing name ((view ops).reservation name) refl (not-false _ r.1.0); may = tt; placed = tt; limited = tt })
+
+-- an answer adds at most one operation, which its site may add, under the next stamp
+pub answer_allowed : (ops : History Body) → IsLawful ops → (here : ℕ) (who : Who) (command : Command) (said : Reply) (new : StampValue × Body) → answer ops here who command ≡ Replies said (Some new) → (IsNext (version_of ops) here new.0) × IsAllowed ops new.0 new.1
+unfolding answer_to
+answer_allowed ops l here who command said new e =
+    go (first_of (refusals (view ops) here who command)) refl (next_stamp (version_of ops) here) refl (effect (view ops) who command) refl e
+  where
+    go : (r : Option Refusal) → first_of (refusals (view ops) here who command) ≡ r → (n : Result StampValue ClockFull) → next_stamp (version_of ops) here ≡ n → (b : Option Body) → effect (view ops) who command ≡ b
+        → answer_unless r (replies n command b) ≡ Replies said (Some new) → (IsNext (version_of ops) here new.0) × IsAllowed ops new.0 new.1
+    go (Some r) is n at b it f = cc
+    go None is n at None it f = cc
+    go None is (Err full) at (Some b) it f = cc
+    go None is (Ok t) at (Some b) it f =
+        let p : ◌≡◌ {A = StampValue × Body} (t, b) new = cc in
+        let next = next_is (version_of ops) here t at in
+        subst (λ (x : StampValue × Body). (IsNext (version_of ops) here x.0) × IsAllowed ops x.0 x.1) p
+        (next, effect_allowed ops l here t next who command b (clear _ is) it)
+
+-- so a lawful set stays lawful
+pub answer_lawful : (ops : History Body) → IsLawful ops → (here : ℕ) → here < 16 → (who : Who) (command : Command) (said : Reply) (new : StampValue × Body) → answer ops here who command ≡ Replies said (Some new) → IsLawful (ops ++ new ∷ [])
+answer_lawful ops l here small who command said new e =
+    let a = answer_allowed ops l here who command said new e in
+    let at = a.0.site in
+    lawful_push ops new l (fresh_next ops l.sites here new.0 a.0)
+    (grounded_more ops (ops ++ new ∷ []) (Has-left ops (new ∷ [])) new.0 new.1 a.1.grounded) a.1.may (omega arith)

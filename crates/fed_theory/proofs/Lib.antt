@@ -1,0 +1,41 @@
+-- The operations of one job, for callers too.
+pub mod PairLaws
+pub mod FieldLaws
+pub mod FoundLaws
+pub mod PresenceLaws
+pub mod JobLaws
+-- Sets of operations.
+pub mod VersionGrowth
+pub mod CoveredStamps
+pub mod LawfulLaws
+pub mod ViewLaws
+pub mod KnownLaws
+pub mod SubmitLaws
+pub mod GrowthLaws
+-- Answers.
+pub mod GrantReads
+pub mod NextStamps
+pub mod Allowed
+pub mod OriginCounts
+pub mod Room
+pub mod Ranged
+pub mod LeastRefusals
+pub mod FullScenes
+-- Whole runs.
+pub mod Scenes
+pub mod CommandScenes
+pub mod GrantScenes
+pub mod PacketScenes
+pub mod Cuts
+pub mod Growth
+pub mod Runs
+pub mod RunSteps
+pub mod Posts
+pub mod HeardLaws
+pub mod Promises
+pub mod Begins
+pub mod RangedRuns
+pub mod PacketLimits
+pub mod EqualVersions
+pub mod Convergence
+pub mod DoneCommands

@@ -1,0 +1,396 @@
+-- What every run keeps.
+use Rattle.std.specs.Prelude.{if◌then◌else◌, nat_lt, Option, Some, None, slice_get, is_some, count_by}
+use Rattle.std.specs.List.{range_with_len}
+use Rattle.std.proofs.Common.{◌≡◌, ℕ, zero, suc, ◌≤◌, ◌<◌, ◌==◌, List, [], ◌∷◌, ◌++◌, Bool, true, false, ◌&&◌, refl, sym, ap, subst, ◌∙◌, inl, inr, arith}
+use Rattle.std.proofs.lemmas.Bool.{cases_Bool, cond-true, eq-eqb, eqb-true, ltb-true}
+use Rattle.std.proofs.Math.Nat.{le_trans}
+use Rattle.fed_stamp.specs.Indexes.{put}
+use Rattle.fed_stamp.specs.Stamp.{StampValue}
+use Rattle.fed_stamp.specs.Version.{is_below, joined}
+use Rattle.fed_stamp.proofs.VersionLaws.{below_itself, below_trans, joined_least}
+use Rattle.fed_lattice.specs.Sets.{Has, Includes}
+use Rattle.fed_lattice.specs.SetLaws.{Has-left, Has-right, Has-last, Has-push}
+use Rattle.fed_lattice.specs.History.{History}
+use Rattle.fed_lattice.specs.VersionOf.{version_of}
+use Rattle.fed_lattice.proofs.VersionOfLaws.{version_of-origin}
+use Rattle.fed_model.specs.declared.askers.Who.{Who}
+use Rattle.fed_model.specs.declared.commands.Command.{Command}
+use Rattle.fed_model.specs.Body.{Body}
+use Rattle.fed_model.specs.Letter.{is_submitted}
+use Rattle.fed_model.specs.View.{view}
+use Rattle.fed_model.specs.Lawful.{IsLawful}
+use Rattle.fed_theory.proofs.GrowthLaws.{lawful_push}
+use Rattle.fed_theory.proofs.LawfulLaws.{grounded_more}
+use Rattle.fed_theory.proofs.VersionGrowth.{zeros_below}
+use Rattle.fed_model.specs.Answer.{Answer, Answer.Refuses, Answer.Replies, answer}
+use Rattle.fed_model.specs.Packet.{Site, Packet, shipped, missing, taken, takes_unless}
+use Rattle.fed_model.specs.Origin.{jobs_of, reservations_of}
+use Rattle.fed_theory.proofs.Allowed.{IsPlaced, IsAllowed, answer_allowed}
+use Rattle.fed_theory.proofs.NextStamps.{IsNext, fresh_next}
+use Rattle.fed_theory.proofs.OriginCounts.{jobs_fewer, reservations_fewer}
+use Rattle.fed_theory.proofs.Room.{jobs_room, reservations_room}
+use Rattle.fed_model.specs.declared.events.Event.{Event}
+use Rattle.fed_model.specs.declared.events.Event.TheVariants.{Do, Ship, Take}
+use Rattle.fed_model.specs.declared.outcomes.Outcome.{Outcome}
+use Rattle.fed_model.specs.Exchange.{IsQuiet}
+use Rattle.fed_model.specs.Run.{World, start, with_site, with_operation, packet, Step, stays, does, ships, receives, takes, step, run_from, run, outcomes_from, outcomes}
+use Rattle.fed_theory.proofs.Cuts.{AreCounted, IsCut, placed_more, version_more, cut_nothing, cut_union, cut_lawful}
+use Rattle.fed_theory.proofs.Growth.{HasOwn, lawful_more, cut_kept, cut_more}
+
+-- ---- a table of sites with one entry changed
+pub put_cases : {T : Type 0} (P : ℕ → T → Type 0) (f : ℕ → T) (i : ℕ) (t : T) → P i t → ((j : ℕ) → P j (f j)) → (j : ℕ) → P j (put f i t j)
+put_cases {T} P f i t h k j = elim (cases_Bool (j == i)) [
+  | inl e ↦ subst (λ b. P j (if b then t else f j)) (sym e) (subst (λ n. P n t) (sym (eqb-true j i e)) h)
+  | inr e ↦ subst (λ b. P j (if b then t else f j)) (sym e) (k j)
+]
+
+pub put_same : {T : Type 0} (f : ℕ → T) (i : ℕ) (t : T) → put f i t i ≡ t
+put_same f i t = cond-true (i == i) t (f i) (eq-eqb i i refl)
+
+-- ---- the sets of a world grow
+abbrev pub Grows : World → World → Type 0
+Grows w v = (i : ℕ) → Includes (v.site i).set (w.site i).set
+
+grows_itself : (w : World) → Grows w w
+grows_itself w i e h = h
+
+-- where one site has a set that grows
+site_grows : (w : World) (i : ℕ) (s : Site) → Includes s.set (w.site i).set → Grows w (with_site w i s)
+site_grows w i s more = put_cases (λ j t. Includes t.set (w.site j).set) w.site i s more (λ j e h. h)
+
+-- ---- what every run keeps
+-- a packet that was made: a cut of the history, which its sender has
+pub record IsSent (history : History Body) (w : World) (p : Packet) : Type 0 where
+  pub cut : IsCut history p.gives
+  pub reached : is_below p.reached (version_of (w.site p.sender).set) ≡ true
+  pub exact : p.reached ≡ version_of p.gives
+  pub need : is_below p.need p.reached ≡ true
+
+pub record IsGood (history : History Body) (w : World) : Type 0 where
+  pub lawful : IsLawful history
+  pub counted : AreCounted history
+  pub cuts : (i : ℕ) → IsCut history (w.site i).set
+  pub own : (i : ℕ) → HasOwn history (w.site i).set i
+  pub heard : (i from : ℕ) → is_below ((w.site i).heard from) (version_of (w.site from).set) ≡ true
+  pub known : (i from : ℕ) → is_below ((w.site i).heard from) (version_of (w.site i).set) ≡ true
+  pub jobs : (i : ℕ) → jobs_of (view (w.site i).set) i ≤ 10_000
+  pub reservations : (i : ℕ) → reservations_of (view (w.site i).set) i ≤ 1_000
+  pub sent : (p : Packet) → Has w.packets p → IsSent history w p
+
+-- at some history
+abbrev pub Good : World → Type 0
+Good w = (history : History Body) × IsGood history w
+
+nothing_lawful : IsLawful []
+nothing_lawful = record {
+  sites = λ e h. absurd h;
+  distinct = λ e f h k. absurd h;
+  grounded = λ e h. absurd h;
+  one_begin = λ job s t a b h k. absurd h;
+  one_finish = λ job s t a b h k. absurd h;
+  one_grant = λ job s t a b term h k. absurd h;
+  one_return = λ job s t term h k. absurd h;
+  begun_held = λ job s a h. absurd h;
+}
+
+no_jobs : (i : ℕ) → jobs_of (view []) i ≤ 10_000
+no_jobs i =
+    let none : History Body = [] in
+    elim (version_of-origin none i) [
+      | inl z ↦ subst (λ n. count_by (λ counter. is_submitted ((view none).job (record { counter = counter; site = i }))) (range_with_len 0 (suc n)) ≤ 10_000) (sym z) (omega arith)
+      | inr o ↦ absurd o.1
+    ]
+
+no_reservations : (i : ℕ) → reservations_of (view []) i ≤ 1_000
+no_reservations i =
+    let none : History Body = [] in
+    elim (version_of-origin none i) [
+      | inl z ↦ subst (λ n. count_by (λ counter. is_some ((view none).reservation (record { counter = counter; site = i }))) (range_with_len 0 (suc n)) ≤ 1_000) (sym z) (omega arith)
+      | inr o ↦ absurd o.1
+    ]
+
+pub start_good : Good start
+start_good = (
+  [],
+  record {
+    lawful = nothing_lawful;
+    counted = λ e h. absurd h;
+    cuts = λ i. cut_nothing [] (λ e h. absurd h);
+    own = λ i e h. absurd h;
+    heard = λ i from. zeros_below 16 _;
+    known = λ i from. zeros_below 16 _;
+    jobs = no_jobs;
+    reservations = no_reservations;
+    sent = λ p h. absurd h;
+  },
+)
+
+module _ (history : History Body) (w v : World) (good : IsGood history w) (more : Grows w v) where
+  version_grows : (i : ℕ) → is_below (version_of (w.site i).set) (version_of (v.site i).set) ≡ true
+  version_grows i = version_more (w.site i).set (v.site i).set (more i) (cut_lawful history (w.site i).set good.lawful (good.cuts i)).sites
+
+  still_below : (u : List ℕ) (i : ℕ) → is_below u (version_of (w.site i).set) ≡ true → is_below u (version_of (v.site i).set) ≡ true
+  still_below u i h = below_trans u (version_of (w.site i).set) (version_of (v.site i).set) h (version_grows i)
+
+-- what a site has placed is placed in the history
+pub placed_all : (history : History Body) (w : World) → IsGood history w → (e : StampValue × Body) → Has history e → IsPlaced history e.0 e.1
+placed_all history w good e h =
+    let c = good.cuts e.0.site in
+    placed_more (w.site e.0.site).set history c.within e.0 e.1 (c.placed e (good.own e.0.site e h refl))
+
+-- ---- an operation is added
+module _ (w : World) (here : ℕ) (small : here < 16) (history : History Body) (good : IsGood history w) (new : StampValue × Body)
+    (next : IsNext (version_of (w.site here).set) here new.0) (allowed : IsAllowed (w.site here).set new.0 new.1) where
+  ops : History Body
+  ops = (w.site here).set
+
+  after : World
+  after = with_site w here (with_operation (w.site here) new)
+
+  placed : (e : StampValue × Body) → Has history e → IsPlaced history e.0 e.1
+  placed = placed_all history w good
+
+  added_grows : Grows w after
+  unfolding after
+  added_grows = site_grows w here (with_operation (w.site here) new) (Has-left (w.site here).set (new ∷ []))
+
+  kept : (others : History Body) → IsCut history others → IsCut (history ++ new ∷ []) others
+  kept = cut_kept history (w.site here).set here new good.lawful good.counted placed (good.cuts here) (good.own here) next allowed
+
+  own_more : (i : ℕ) → HasOwn (history ++ new ∷ []) (after.site i).set i
+  unfolding after
+  own_more i e h at = elim (Has-push history new e h) [
+    | inl k ↦ added_grows i e (good.own i e k at)
+    | inr q ↦ (
+        let is : i ≡ here = sym at ∙ ap (λ (x : StampValue × Body). x.0.site) (sym q) ∙ next.site in
+        let mine : Has (put w.site here (with_operation (w.site here) new) here).set new =
+        subst (λ (s : Site). Has s.set new) (sym (put_same w.site here (with_operation (w.site here) new))) (Has-last (w.site here).set new) in
+        subst (Has (put w.site here (with_operation (w.site here) new) i).set) q (subst (λ (j : ℕ). Has (put w.site here (with_operation (w.site here) new) j).set new) (sym is) mine))
+  ]
+
+  old_lawful : IsLawful (w.site here).set
+  old_lawful = cut_lawful history (w.site here).set good.lawful (good.cuts here)
+
+  new_lawful : IsLawful ((w.site here).set ++ new ∷ [])
+  new_lawful = lawful_push (w.site here).set new old_lawful (fresh_next (w.site here).set old_lawful.sites here new.0 next)
+      (grounded_more (w.site here).set ((w.site here).set ++ new ∷ []) (Has-left (w.site here).set (new ∷ [])) new.0 new.1 allowed.grounded) allowed.may (let at = next.site in omega arith)
+
+  pub added_good : IsGood (history ++ new ∷ []) (with_site w here (with_operation (w.site here) new))
+  unfolding after
+  added_good = record {
+    lawful = lawful_more history (w.site here).set here new good.lawful good.counted placed (good.cuts here) (good.own here) next allowed small;
+    counted = λ e h. elim (Has-push history new e h) [
+      | inl k ↦ good.counted e k
+      | inr q ↦ subst (λ (x : StampValue × Body). (0 < x.0.counter) × (x.0.counter ≤ 1_000_000_000)) q (let c = next.counter in (omega arith, next.counted))
+    ];
+    cuts = put_cases (λ j s. IsCut (history ++ new ∷ []) s.set) w.site here (with_operation (w.site here) new)
+        (cut_more history (w.site here).set here new good.lawful good.counted placed (good.cuts here) (good.own here) next allowed)
+        (λ j. kept (w.site j).set (good.cuts j));
+    own = own_more;
+    known = put_cases (λ j (s : Site). (from : ℕ) → is_below (s.heard from) (version_of s.set) ≡ true) w.site here (with_operation (w.site here) new)
+        (λ from. below_trans ((w.site here).heard from) (version_of (w.site here).set) (version_of ((w.site here).set ++ new ∷ [])) (good.known here from)
+        (version_more (w.site here).set ((w.site here).set ++ new ∷ []) (Has-left (w.site here).set (new ∷ [])) old_lawful.sites))
+        good.known;
+    jobs = put_cases (λ j (s : Site). jobs_of (view s.set) j ≤ 10_000) w.site here (with_operation (w.site here) new)
+        (subst (λ (i : ℕ). jobs_of (view ((w.site here).set ++ new ∷ [])) i ≤ 10_000) next.site
+        (jobs_room (w.site here).set new old_lawful new_lawful allowed.limited (subst (λ (i : ℕ). jobs_of (view (w.site here).set) i ≤ 10_000) (sym next.site) (good.jobs here))))
+        good.jobs;
+    reservations = put_cases (λ j (s : Site). reservations_of (view s.set) j ≤ 1_000) w.site here (with_operation (w.site here) new)
+        (subst (λ (i : ℕ). reservations_of (view ((w.site here).set ++ new ∷ [])) i ≤ 1_000) next.site
+        (reservations_room (w.site here).set new old_lawful new_lawful allowed.limited (subst (λ (i : ℕ). reservations_of (view (w.site here).set) i ≤ 1_000) (sym next.site) (good.reservations here))))
+        good.reservations;
+    heard = put_cases (λ j (s : Site). (from : ℕ) → is_below (s.heard from) (version_of (after.site from).set) ≡ true) w.site here (with_operation (w.site here) new)
+        (λ from. still_below history w after good added_grows ((w.site here).heard from) from (good.heard here from))
+        (λ j from. still_below history w after good added_grows ((w.site j).heard from) from (good.heard j from));
+    sent = λ p h. let s = good.sent p h in record {
+      cut = kept p.gives s.cut;
+      reached = still_below history w after good added_grows p.reached p.sender s.reached;
+      exact = s.exact;
+      need = s.need;
+    };
+  }
+
+does_good : (w : World) (here : ℕ) (who : Who) (command : Command) (said : Answer) → here < 16 → answer (w.site here).set here who command ≡ said → Good w → Good (does w here said).after
+does_good w here who command (Refuses refusal) small is g = g
+does_good w here who command (Replies reply None) small is g = g
+does_good w here who command (Replies reply (Some new)) small is g =
+    let a = answer_allowed (w.site here).set (cut_lawful g.0 (w.site here).set g.1.lawful (g.1.cuts here)) here who command reply new is in
+    (g.0 ++ new ∷ [], added_good w here small g.0 g.1 new a.0 a.1)
+
+-- ---- a packet is made
+shipped_good : (history : History Body) (w : World) (here to : ℕ) → IsGood history w → IsGood history (ships w here to).after
+shipped_good history w here to good = record {
+  lawful = good.lawful;
+  counted = good.counted;
+  cuts = good.cuts;
+  own = good.own;
+  heard = good.heard;
+  known = good.known;
+  jobs = good.jobs;
+  reservations = good.reservations;
+  sent = λ p h. elim (Has-push w.packets (shipped here (w.site here) to) p h) [
+    | inl k ↦ (let s = good.sent p k in record { cut = s.cut; reached = s.reached; exact = s.exact; need = s.need })
+    | inr e ↦ subst (λ q. IsSent history (ships w here to).after q) e
+        (record { cut = good.cuts here; reached = below_itself (version_of (w.site here).set); exact = refl; need = good.known here to })
+  ];
+}
+
+-- ---- a packet is taken
+pub packet_Has : (w : World) (k : ℕ) (p : Packet) → packet w k ≡ Some p → Has w.packets p
+packet_Has w zero p e = cc
+packet_Has w (suc k) p e = go w.packets k e
+  where
+    go : (xs : List Packet) (i : ℕ) → slice_get xs i ≡ Some p → Has xs p
+    go [] i e = cc
+    go (x ∷ xs) zero e = inl cc
+    go (x ∷ xs) (suc i) e = inr (go xs i e)
+
+module _ (w : World) (here : ℕ) (p : Packet) (history : History Body) (good : IsGood history w) (s : IsSent history w p) where
+  later : World
+  later = with_site w here (taken (w.site here) p)
+
+  taken_grows : Grows w later
+  unfolding later
+  taken_grows = site_grows w here (taken (w.site here) p) (Has-left (w.site here).set p.gives)
+
+  both : History Body
+  both = (w.site here).set ++ p.gives
+
+  both_cut : IsCut history both
+  unfolding both
+  both_cut = cut_union history (w.site here).set p.gives (good.cuts here) s.cut
+
+  both_lawful : IsLawful both
+  both_lawful = cut_lawful history both good.lawful both_cut
+
+  mine_lawful : IsLawful (w.site here).set
+  mine_lawful = cut_lawful history (w.site here).set good.lawful (good.cuts here)
+
+  -- of what was made here nothing comes back
+  had : (e : StampValue × Body) → Has both e → e.0.site ≡ here → Has (w.site here).set e
+  had e h at = good.own here e (both_cut.within e h) at
+
+  mine_below : (from : ℕ) → is_below ((w.site here).heard from) (version_of both) ≡ true
+  unfolding both
+  mine_below from = below_trans ((w.site here).heard from) (version_of (w.site here).set) (version_of ((w.site here).set ++ p.gives)) (good.known here from)
+      (version_more (w.site here).set ((w.site here).set ++ p.gives) (Has-left (w.site here).set p.gives) mine_lawful.sites)
+
+  pub taken_good : IsGood history (with_site w here (taken (w.site here) p))
+  unfolding later both
+  taken_good = record {
+    lawful = good.lawful;
+    counted = good.counted;
+    cuts = put_cases (λ j (t : Site). IsCut history t.set) w.site here (taken (w.site here) p) (cut_union history (w.site here).set p.gives (good.cuts here) s.cut) good.cuts;
+    own = λ i e h at. taken_grows i e (good.own i e h at);
+    known = put_cases (λ j (t : Site). (from : ℕ) → is_below (t.heard from) (version_of t.set) ≡ true) w.site here (taken (w.site here) p)
+        (put_cases (λ from v. is_below v (version_of both) ≡ true) (w.site here).heard p.sender (joined ((w.site here).heard p.sender) p.reached)
+        (joined_least ((w.site here).heard p.sender) p.reached (version_of both) (mine_below p.sender)
+        (subst (λ v. is_below v (version_of both) ≡ true) (sym s.exact) (version_more p.gives both (Has-right (w.site here).set p.gives) (cut_lawful history p.gives good.lawful s.cut).sites)))
+        mine_below)
+        good.known;
+    jobs = put_cases (λ j (t : Site). jobs_of (view t.set) j ≤ 10_000) w.site here (taken (w.site here) p)
+        (let few = jobs_fewer both (w.site here).set both_lawful mine_lawful here had in let old = good.jobs here in omega arith) good.jobs;
+    reservations = put_cases (λ j (t : Site). reservations_of (view t.set) j ≤ 1_000) w.site here (taken (w.site here) p)
+        (let few = reservations_fewer both (w.site here).set both_lawful mine_lawful here had in let old = good.reservations here in omega arith) good.reservations;
+    heard = put_cases (λ j (t : Site). (from : ℕ) → is_below (t.heard from) (version_of (later.site from).set) ≡ true) w.site here (taken (w.site here) p)
+        (put_cases (λ from v. is_below v (version_of (later.site from).set) ≡ true) (w.site here).heard p.sender (joined ((w.site here).heard p.sender) p.reached)
+        (joined_least ((w.site here).heard p.sender) p.reached (version_of (later.site p.sender).set)
+        (still_below history w later good taken_grows ((w.site here).heard p.sender) p.sender (good.heard here p.sender))
+        (still_below history w later good taken_grows p.reached p.sender s.reached))
+        (λ from. still_below history w later good taken_grows ((w.site here).heard from) from (good.heard here from)))
+        (λ j from. still_below history w later good taken_grows ((w.site j).heard from) from (good.heard j from));
+    sent = λ q h. let t = good.sent q h in record {
+      cut = t.cut;
+      reached = still_below history w later good taken_grows q.reached q.sender t.reached;
+      exact = t.exact;
+      need = t.need;
+    };
+  }
+
+received_good : (history : History Body) (w : World) (here : ℕ) (p : Packet) (lacks : Option ℕ) → Has w.packets p → IsGood history w → IsGood history (receives w here (takes_unless lacks (w.site here) p)).after
+received_good history w here p (Some from) h good = good
+received_good history w here p None h good = taken_good w here p history good (good.sent p h)
+
+took_good : (history : History Body) (w : World) (here k : ℕ) → IsGood history w → IsGood history (takes w here (packet w k)).after
+took_good history w here k good = go (packet w k) refl
+  where
+    go : (o : Option Packet) → packet w k ≡ o → IsGood history (takes w here o).after
+    go None is = good
+    go (Some p) is = received_good history w here p (missing p.need (version_of (w.site here).set)) (packet_Has w k p is) good
+
+-- ---- one event
+-- what holds of both outcomes of a test
+pub either : (P : World → Type 0) (b : Bool) (x y : Step) → P x.after → P y.after → P (if b then x else y).after
+either P true x y p q = p
+either P false x y p q = q
+
+pub either_if : (P : World → Type 0) (b : Bool) (x y : Step) → (b ≡ true → P x.after) → P y.after → P (if b then x else y).after
+either_if P true x y p q = p refl
+either_if P false x y p q = q
+
+pub step_good : (n : ℕ) (w : World) (event : Event) → n ≤ 16 → Good w → Good (step n w event).after
+step_good n w (Do site who command) few g =
+    either_if Good (nat_lt site n) (does w site (answer (w.site site).set site who command)) (stays w Outcome.NoSite)
+    (λ e. does_good w site who command (answer (w.site site).set site who command) (le_trans (ltb-true site n e) few) refl g) g
+step_good n w (Ship site to) few g =
+    either Good (nat_lt site n && nat_lt to n) (ships w site to) (stays w Outcome.NoSite) (g.0, shipped_good g.0 w site to g.1) g
+step_good n w (Take site k) few g =
+    either Good (nat_lt site n) (takes w site (packet w k)) (stays w Outcome.NoSite) (g.0, took_good g.0 w site k g.1) g
+
+run_from_good : (n : ℕ) (w : World) (events : List Event) → n ≤ 16 → Good w → Good (run_from n w events)
+run_from_good n w [] few g = g
+run_from_good n w (event ∷ events) few g = run_from_good n (step n w event).after events few (step_good n w event few g)
+
+-- where no command is done, the history stays as it is
+pub quiet_good : (history : History Body) (n : ℕ) (w : World) (event : Event) → IsQuiet event → IsGood history w → IsGood history (step n w event).after
+quiet_good history n w (Do site who command) quiet good = absurd quiet
+quiet_good history n w (Ship site to) quiet good =
+    either (IsGood history) (nat_lt site n && nat_lt to n) (ships w site to) (stays w Outcome.NoSite) (shipped_good history w site to good) good
+quiet_good history n w (Take site k) quiet good =
+    either (IsGood history) (nat_lt site n) (takes w site (packet w k)) (stays w Outcome.NoSite) (took_good history w site k good) good
+
+pub run_good : (n : ℕ) (events : List Event) → n ≤ 16 → Good (run n events)
+run_good n events few = run_from_good n start events few start_good
+
+-- ---- sets only grow
+does_grows : (w : World) (here : ℕ) (said : Answer) → Grows w (does w here said).after
+does_grows w here (Refuses refusal) = grows_itself w
+does_grows w here (Replies reply None) = grows_itself w
+does_grows w here (Replies reply (Some new)) = site_grows w here (with_operation (w.site here) new) (Has-left (w.site here).set (new ∷ []))
+
+receives_grows : (w : World) (here : ℕ) (p : Packet) (lacks : Option ℕ) → Grows w (receives w here (takes_unless lacks (w.site here) p)).after
+receives_grows w here p (Some from) = grows_itself w
+receives_grows w here p None = site_grows w here (taken (w.site here) p) (Has-left (w.site here).set p.gives)
+
+takes_grows : (w : World) (here : ℕ) (o : Option Packet) → Grows w (takes w here o).after
+takes_grows w here None = grows_itself w
+takes_grows w here (Some p) = receives_grows w here p (missing p.need (version_of (w.site here).set))
+
+step_grows : (n : ℕ) (w : World) (event : Event) → Grows w (step n w event).after
+step_grows n w (Do site who command) =
+    either (Grows w) (nat_lt site n) _ (stays w Outcome.NoSite) (does_grows w site (answer (w.site site).set site who command)) (grows_itself w)
+step_grows n w (Ship site to) = either (Grows w) (nat_lt site n && nat_lt to n) (ships w site to) (stays w Outcome.NoSite) (grows_itself w) (grows_itself w)
+step_grows n w (Take site k) =
+    either (Grows w) (nat_lt site n) (takes w site (packet w k)) (stays w Outcome.NoSite) (takes_grows w site (packet w k)) (grows_itself w)
+
+pub run_from_grows : (n : ℕ) (w : World) (events : List Event) → Grows w (run_from n w events)
+run_from_grows n w [] i e h = h
+run_from_grows n w (event ∷ events) i e h = run_from_grows n (step n w event).after events i e (step_grows n w event i e h)
+
+pub run-append : (n : ℕ) (w : World) (early late : List Event) → run_from n w (early ++ late) ≡ run_from n (run_from n w early) late
+run-append n w [] late = refl
+run-append n w (event ∷ early) late = run-append n (step n w event).after early late
+
+pub run_grows : (n : ℕ) (early late : List Event) (i : ℕ) → Includes ((run n (early ++ late)).site i).set ((run n early).site i).set
+run_grows n early late i = subst (λ v. Includes (v.site i).set ((run n early).site i).set) (sym (run-append n start early late)) (run_from_grows n (run n early) late i)
+
+outcomes_from-append : (n : ℕ) (w : World) (early late : List Event) → outcomes_from n w (early ++ late) ≡ outcomes_from n w early ++ outcomes_from n (run_from n w early) late
+outcomes_from-append n w [] late = refl
+outcomes_from-append n w (event ∷ early) late = ap (λ l. (step n w event).outcome ∷ l) (outcomes_from-append n (step n w event).after early late)
+
+-- one event more
+pub run-push : (n : ℕ) (events : List Event) (event : Event) → run n (events ++ event ∷ []) ≡ (step n (run n events) event).after
+run-push n events event = run-append n start events (event ∷ [])
+
+pub outcomes-push : (n : ℕ) (events : List Event) (event : Event) → outcomes n (events ++ event ∷ []) ≡ outcomes n events ++ (step n (run n events) event).outcome ∷ []
+outcomes-push n events event = outcomes_from-append n start events (event ∷ [])

@@ -1,0 +1,108 @@
+-- What is read of a set: of the union of kin sets, of one operation more, and of sets with the same members.
+use Rattle.std.proofs.Common.{◌≡◌, [], ◌∷◌, ◌++◌, Bool, true, false, refl, sym, ap, subst, ◌∙◌, inl, inr}
+use Rattle.std.specs.Prelude.{if◌then◌else◌, filter}
+use Rattle.std.proofs.lemmas.Bool.{both_ways}
+use Rattle.std.proofs.lemmas.List.Elements.{filter-append}
+use Rattle.std.proofs.Common.{append-nil}
+use Rattle.fed_stamp.specs.Stamp.{StampValue}
+use Rattle.fed_stamp.specs.Version.{covers}
+use Rattle.fed_lattice.specs.Sets.{IsSameSet}
+use Rattle.fed_lattice.specs.SetLaws.{Has-push}
+use Rattle.fed_lattice.specs.History.{History, IsFresh, OneEach}
+use Rattle.fed_lattice.specs.Stamped.{with_stamp}
+use Rattle.fed_lattice.proofs.FilterLaws.{Has-filter, same_filter, one_each_filter, agree_filter}
+use Rattle.fed_lattice.specs.VersionOf.{version_of}
+use Rattle.fed_lattice.proofs.VersionOfLaws.{version_of-append, version_of-push, version_of-same, version_of-covers}
+use Rattle.fed_model.specs.Body.{Body, is_of_job, is_of_reservation, of_job, of_reservation}
+use Rattle.fed_model.specs.Field.{window_in}
+use Rattle.fed_model.specs.JobView.{job_view}
+use Rattle.fed_lattice.specs.Register.{joined_registers}
+use Rattle.fed_theory.specs.ValueOrders.{option_window_cmp}
+use Rattle.fed_theory.specs.ValueOrderLaws.{option_window_total}
+use Rattle.fed_theory.specs.JobSteps.{add_to_job, join_jobs}
+use Rattle.fed_model.specs.Reservation.{reservation_view}
+use Rattle.fed_theory.proofs.FieldLaws.{field_union, field_push, field_same}
+use Rattle.fed_theory.proofs.JobLaws.{job_union, job_push, job_same}
+use Rattle.fed_model.specs.View.{view}
+use Rattle.fed_theory.specs.ViewSteps.{add_to_view, join_views}
+use Rattle.fed_model.specs.Lawful.{IsLawful, AreKin}
+use Rattle.fed_theory.proofs.LawfulLaws.{kin_agree, job_history}
+
+pub view_same : (ops others : History Body) → OneEach ops → IsSameSet ops others → view ops ≡ view others
+view_same ops others one same =
+    let version = version_of-same ops others same in
+    let job : (job : StampValue) → job_view (of_job job ops) ≡ job_view (of_job job others) =
+    λ job. job_same (of_job job ops) (of_job job others) (same_filter (is_of_job job) ops others same) (one_each_filter (is_of_job job) ops one) in
+    let reservation : (name : StampValue) → reservation_view (of_reservation name ops) ≡ reservation_view (of_reservation name others) =
+    λ name. field_same window_in (of_reservation name ops) (of_reservation name others) (same_filter (is_of_reservation name) ops others same) (one_each_filter (is_of_reservation name) ops one) in
+    (λ i. record { version = version i; job = λ j. job j i; reservation = λ name. reservation name i })
+
+-- the members of a set that pass a test, once one more operation is there
+pushed : (p : StampValue × Body → Bool) (ops : History Body) (e : StampValue × Body) → filter p (ops ++ e ∷ []) ≡ (if p e then filter p ops ++ e ∷ [] else filter p ops)
+pushed p ops e = filter-append p ops (e ∷ []) ∙ go (p e)
+  where
+    go : (b : Bool) → filter p ops ++ (if b then e ∷ [] else []) ≡ (if b then filter p ops ++ e ∷ [] else filter p ops)
+    go true = refl
+    go false = append-nil (filter p ops)
+
+fresh_from : (ops : History Body) (e : StampValue × Body) → IsLawful ops → covers (version_of ops) e.0 ≡ false → IsFresh e.0 ops
+fresh_from ops e l new d h same = both_ways (covers (version_of ops) e.0) new (subst (λ s. covers (version_of ops) s ≡ true) same (version_of-covers ops l.sites d h))
+
+pub one_each_push : (ops : History Body) (e : StampValue × Body) → OneEach ops → IsFresh e.0 ops → OneEach (ops ++ e ∷ [])
+one_each_push ops e one fresh c d h k same = elim (Has-push ops e c h) [
+  | inl p ↦ elim (Has-push ops e d k) [
+    | inl q ↦ one c d p q same
+    | inr q ↦ absurd (fresh c p (same ∙ sym (ap (λ (x : StampValue × Body). x.0) q)))
+  ]
+  | inr p ↦ elim (Has-push ops e d k) [
+    | inl q ↦ absurd (fresh d q (sym same ∙ sym (ap (λ (x : StampValue × Body). x.0) p)))
+    | inr q ↦ sym p ∙ q
+  ]
+]
+
+module _ (ops : History Body) (e : StampValue × Body) (l : IsLawful ops) (new : covers (version_of ops) e.0 ≡ false) where
+  fresh_of : (p : StampValue × Body → Bool) → IsFresh e.0 (filter p ops)
+  fresh_of p d h = fresh_from ops e l new d (Has-filter p ops d h).0
+
+  one_of : (p : StampValue × Body → Bool) → OneEach (filter p ops ++ e ∷ [])
+  one_of p = one_each_push (filter p ops) e (one_each_filter p ops l.distinct) (fresh_of p)
+
+  job_pushed : (job : StampValue) → job_view (of_job job (ops ++ e ∷ [])) ≡ (if is_of_job job e then add_to_job e.0 e.1 (job_view (of_job job ops)) else job_view (of_job job ops))
+  job_pushed job = ap job_view (pushed (is_of_job job) ops e) ∙ go (is_of_job job e)
+    where
+      go : (b : Bool) → job_view (if b then of_job job ops ++ e ∷ [] else of_job job ops) ≡ (if b then add_to_job e.0 e.1 (job_view (of_job job ops)) else job_view (of_job job ops))
+      go true = job_push (of_job job ops) e (one_of (is_of_job job)) (fresh_of (is_of_job job)) (job_history ops l job)
+      go false = refl
+
+  reservation_pushed : (name : StampValue) → reservation_view (of_reservation name (ops ++ e ∷ [])) ≡ (if is_of_reservation name e then joined_registers option_window_cmp (reservation_view (of_reservation name ops)) (with_stamp e.0 (window_in e.1)) else reservation_view (of_reservation name ops))
+  reservation_pushed name = ap reservation_view (pushed (is_of_reservation name) ops e) ∙ go (is_of_reservation name e)
+    where
+      go : (b : Bool) → reservation_view (if b then of_reservation name ops ++ e ∷ [] else of_reservation name ops) ≡ (if b then joined_registers option_window_cmp (reservation_view (of_reservation name ops)) (with_stamp e.0 (window_in e.1)) else reservation_view (of_reservation name ops))
+      go true = field_push option_window_cmp option_window_total window_in (of_reservation name ops) e (one_of (is_of_reservation name))
+      go false = refl
+
+  pub view_push : view (ops ++ e ∷ []) ≡ add_to_view (view ops) e
+  unfolding add_to_view
+  view_push =
+      let version = version_of-push ops e in
+      (λ i. record { version = version i; job = λ job. job_pushed job i; reservation = λ name. reservation_pushed name i })
+
+module _ (ops others : History Body) (kin : AreKin ops others) where
+  job_joined : (job : StampValue) → job_view (of_job job (ops ++ others)) ≡ join_jobs (version_of ops) (job_view (of_job job ops)) (version_of others) (job_view (of_job job others))
+  job_joined job =
+      ap job_view (filter-append (is_of_job job) ops others)
+      ∙ job_union (version_of ops) (version_of others) (of_job job ops) (of_job job others)
+      (agree_filter (is_of_job job) (version_of ops) (version_of others) ops others (kin_agree ops others kin))
+      (job_history ops kin.left job) (job_history others kin.right job)
+
+  reservation_joined : (name : StampValue) → reservation_view (of_reservation name (ops ++ others)) ≡ joined_registers option_window_cmp (reservation_view (of_reservation name ops)) (reservation_view (of_reservation name others))
+  reservation_joined name =
+      let p = is_of_reservation name in
+      ap reservation_view (filter-append p ops others)
+      ∙ field_union option_window_cmp option_window_total window_in (filter p ops) (filter p others) (subst OneEach (filter-append p ops others) (one_each_filter p (ops ++ others) kin.both.distinct))
+
+  pub view_union : view (ops ++ others) ≡ join_views (view ops) (view others)
+  unfolding join_views
+  view_union =
+      let version = version_of-append ops others in
+      (λ i. record { version = version i; job = λ job. job_joined job i; reservation = λ name. reservation_joined name i })

@@ -1,0 +1,5 @@
+use Rattle.fed_theory.proofs.KnownLaws.{covered_reservation}
+use Rattle.fed_theory.proofs.set_laws.covered_reservations_are_known.Goals as goal
+
+pub returns : goal.returns
+returns c ops others name kin covered = covered_reservation ops others kin name covered

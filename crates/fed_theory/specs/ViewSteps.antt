@@ -1,0 +1,40 @@
+-- What is read of a set once one more operation is there, and of two sets together.
+use Rattle.std.specs.Prelude.{if◌then◌else◌}
+use Rattle.fed_stamp.specs.Stamp.{StampValue}
+use Rattle.fed_stamp.specs.Version.{joined, raised}
+use Rattle.fed_lattice.specs.Register.{joined_registers}
+use Rattle.fed_theory.specs.ValueOrders.{option_window_cmp}
+use Rattle.fed_lattice.specs.Stamped.{with_stamp}
+use Rattle.fed_model.specs.Body.{Body, is_of_job, is_of_reservation}
+use Rattle.fed_model.specs.Field.{window_in}
+use Rattle.fed_theory.specs.JobSteps.{add_to_job, join_jobs}
+use Rattle.fed_model.specs.Letter.{is_submitted}
+use Rattle.fed_model.specs.View.{View}
+
+-- an operation of a stamp that is not covered
+unfoldable pub add_to_view : View → StampValue × Body → View
+add_to_view v e = record {
+  version = raised v.version e.0;
+  job = λ job. if is_of_job job e then add_to_job e.0 e.1 (v.job job) else v.job job;
+  reservation = λ name. if is_of_reservation name e
+      then joined_registers option_window_cmp (v.reservation name) (with_stamp e.0 (window_in e.1))
+      else v.reservation name;
+}
+
+unfoldable pub join_views : View → View → View
+join_views v w = record {
+  version = joined v.version w.version;
+  job = λ job. join_jobs v.version (v.job job) w.version (w.job job);
+  reservation = λ name. joined_registers option_window_cmp (v.reservation name) (w.reservation name);
+}
+
+-- the view with the records of another: each job that the other view knows is joined to it, and every other job stays
+-- as it is
+unfoldable pub join_records : View → View → View
+join_records v w = record {
+  version = joined v.version w.version;
+  job = λ job. if is_submitted (w.job job)
+      then join_jobs v.version (v.job job) w.version (w.job job)
+      else v.job job;
+  reservation = λ name. joined_registers option_window_cmp (v.reservation name) (w.reservation name);
+}

@@ -1,0 +1,137 @@
+//! Laws of whole runs, over every list of events in a federation of n sites, of which there are at most 16. Each
+//! function does nothing: its contract is the law.
+ghost use Rattle.std.specs.Prelude.{◌≡◌, ◌≢◌, ◌<◌, ◌≤◌, ℕ, [], ◌∷◌, ◌++◌, List, Some};
+ghost use Rattle.fed_stamp.specs.declared.sites.TheConstants.{SITES};
+ghost use Rattle.fed_stamp.specs.Stamp.{StampValue};
+ghost use Rattle.fed_lattice.specs.Sets.{Has, Includes, IsSameSet};
+ghost use Rattle.fed_model.specs.declared.askers.Who.{Who};
+ghost use Rattle.fed_model.specs.declared.commands.Command.{Command};
+ghost use Rattle.fed_model.specs.declared.beginnings.Beginning.{Beginning};
+ghost use Rattle.fed_model.specs.declared.replies.Reply.{Reply};
+ghost use Rattle.fed_model.specs.Body.{Body, Body.Grant, Body.Begin};
+ghost use Rattle.fed_model.specs.Lawful.{IsHolder, IsLawful, AreKin};
+ghost use Rattle.fed_model.specs.Limits.{IsWithinLimits};
+ghost use Rattle.fed_model.specs.declared.taken.Taken.{Taken};
+ghost use Rattle.fed_model.specs.Answer.{Answer.Replies, answer};
+ghost use Rattle.fed_model.specs.Packet.{Packet};
+ghost use Rattle.fed_model.specs.declared.events.Event.{Event};
+ghost use Rattle.fed_model.specs.declared.events.Event.TheVariants.{Do, Ship, Take};
+ghost use Rattle.fed_model.specs.declared.outcomes.Outcome.TheVariants as Outcome;
+ghost use Rattle.fed_model.specs.Exchange.{IsExchange};
+ghost use Rattle.fed_model.specs.OpenGrants.{HasOpenGrant};
+ghost use Rattle.fed_model.specs.RangedEvents.{AreRanged};
+ghost use Rattle.fed_model.specs.Run.{outcomes, packet, step, run, all_operations};
+
+/// What a list of events leaves and what is answered to it, once one event more has come.
+pub fn runs_go_on()
+    ensures run { (n : ℕ) (events : List Event) (event : Event) →
+        run n (events ++ event ∷ []) ≡ (step n (run n events) event).after }
+    ensures outcomes { (n : ℕ) (events : List Event) (event : Event) →
+        outcomes n (events ++ event ∷ []) ≡ outcomes n events ++ (step n (run n events) event).outcome ∷ [] }
+{}
+
+/// In every run the operations of all sites together are a lawful set, any two sites hold kin sets, and so are what a
+/// site holds and what a packet gives.
+pub fn sites_stay_kin()
+    ensures lawful { (n : ℕ) (events : List Event) → n ≤ SITES → IsLawful (all_operations (run n events) n) }
+    ensures kin { (n : ℕ) (events : List Event) (a b : ℕ) → n ≤ SITES →
+        AreKin ((run n events).site a).set ((run n events).site b).set }
+    ensures packets { (n : ℕ) (events : List Event) (site k : ℕ) (p : Packet) → n ≤ SITES →
+        packet (run n events) k ≡ Some p → AreKin ((run n events).site site).set p.gives }
+{}
+
+/// No site ever loses an operation.
+pub fn sets_only_grow()
+    ensures { (n : ℕ) (early late : List Event) (site : ℕ) →
+        Includes ((run n (early ++ late)).site site).set ((run n early).site site).set }
+{}
+
+/// A packet that is taken, by whatever site and however late, adds the whole set that its sender had when it was
+/// made.
+pub fn packets_add_whole_sets()
+    ensures { (n : ℕ) (early late : List Event) (site to taker k : ℕ) (taken : Taken) →
+        (step n (run n early) (Ship site to)).outcome ≡ Outcome.Packet k →
+        (step n (run n (early ++ Ship site to ∷ late)) (Take taker k)).outcome ≡ Outcome.Taken taken →
+        ((step n (run n (early ++ Ship site to ∷ late)) (Take taker k)).after.site taker).set
+        ≡ ((run n (early ++ Ship site to ∷ late)).site taker).set ++ ((run n early).site site).set }
+{}
+
+/// The site that a packet was made for never lacks what the packet needs: it takes the packet, however late.
+pub fn no_gap_at_the_addressee()
+    ensures { (n : ℕ) (early late : List Event) (site to k : ℕ) → n ≤ SITES →
+        (step n (run n early) (Ship site to)).outcome ≡ Outcome.Packet k →
+        (taken : Taken) ×
+        ((step n (run n (early ++ Ship site to ∷ late)) (Take to k)).outcome ≡ Outcome.Taken taken) }
+{}
+
+/// Of each term a job has one grant at most, among the operations of all sites, and the job's origin made it.
+pub fn one_grant_a_term()
+    ensures one { (n : ℕ) (events : List Event) → n ≤ SITES → (job s t : StampValue) (a b term : ℕ) →
+        Has (all_operations (run n events) n) (s, Grant job a term) →
+        Has (all_operations (run n events) n) (t, Grant job b term) → (s ≡ t) × (a ≡ b) }
+    ensures by_origin { (n : ℕ) (events : List Event) → n ≤ SITES → (job s : StampValue) (a term : ℕ) →
+        Has (all_operations (run n events) n) (s, Grant job a term) → s.site ≡ job.site }
+{}
+
+/// At no point do two sites each have, in their own set, a grant of one job to themselves that isn't handed back
+/// there.
+pub fn grants_are_held_by_one()
+    ensures { (n : ℕ) (events : List Event) → n ≤ SITES → (job : StampValue) (a b : ℕ) →
+        HasOpenGrant ((run n events).site a).set job a → HasOpenGrant ((run n events).site b).set job b → a ≡ b }
+{}
+
+/// No job begins at two sites, or twice: among the operations of all sites it has one Begin at most, made by the site
+/// that holds its grant.
+pub fn jobs_begin_once()
+    ensures one { (n : ℕ) (events : List Event) → n ≤ SITES → (job s t : StampValue) (a b : Beginning) →
+        Has (all_operations (run n events) n) (s, Begin job a) →
+        Has (all_operations (run n events) n) (t, Begin job b) → (s ≡ t) × (a ≡ b) }
+    ensures by_holder { (n : ℕ) (events : List Event) → n ≤ SITES → (job s : StampValue) (a : Beginning) →
+        Has (all_operations (run n events) n) (s, Begin job a) →
+        IsHolder (all_operations (run n events) n) job s.site }
+    ensures at_one_site { (n : ℕ) (events : List Event) → n ≤ SITES → (x y : ℕ) (job s t : StampValue)
+        (a b : Beginning) → Has ((run n events).site x).set (s, Begin job a) →
+        Has ((run n events).site y).set (t, Begin job b) → s.site ≡ t.site }
+{}
+
+/// Of all requests to begin a job one at most is done, at whatever sites and however often it is asked.
+pub fn begins_are_done_once()
+    ensures { (n : ℕ) (early between : List Event) (site other : ℕ) (who asker : Who) (job : StampValue)
+        (moment later : ℕ) (reply again : Reply) → n ≤ SITES →
+        (step n (run n early) (Do site who (Command.Begin job moment))).outcome ≡ Outcome.Replied reply →
+        (step n (run n (early ++ Do site who (Command.Begin job moment) ∷ between))
+        (Do other asker (Command.Begin job later))).outcome ≢ Outcome.Replied again }
+{}
+
+/// Where the values of all events are in range, as the types of their parts keep them, the operations that each site
+/// holds are within limits, and so is what each packet gives: values, terms and windows are in range, a job that begins
+/// ends later, and of no site there are more than 10,000 jobs and 1,000 reservations.
+pub fn sets_stay_within_limits()
+    ensures sites { (n : ℕ) (events : List Event) → n ≤ SITES → AreRanged events → (site : ℕ) →
+        IsWithinLimits ((run n events).site site).set }
+    ensures packets { (n : ℕ) (events : List Event) → n ≤ SITES → AreRanged events → (k : ℕ) (p : Packet) →
+        packet (run n events) k ≡ Some p → IsWithinLimits p.gives }
+{}
+
+/// A command that was answered by a reply is never undone: the operation that it added, if any, is in the set of its
+/// site ever after, and in that of each site that takes a packet which that site shipped after it.
+pub fn done_commands_stay()
+    ensures kept { (n : ℕ) (early late : List Event) (site : ℕ) (who : Who) (command : Command) (reply : Reply)
+        (new : StampValue × Body) → site < n →
+        answer ((run n early).site site).set site who command ≡ Replies reply (Some new) →
+        Has ((run n (early ++ Do site who command ∷ late)).site site).set new }
+    ensures passed { (n : ℕ) (early between late : List Event) (site to taker k : ℕ) (who : Who) (command : Command)
+        (reply : Reply) (new : StampValue × Body) (taken : Taken) → site < n →
+        answer ((run n early).site site).set site who command ≡ Replies reply (Some new) →
+        let sent = early ++ Do site who command ∷ between in
+        (step n (run n sent) (Ship site to)).outcome ≡ Outcome.Packet k →
+        (step n (run n (sent ++ Ship site to ∷ late)) (Take taker k)).outcome ≡ Outcome.Taken taken →
+        Has ((step n (run n (sent ++ Ship site to ∷ late)) (Take taker k)).after.site taker).set new }
+{}
+
+/// Once no command is done any more and each site has made a packet for each other, which took it, all sites hold the
+/// same operations, whatever was lost, repeated or reordered before and meanwhile.
+pub fn exchanges_converge()
+    ensures { (n : ℕ) (early late : List Event) → n ≤ SITES → IsExchange n early late → (a b : ℕ) → a < n → b < n →
+        IsSameSet ((run n (early ++ late)).site a).set ((run n (early ++ late)).site b).set }
+{}
