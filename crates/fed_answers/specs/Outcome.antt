@@ -18,7 +18,7 @@ reply_text roster (Submitted job) = identifier_text roster job
 reply_text roster Done = codes "done"
 reply_text roster Granted = codes "granted"
 reply_text roster Yours = codes "yours"
-reply_text roster (Reserved name) = identifier_text roster name
+reply_text roster (Reserved id) = identifier_text roster id
 
 -- a script that can be read names sites of its roster and packets that were made, so it never meets the last two
 abbrev pub outcome_text : List (List ℕ × ℕ) → Outcome → List ℕ

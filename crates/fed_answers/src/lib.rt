@@ -7,7 +7,10 @@ mod listings;
 mod outcomes;
 /// The texts of plans.
 mod plan_texts;
+/// The plan of a site.
+mod site_plans;
 
 pub use listings::listing_text;
 pub use outcomes::{AnswerText, outcome_line, usage_line};
 pub use plan_texts::{plan_line, plan_lines};
+pub use site_plans::{nodes_of, plan_at};

@@ -35,7 +35,7 @@ from_some : {X : Type 0} (x y : X) → Some x ≡ Some y → x ≡ y
 from_some x y e = cc
 
 -- ---- jobs
--- the record at a name is of operations that the version covers, also where the job is absent
+-- the record at an identifier is of operations that the version covers, also where the job is absent
 touched_below : (v : List ℕ) (job : StampValue) (a : Option JobRecordValue) → IfSome a (IsKnownJob v job) → is_below (unwrap_or a no_operation).touched v ≡ true
 touched_below v job None p = zeros_below 16 v
 touched_below v job (Some r) p = p.touched
@@ -66,7 +66,7 @@ named_job b at job (HandBack other term) of n = inl (on_board b job other of n)
 named_job b at job (Begin other beginning) of n = inl (on_board b job other of n)
 named_job b at job (Finish other ending) of n = inl (on_board b job other of n)
 named_job b at job (Reserve window) of n = cc
-named_job b at job (Cancel name) of n = cc
+named_job b at job (Cancel id) of n = cc
 
 later_job : (v : List ℕ) (at job : StampValue) (r : JobRecordValue) → IsKnownJob v job r → IsKnownJob (raised v at) job r
 later_job v at job r k = record {
@@ -81,22 +81,22 @@ later_job v at job r k = record {
 abbrev latest_stamp : StampValue × Option Window → StampValue
 latest_stamp latest = latest.0
 
-later_reservation : (v : List ℕ) (at name : StampValue) (r : ReservationView) → IsKnownReservation v name r → IsKnownReservation (raised v at) name r
-later_reservation v at name r k = record {
+later_reservation : (v : List ℕ) (at id : StampValue) (r : ReservationView) → IsKnownReservation v id r → IsKnownReservation (raised v at) id r
+later_reservation v at id r k = record {
   placed = k.placed;
-  named = covers_raised v at name k.named;
+  named = covers_raised v at id k.named;
   made = k.made;
   stamp = later_covered latest_stamp v (raised v at) (λ s. covers_raised v at s) r k.stamp;
 }
 
 -- the greatest stamp is covered, also where the reservation is absent
-covered_reservation : (v : List ℕ) (name : StampValue) (a : Option ReservationView) → IfSome a (IsKnownReservation v name) → IsCoveredRegister v (unwrap_or a None)
-covered_reservation v name None p = tt
-covered_reservation v name (Some r) p = p.stamp
+covered_reservation : (v : List ℕ) (id : StampValue) (a : Option ReservationView) → IfSome a (IsKnownReservation v id) → IsCoveredRegister v (unwrap_or a None)
+covered_reservation v id None p = tt
+covered_reservation v id (Some r) p = p.stamp
 
-present_reservation : (v : List ℕ) (name : StampValue) (a : Option ReservationView) → IfSome a (IsKnownReservation v name) → IsSome a → IsKnownReservation v name (unwrap_or a None)
-present_reservation v name None p i = cc
-present_reservation v name (Some r) p i = p
+present_reservation : (v : List ℕ) (id : StampValue) (a : Option ReservationView) → IfSome a (IsKnownReservation v id) → IsSome a → IsKnownReservation v id (unwrap_or a None)
+present_reservation v id None p i = cc
+present_reservation v id (Some r) p i = p
 
 -- ---- a change
 module _ (applied : JobRecordValue → StampValue → Operation → JobRecordValue)
@@ -137,17 +137,17 @@ module _ (applied : JobRecordValue → StampValue → Operation → JobRecordVal
   }
 
 -- an operation of a reservation sets its window or none
-module _ (b : BoardValue) (at name : StampValue) (op : Operation) (i : IsBoard b) (small : at.site < 16) (seen : covers (raised b.version at) at ≡ true) where
+module _ (b : BoardValue) (at id : StampValue) (op : Operation) (i : IsBoard b) (small : at.site < 16) (seen : covers (raised b.version at) at ≡ true) where
   abbrev now : Option ReservationView
-  now = lookup (is_at (stamp_cmp name)) b.reservations
+  now = lookup (is_at (stamp_cmp id)) b.reservations
 
   before : IsCoveredRegister (raised b.version at) (unwrap_or now None)
-  before = later_covered latest_stamp b.version (raised b.version at) (λ s. covers_raised b.version at s) (unwrap_or now None) (covered_reservation b.version name now (i.reservations name))
+  before = later_covered latest_stamp b.version (raised b.version at) (λ s. covers_raised b.version at s) (unwrap_or now None) (covered_reservation b.version id now (i.reservations id))
 
   stamp_now : (window : Option (Option Window)) → IsCoveredRegister (raised b.version at) (joined_registers option_window_cmp (unwrap_or now None) (with_stamp at window))
   stamp_now window = register_covered (raised b.version at) option_window_cmp (unwrap_or now None) (with_stamp at window) before (own_register at (raised b.version at) seen window)
 
-  changed_known_reservation : (body : Body) → reservation_of at body ≡ Some name → HasNamed b body → IsKnownReservation (raised b.version at) name (joined_registers option_window_cmp (unwrap_or now None) (with_stamp at (window_in body)))
+  changed_known_reservation : (body : Body) → reservation_of at body ≡ Some id → HasNamed b body → IsKnownReservation (raised b.version at) id (joined_registers option_window_cmp (unwrap_or now None) (with_stamp at (window_in body)))
   changed_known_reservation (Submit owner values held) of n = cc
   changed_known_reservation (Set job changes removed) of n = cc
   changed_known_reservation (Hold job kinds) of n = cc
@@ -158,24 +158,24 @@ module _ (b : BoardValue) (at name : StampValue) (op : Operation) (i : IsBoard b
   changed_known_reservation (Begin job beginning) of n = cc
   changed_known_reservation (Finish job ending) of n = cc
   changed_known_reservation (Reserve window) of n = record {
-    placed = subst (λ (s : StampValue). s.site < 16) (from_some at name of) small;
-    named = subst (λ s. covers (raised b.version at) s ≡ true) (from_some at name of) seen;
+    placed = subst (λ (s : StampValue). s.site < 16) (from_some at id of) small;
+    named = subst (λ s. covers (raised b.version at) s ≡ true) (from_some at id of) seen;
     made = set_right option_window_cmp (unwrap_or now None) (Some (at, Some window)) refl;
     stamp = stamp_now (Some (Some window));
   }
   changed_known_reservation (Cancel other) of n =
       let k = present_reservation b.version other (lookup (is_at (stamp_cmp other)) b.reservations) (i.reservations other) n in
-      let same : other ≡ name = from_some other name of in record {
+      let same : other ≡ id = from_some other id of in record {
         placed = subst (λ (s : StampValue). s.site < 16) same k.placed;
-        named = covers_raised b.version at name (subst (λ t. covers b.version t ≡ true) same k.named);
+        named = covers_raised b.version at id (subst (λ t. covers b.version t ≡ true) same k.named);
         made = set_right option_window_cmp (unwrap_or now None) (Some (at, None)) refl;
         stamp = stamp_now (Some None);
       }
 
-  pub changed_reservation_keeps : reservation_of at (body_of op) ≡ Some name → HasNamed b (body_of op) → IsBoard (changed_reservation b at op name)
+  pub changed_reservation_keeps : reservation_of at (body_of op) ≡ Some id → HasNamed b (body_of op) → IsBoard (changed_reservation b at op id)
   changed_reservation_keeps of n = record {
     jobs = λ k. IfSome_then _ (i.jobs k) (λ r. later_job b.version at k r);
-    reservations = each_insert_entry stamp_cmp stamp_total exact_stamp (IsKnownReservation (raised b.version at)) b.reservations name _ (λ k. IfSome_then _ (i.reservations k) (λ r. later_reservation b.version at k r)) (changed_known_reservation (body_of op) of n);
+    reservations = each_insert_entry stamp_cmp stamp_total exact_stamp (IsKnownReservation (raised b.version at)) b.reservations id _ (λ k. IfSome_then _ (i.reservations k) (λ r. later_reservation b.version at k r)) (changed_known_reservation (body_of op) of n);
   }
 
 -- ---- two boards merged
@@ -213,25 +213,25 @@ module _ (join : JobRecordValue → List ℕ → JobRecordValue → List ℕ →
           stamps = stamps;
         }
 
-  pub joined_known_reservation : (v w : List ℕ) (name : StampValue) (x y : Option ReservationView) → IfSome x (IsKnownReservation v name) → IfSome y (IsKnownReservation w name) → (is_some x || is_some y) ≡ true
-      → IsKnownReservation (joined v w) name (joined_registers option_window_cmp (unwrap_or x None) (unwrap_or y None))
-  joined_known_reservation v w name x y p q e =
-      let left = later_covered latest_stamp v (joined v w) (λ t. covers_more v (joined v w) t (below_joined_left v w)) (unwrap_or x None) (covered_reservation v name x p) in
-      let right = later_covered latest_stamp w (joined v w) (λ t. covers_more w (joined v w) t (below_joined_right v w)) (unwrap_or y None) (covered_reservation w name y q) in
+  pub joined_known_reservation : (v w : List ℕ) (id : StampValue) (x y : Option ReservationView) → IfSome x (IsKnownReservation v id) → IfSome y (IsKnownReservation w id) → (is_some x || is_some y) ≡ true
+      → IsKnownReservation (joined v w) id (joined_registers option_window_cmp (unwrap_or x None) (unwrap_or y None))
+  joined_known_reservation v w id x y p q e =
+      let left = later_covered latest_stamp v (joined v w) (λ t. covers_more v (joined v w) t (below_joined_left v w)) (unwrap_or x None) (covered_reservation v id x p) in
+      let right = later_covered latest_stamp w (joined v w) (λ t. covers_more w (joined v w) t (below_joined_right v w)) (unwrap_or y None) (covered_reservation w id y q) in
       either x y p q e (register_covered (joined v w) option_window_cmp (unwrap_or x None) (unwrap_or y None) left right) where
-        either : (x y : Option ReservationView) → IfSome x (IsKnownReservation v name) → IfSome y (IsKnownReservation w name) → (is_some x || is_some y) ≡ true
+        either : (x y : Option ReservationView) → IfSome x (IsKnownReservation v id) → IfSome y (IsKnownReservation w id) → (is_some x || is_some y) ≡ true
             → IsCoveredRegister (joined v w) (joined_registers option_window_cmp (unwrap_or x None) (unwrap_or y None))
-            → IsKnownReservation (joined v w) name (joined_registers option_window_cmp (unwrap_or x None) (unwrap_or y None))
+            → IsKnownReservation (joined v w) id (joined_registers option_window_cmp (unwrap_or x None) (unwrap_or y None))
         either None None p q e stamp = cc
         either None (Some s) p q e stamp = record {
           placed = q.placed;
-          named = covers_more w (joined v w) name (below_joined_right v w) q.named;
+          named = covers_more w (joined v w) id (below_joined_right v w) q.named;
           made = set_right option_window_cmp None s q.made;
           stamp = stamp;
         }
         either (Some r) y p q e stamp = record {
           placed = p.placed;
-          named = covers_more v (joined v w) name (below_joined_left v w) p.named;
+          named = covers_more v (joined v w) id (below_joined_left v w) p.named;
           made = set_left option_window_cmp r (unwrap_or y None) p.made;
           stamp = stamp;
         }
@@ -239,9 +239,9 @@ module _ (join : JobRecordValue → List ℕ → JobRecordValue → List ℕ →
   pub merged_keeps : (b c : BoardValue) → IsBoard b → IsBoard c → IsBoard (merged join b c)
   merged_keeps b c i k = record {
     jobs = each_joined_tables stamp_cmp stamp_total exact_stamp no_operation join (IsKnownJob (joined b.version c.version)) b.jobs c.jobs b.version c.version
-        (λ name. joined_known b.version c.version name (lookup (is_at (stamp_cmp name)) b.jobs) (lookup (is_at (stamp_cmp name)) c.jobs) (i.jobs name) (k.jobs name));
+        (λ id. joined_known b.version c.version id (lookup (is_at (stamp_cmp id)) b.jobs) (lookup (is_at (stamp_cmp id)) c.jobs) (i.jobs id) (k.jobs id));
     reservations = each_joined_tables stamp_cmp stamp_total exact_stamp None (λ x v y w. joined_registers option_window_cmp x y) (IsKnownReservation (joined b.version c.version)) b.reservations c.reservations b.version c.version
-        (λ name. joined_known_reservation b.version c.version name (lookup (is_at (stamp_cmp name)) b.reservations) (lookup (is_at (stamp_cmp name)) c.reservations) (i.reservations name) (k.reservations name));
+        (λ id. joined_known_reservation b.version c.version id (lookup (is_at (stamp_cmp id)) b.reservations) (lookup (is_at (stamp_cmp id)) c.reservations) (i.reservations id) (k.reservations id));
   }
 
 -- ---- every job on a board is submitted, and every reservation is made

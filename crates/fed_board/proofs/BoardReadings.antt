@@ -37,30 +37,30 @@ same_records r s p q e =
       touched = (e i).touched;
     }
 
--- what two boards have at a name
-same_jobs_at : (v w : List ℕ) (name : StampValue) (x y : Option JobRecordValue) → IfSome x (IsKnownJob v name) → IfSome y (IsKnownJob w name) → IfSome x HasSortedTags → IfSome y HasSortedTags
+-- what two boards have at an identifier
+same_jobs_at : (v w : List ℕ) (id : StampValue) (x y : Option JobRecordValue) → IfSome x (IsKnownJob v id) → IfSome y (IsKnownJob w id) → IfSome x HasSortedTags → IfSome y HasSortedTags
     → job_reads (unwrap_or x no_operation) ≡ job_reads (unwrap_or y no_operation) → x ≡ y
-same_jobs_at v w name None None p q s t e = refl
-same_jobs_at v w name None (Some y) p q s t e = absurd (let f : false ≡ true = ap is_submitted e ∙ q.submitted in cc)
-same_jobs_at v w name (Some x) None p q s t e = absurd (let f : false ≡ true = sym (ap is_submitted e) ∙ p.submitted in cc)
-same_jobs_at v w name (Some x) (Some y) p q s t e = ap Some (same_records x y s t e)
+same_jobs_at v w id None None p q s t e = refl
+same_jobs_at v w id None (Some y) p q s t e = absurd (let f : false ≡ true = ap is_submitted e ∙ q.submitted in cc)
+same_jobs_at v w id (Some x) None p q s t e = absurd (let f : false ≡ true = sym (ap is_submitted e) ∙ p.submitted in cc)
+same_jobs_at v w id (Some x) (Some y) p q s t e = ap Some (same_records x y s t e)
 
-same_reservations_at : (v w : List ℕ) (name : StampValue) (x y : Option ReservationView) → IfSome x (IsKnownReservation v name) → IfSome y (IsKnownReservation w name) → unwrap_or x None ≡ unwrap_or y None → x ≡ y
-same_reservations_at v w name None None p q e = refl
-same_reservations_at v w name None (Some None) p q e = absurd (let f : false ≡ true = q.made in cc)
-same_reservations_at v w name None (Some (Some y)) p q e = cc
-same_reservations_at v w name (Some None) None p q e = absurd (let f : false ≡ true = p.made in cc)
-same_reservations_at v w name (Some (Some x)) None p q e = cc
-same_reservations_at v w name (Some x) (Some y) p q e = ap Some e
+same_reservations_at : (v w : List ℕ) (id : StampValue) (x y : Option ReservationView) → IfSome x (IsKnownReservation v id) → IfSome y (IsKnownReservation w id) → unwrap_or x None ≡ unwrap_or y None → x ≡ y
+same_reservations_at v w id None None p q e = refl
+same_reservations_at v w id None (Some None) p q e = absurd (let f : false ≡ true = q.made in cc)
+same_reservations_at v w id None (Some (Some y)) p q e = cc
+same_reservations_at v w id (Some None) None p q e = absurd (let f : false ≡ true = p.made in cc)
+same_reservations_at v w id (Some (Some x)) None p q e = cc
+same_reservations_at v w id (Some x) (Some y) p q e = ap Some e
 
 pub same_where_read : (a b : BoardValue) → IsBoard a → IsBoard b → IsTable stamp_cmp HasSortedTags a.jobs → IsTable stamp_cmp HasSortedTags b.jobs
     → IsTable {X = ReservationView} stamp_cmp (λ _. Unit {0}) a.reservations → IsTable {X = ReservationView} stamp_cmp (λ _. Unit {0}) b.reservations → board_reads a ≡ board_reads b → a ≡ b
 same_where_read a b i k s t u v e =
     let version : a.version ≡ b.version = ap (λ (x : View). x.version) e in
     let jobs = same_tables stamp_cmp stamp_total exact_stamp a.jobs b.jobs s.0 t.0
-    (λ name. same_jobs_at a.version b.version name _ _ (i.jobs name) (k.jobs name)
-    (IfSome-lookup_from_All HasSortedTags (is_at (stamp_cmp name)) a.jobs s.1) (IfSome-lookup_from_All HasSortedTags (is_at (stamp_cmp name)) b.jobs t.1)
-    (ap (λ (x : View). x.job name) e)) in
+    (λ id. same_jobs_at a.version b.version id _ _ (i.jobs id) (k.jobs id)
+    (IfSome-lookup_from_All HasSortedTags (is_at (stamp_cmp id)) a.jobs s.1) (IfSome-lookup_from_All HasSortedTags (is_at (stamp_cmp id)) b.jobs t.1)
+    (ap (λ (x : View). x.job id) e)) in
     let reservations = same_tables stamp_cmp stamp_total exact_stamp a.reservations b.reservations u.0 v.0
-    (λ name. same_reservations_at a.version b.version name _ _ (i.reservations name) (k.reservations name) (ap (λ (x : View). x.reservation name) e)) in
+    (λ id. same_reservations_at a.version b.version id _ _ (i.reservations id) (k.reservations id) (ap (λ (x : View). x.reservation id) e)) in
     λ n. record { version = version n; jobs = jobs n; reservations = reservations n }

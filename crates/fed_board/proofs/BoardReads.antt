@@ -27,11 +27,11 @@ use Rattle.fed_theory.specs.ValueOrders.{option_window_cmp}
 use Rattle.fed_board.specs.Board.{BoardValue, no_operation, board_reads, merged, changed_job, changed_reservation}
 use Rattle.fed_theory.specs.ViewSteps.{add_to_view, join_views}
 
--- ---- names
-stamp_at_name : (name s : StampValue) → is_eq (stamp_cmp name s) ≡ same_stamp s name
-stamp_at_name name s = both_ways _ _
-    (λ e. subst (λ (t : StampValue). same_stamp t name ≡ true) (tells_apart exact_stamp name s e) (same_stamp_itself name))
-    (λ e. subst (λ (t : StampValue). is_eq (stamp_cmp t s) ≡ true) (same_stamp_is s name e) (ap is_eq (tied_itself stamp_total s)))
+-- ---- identifiers
+stamp_at_id : (id s : StampValue) → is_eq (stamp_cmp id s) ≡ same_stamp s id
+stamp_at_id id s = both_ways _ _
+    (λ e. subst (λ (t : StampValue). same_stamp t id ≡ true) (tells_apart exact_stamp id s e) (same_stamp_itself id))
+    (λ e. subst (λ (t : StampValue). is_eq (stamp_cmp t s) ≡ true) (same_stamp_is s id e) (ap is_eq (tied_itself stamp_total s)))
 
 not_reservation : (at : StampValue) (b : Body) (job : StampValue) → job_of at b ≡ Some job → reservation_of at b ≡ None
 not_reservation at (Submit owner values held) job e = refl
@@ -44,47 +44,47 @@ not_reservation at (HandBack other term) job e = refl
 not_reservation at (Begin other beginning) job e = refl
 not_reservation at (Finish other ending) job e = refl
 not_reservation at (Reserve window) job e = cc
-not_reservation at (Cancel name) job e = cc
+not_reservation at (Cancel id) job e = cc
 
-not_job : (at : StampValue) (b : Body) (name : StampValue) → reservation_of at b ≡ Some name → job_of at b ≡ None
-not_job at (Submit owner values held) name e = cc
-not_job at (Set job changes removed) name e = cc
-not_job at (Hold job kinds) name e = cc
-not_job at (Release job removed) name e = cc
-not_job at (Delete job) name e = cc
-not_job at (Grant job site term) name e = cc
-not_job at (HandBack job term) name e = cc
-not_job at (Begin job beginning) name e = cc
-not_job at (Finish job ending) name e = cc
-not_job at (Reserve window) name e = refl
-not_job at (Cancel other) name e = refl
+not_job : (at : StampValue) (b : Body) (id : StampValue) → reservation_of at b ≡ Some id → job_of at b ≡ None
+not_job at (Submit owner values held) id e = cc
+not_job at (Set job changes removed) id e = cc
+not_job at (Hold job kinds) id e = cc
+not_job at (Release job removed) id e = cc
+not_job at (Delete job) id e = cc
+not_job at (Grant job site term) id e = cc
+not_job at (HandBack job term) id e = cc
+not_job at (Begin job beginning) id e = cc
+not_job at (Finish job ending) id e = cc
+not_job at (Reserve window) id e = refl
+not_job at (Cancel other) id e = refl
 
 -- ---- a change of one job
 module _ (applied : JobRecordValue → StampValue → Operation → JobRecordValue)
     (law : (r : JobRecordValue) (s : StampValue) (c : Operation) → job_reads (applied r s c) ≡ add_to_job s (body_of c) (job_reads r))
     (b : BoardValue) (at : StampValue) (op : Operation) (job : StampValue) where
   abbrev old_job : StampValue → JobRecordValue
-  old_job name = value_at stamp_cmp no_operation b.jobs name
+  old_job id = value_at stamp_cmp no_operation b.jobs id
 
   pub changed_job_same : (now : BoardValue) → b ≡ now → changed_job applied b at op job ≡ changed_job applied now at op job
   changed_job_same now e = ap (λ d. changed_job applied d at op job) e
 
   module _ (of : job_of at (body_of op) ≡ Some job) where
     abbrev added : Bool → StampValue → JobView
-    added t name = if t then add_to_job at (body_of op) (job_reads (old_job name)) else job_reads (old_job name)
+    added t id = if t then add_to_job at (body_of op) (job_reads (old_job id)) else job_reads (old_job id)
 
-    changed_job_read : (name : StampValue) → job_reads (value_at stamp_cmp no_operation (changed_job applied b at op job).jobs name) ≡ added (is_of_job name (at, body_of op)) name
-    changed_job_read name =
-        ap job_reads (value_at-insert_entry stamp_cmp stamp_total exact_stamp no_operation name job (applied (old_job job) at op) b.jobs)
-        ∙ go (is_eq (stamp_cmp name job)) refl
-        ∙ ap (λ t. added t name) (stamp_at_name name job ∙ ap (is_named name) (sym of))
+    changed_job_read : (id : StampValue) → job_reads (value_at stamp_cmp no_operation (changed_job applied b at op job).jobs id) ≡ added (is_of_job id (at, body_of op)) id
+    changed_job_read id =
+        ap job_reads (value_at-insert_entry stamp_cmp stamp_total exact_stamp no_operation id job (applied (old_job job) at op) b.jobs)
+        ∙ go (is_eq (stamp_cmp id job)) refl
+        ∙ ap (λ t. added t id) (stamp_at_id id job ∙ ap (is_named id) (sym of))
       where
-        go : (t : Bool) → is_eq (stamp_cmp name job) ≡ t → job_reads (cond t (applied (old_job job) at op) (old_job name)) ≡ added t name
-        go true e = law (old_job job) at op ∙ ap (λ (n : StampValue). add_to_job at (body_of op) (job_reads (old_job n))) (sym (tells_apart exact_stamp name job e))
+        go : (t : Bool) → is_eq (stamp_cmp id job) ≡ t → job_reads (cond t (applied (old_job job) at op) (old_job id)) ≡ added t id
+        go true e = law (old_job job) at op ∙ ap (λ (n : StampValue). add_to_job at (body_of op) (job_reads (old_job n))) (sym (tells_apart exact_stamp id job e))
         go false e = refl
 
     abbrev unmade : Option StampValue → StampValue → ReservationView
-    unmade r name = if is_named name r then joined_registers option_window_cmp (value_at stamp_cmp None b.reservations name) (with_stamp at (window_in (body_of op))) else value_at stamp_cmp None b.reservations name
+    unmade r id = if is_named id r then joined_registers option_window_cmp (value_at stamp_cmp None b.reservations id) (with_stamp at (window_in (body_of op))) else value_at stamp_cmp None b.reservations id
 
     pub changed_job_reads : board_reads (changed_job applied b at op job) ≡ add_to_view (board_reads b) (at, body_of op)
     unfolding add_to_view
@@ -92,39 +92,39 @@ module _ (applied : JobRecordValue → StampValue → Operation → JobRecordVal
         let none = sym (not_reservation at (body_of op) job of) in
         λ i. record {
           version = raised b.version at;
-          job = λ name. changed_job_read name i;
-          reservation = λ name. unmade (none i) name;
+          job = λ id. changed_job_read id i;
+          reservation = λ id. unmade (none i) id;
         }
 
 -- ---- a change of one reservation
-module _ (b : BoardValue) (at : StampValue) (op : Operation) (name : StampValue) where
+module _ (b : BoardValue) (at : StampValue) (op : Operation) (id : StampValue) where
   abbrev old_reservation : StampValue → ReservationView
   old_reservation other = value_at stamp_cmp None b.reservations other
 
   abbrev set_reservation : ReservationView → ReservationView
   set_reservation r = joined_registers option_window_cmp r (with_stamp at (window_in (body_of op)))
 
-  module _ (of : reservation_of at (body_of op) ≡ Some name) where
+  module _ (of : reservation_of at (body_of op) ≡ Some id) where
     abbrev changed_at : Bool → StampValue → ReservationView
     changed_at t other = if t then set_reservation (old_reservation other) else old_reservation other
 
-    reservation_reads : (other : StampValue) → value_at stamp_cmp None (changed_reservation b at op name).reservations other ≡ changed_at (is_of_reservation other (at, body_of op)) other
+    reservation_reads : (other : StampValue) → value_at stamp_cmp None (changed_reservation b at op id).reservations other ≡ changed_at (is_of_reservation other (at, body_of op)) other
     reservation_reads other =
-        value_at-insert_entry stamp_cmp stamp_total exact_stamp None other name (set_reservation (old_reservation name)) b.reservations
-        ∙ go (is_eq (stamp_cmp other name)) refl
-        ∙ ap (λ t. changed_at t other) (stamp_at_name other name ∙ ap (is_named other) (sym of))
+        value_at-insert_entry stamp_cmp stamp_total exact_stamp None other id (set_reservation (old_reservation id)) b.reservations
+        ∙ go (is_eq (stamp_cmp other id)) refl
+        ∙ ap (λ t. changed_at t other) (stamp_at_id other id ∙ ap (is_named other) (sym of))
       where
-        go : (t : Bool) → is_eq (stamp_cmp other name) ≡ t → cond t (set_reservation (old_reservation name)) (old_reservation other) ≡ changed_at t other
-        go true e = ap (λ (n : StampValue). set_reservation (old_reservation n)) (sym (tells_apart exact_stamp other name e))
+        go : (t : Bool) → is_eq (stamp_cmp other id) ≡ t → cond t (set_reservation (old_reservation id)) (old_reservation other) ≡ changed_at t other
+        go true e = ap (λ (n : StampValue). set_reservation (old_reservation n)) (sym (tells_apart exact_stamp other id e))
         go false e = refl
 
     abbrev unnamed : Option StampValue → StampValue → JobView
     unnamed j job = if is_named job j then add_to_job at (body_of op) (job_reads (value_at stamp_cmp no_operation b.jobs job)) else job_reads (value_at stamp_cmp no_operation b.jobs job)
 
-    pub changed_reservation_reads : board_reads (changed_reservation b at op name) ≡ add_to_view (board_reads b) (at, body_of op)
+    pub changed_reservation_reads : board_reads (changed_reservation b at op id) ≡ add_to_view (board_reads b) (at, body_of op)
     unfolding add_to_view
     changed_reservation_reads =
-        let none = sym (not_job at (body_of op) name of) in
+        let none = sym (not_job at (body_of op) id of) in
         λ i. record {
           version = raised b.version at;
           job = λ job. unnamed (none i) job;
@@ -140,8 +140,8 @@ module _ (join : JobRecordValue → List ℕ → JobRecordValue → List ℕ →
   pub merged_reads : BottomsJoin no_operation join → (b c : BoardValue) → board_reads (merged join b c) ≡ join_views (board_reads b) (board_reads c)
   unfolding join_views
   merged_reads bottoms b c =
-      let job : (name : StampValue) → job_reads (value_at stamp_cmp no_operation (merged join b c).jobs name) ≡ join_jobs b.version (job_reads (value_at stamp_cmp no_operation b.jobs name)) c.version (job_reads (value_at stamp_cmp no_operation c.jobs name)) =
-      λ name. ap job_reads (value_at-joined_tables stamp_cmp stamp_total exact_stamp no_operation join bottoms name b.jobs c.jobs b.version c.version) ∙ law _ _ b.version c.version in
-      let reservation : (name : StampValue) → value_at stamp_cmp None (merged join b c).reservations name ≡ joined_registers option_window_cmp (value_at stamp_cmp None b.reservations name) (value_at stamp_cmp None c.reservations name) =
-      λ name. value_at-joined_tables stamp_cmp stamp_total exact_stamp None (λ x v y w. joined_registers option_window_cmp x y) (λ v w. refl) name b.reservations c.reservations b.version c.version in
-      λ i. record { version = joined b.version c.version; job = λ name. job name i; reservation = λ name. reservation name i }
+      let job : (id : StampValue) → job_reads (value_at stamp_cmp no_operation (merged join b c).jobs id) ≡ join_jobs b.version (job_reads (value_at stamp_cmp no_operation b.jobs id)) c.version (job_reads (value_at stamp_cmp no_operation c.jobs id)) =
+      λ id. ap job_reads (value_at-joined_tables stamp_cmp stamp_total exact_stamp no_operation join bottoms id b.jobs c.jobs b.version c.version) ∙ law _ _ b.version c.version in
+      let reservation : (id : StampValue) → value_at stamp_cmp None (merged join b c).reservations id ≡ joined_registers option_window_cmp (value_at stamp_cmp None b.reservations id) (value_at stamp_cmp None c.reservations id) =
+      λ id. value_at-joined_tables stamp_cmp stamp_total exact_stamp None (λ x v y w. joined_registers option_window_cmp x y) (λ v w. refl) id b.reservations c.reservations b.version c.version in
+      λ i. record { version = joined b.version c.version; job = λ id. job id i; reservation = λ id. reservation id i }

@@ -59,27 +59,27 @@ stands_after xs start seen x parted late s = go (nat_le start s.index) refl wher
       absurd (omega (arith, below, late))
 
 -- ---- an entry that passes is added
-module _ {X : Type 0} (p : X → Bool) (all part new : List (StampValue × X)) (name : StampValue) (x w : X) (there : Some x ≡ lookup (is_at (stamp_cmp name)) all) (passes : p x ≡ true) (same : w ≡ x) (made : new ≡ insert_entry stamp_cmp part name w) where
-  looked : (q : StampValue) → lookup (is_at (stamp_cmp q)) new ≡ cond (is_eq (stamp_cmp q name)) (Some x) (lookup (is_at (stamp_cmp q)) part)
+module _ {X : Type 0} (p : X → Bool) (all part new : List (StampValue × X)) (id : StampValue) (x w : X) (there : Some x ≡ lookup (is_at (stamp_cmp id)) all) (passes : p x ≡ true) (same : w ≡ x) (made : new ≡ insert_entry stamp_cmp part id w) where
+  looked : (q : StampValue) → lookup (is_at (stamp_cmp q)) new ≡ cond (is_eq (stamp_cmp q id)) (Some x) (lookup (is_at (stamp_cmp q)) part)
   looked q =
-      ap (lookup (is_at (stamp_cmp q))) made ∙ lookup-insert_entry stamp_cmp stamp_total exact_stamp q name w part
-      ∙ ap (λ y. cond (is_eq (stamp_cmp q name)) (Some y) (lookup (is_at (stamp_cmp q)) part)) same
+      ap (lookup (is_at (stamp_cmp q))) made ∙ lookup-insert_entry stamp_cmp stamp_total exact_stamp q id w part
+      ∙ ap (λ y. cond (is_eq (stamp_cmp q id)) (Some y) (lookup (is_at (stamp_cmp q)) part)) same
 
-  passing_here : Some x ≡ option_filter p (lookup (is_at (stamp_cmp name)) all)
+  passing_here : Some x ≡ option_filter p (lookup (is_at (stamp_cmp id)) all)
   passing_here = ap (λ b. cond b (Some x) None) (sym passes) ∙ ap (option_filter p) there
 
-  found_by : (q : StampValue) (b : Bool) → is_eq (stamp_cmp q name) ≡ b → (b ≡ false → lookup (is_at (stamp_cmp q)) new ≡ lookup (is_at (stamp_cmp q)) part → IsFound p all new q) → IsFound p all new q
-  found_by q true e f = looked q ∙ ap (λ b. cond b (Some x) (lookup (is_at (stamp_cmp q)) part)) e ∙ subst (λ n. Some x ≡ option_filter p (lookup (is_at (stamp_cmp n)) all)) (sym (tells_apart exact_stamp q name e)) passing_here
+  found_by : (q : StampValue) (b : Bool) → is_eq (stamp_cmp q id) ≡ b → (b ≡ false → lookup (is_at (stamp_cmp q)) new ≡ lookup (is_at (stamp_cmp q)) part → IsFound p all new q) → IsFound p all new q
+  found_by q true e f = looked q ∙ ap (λ b. cond b (Some x) (lookup (is_at (stamp_cmp q)) part)) e ∙ subst (λ n. Some x ≡ option_filter p (lookup (is_at (stamp_cmp n)) all)) (sym (tells_apart exact_stamp q id e)) passing_here
   found_by q false e f = f refl (looked q ∙ ap (λ b. cond b (Some x) (lookup (is_at (stamp_cmp q)) part)) e)
 
   pub still_found : (q : StampValue) → IsFound p all part q → IsFound p all new q
-  still_found q h = found_by q (is_eq (stamp_cmp q name)) refl (λ n e. e ∙ h)
+  still_found q h = found_by q (is_eq (stamp_cmp q id)) refl (λ n e. e ∙ h)
 
   pub still_part : IsPart p all part → IsPart p all new
-  still_part h q some = found_by q (is_eq (stamp_cmp q name)) refl (λ n e. e ∙ h q (λ none. some (e ∙ none)))
+  still_part h q some = found_by q (is_eq (stamp_cmp q id)) refl (λ n e. e ∙ h q (λ none. some (e ∙ none)))
 
-  pub found_here : IsFound p all new name
-  found_here = looked name ∙ ap (λ b. cond b (Some x) (lookup (is_at (stamp_cmp name)) part)) (ap is_eq (tied_itself stamp_total name)) ∙ passing_here
+  pub found_here : IsFound p all new id
+  found_here = looked id ∙ ap (λ b. cond b (Some x) (lookup (is_at (stamp_cmp id)) part)) (ap is_eq (tied_itself stamp_total id)) ∙ passing_here
 
 -- the last of changes that ascend has the greatest counter
 pub last_greatest : (xs : List Change) (n : ℕ) (e : Change) → IsNonDecreasingBy (λ (y : Change). y.counter) xs → n ≡ length xs → e ≡ slice_index_or xs (n - 1) e → All (λ (y : Change). y.counter ≤ e.counter) xs
@@ -126,12 +126,12 @@ has_moved xs ys x moved h =
 
 -- all that are among the changes are listed with them
 listed_each : (cs : List SiteValue) (rises sorted : List Rise) (jobs : List (StampValue × JobRecordValue)) → IsPermutation rises sorted → ((x : Rise) → Has sorted x → x.site < 16 → IsListed (site_at cs x.site) x.job x.counter)
-    → (name : StampValue) (r : JobRecordValue) → AreAmong rises jobs name r → IsRisen cs jobs name r
-listed_each cs rises sorted jobs moved noted name r among s small less = noted (record { counter = slice_index r.touched s; site = s; job = name }) (has_moved rises sorted _ moved (among s small less)) small
+    → (id : StampValue) (r : JobRecordValue) → AreAmong rises jobs id r → IsRisen cs jobs id r
+listed_each cs rises sorted jobs moved noted id r among s small less = noted (record { counter = slice_index r.touched s; site = s; job = id }) (has_moved rises sorted _ moved (among s small less)) small
 
 pub all_listed : (cs : List SiteValue) (rises sorted : List Rise) (jobs records : List (StampValue × JobRecordValue)) → IsPermutation rises sorted → ((x : Rise) → Has sorted x → x.site < 16 → IsListed (site_at cs x.site) x.job x.counter)
     → IsAtEach stamp_cmp (AreAmong rises jobs) records → AreRisen cs jobs records
-all_listed cs rises sorted jobs records moved noted among name = IfSome_then _ (among name) (λ r. listed_each cs rises sorted jobs moved noted name r)
+all_listed cs rises sorted jobs records moved noted among id = IfSome_then _ (among id) (λ r. listed_each cs rises sorted jobs moved noted id r)
 
 -- one change more of those that were found is listed
 pub noted_more : (cs ds : List SiteValue) (xs : List Rise) (i : ℕ) (x : Rise) → Keeps cs ds

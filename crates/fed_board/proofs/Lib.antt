@@ -8,8 +8,8 @@ pub mod BoardReads
 pub mod BoardKeeps
 pub mod CountLaws
 pub mod BoardReadings
-pub mod ListedNames
-pub mod CountedNames
+pub mod ListedIdentifiers
+pub mod CountedIdentifiers
 pub mod StandingBoards
 pub mod RecordJoins
 pub mod ChangeLists

@@ -32,31 +32,31 @@ listed_max c job j k n e left right = elim (cases_lt j k) [
 ]
 
 -- where no change up to a board's version need be listed
-below_floor : (cs : List SiteValue) (v : List ℕ) (name : StampValue) (r : JobRecordValue) → ((s : ℕ) → s < 16 → slice_index v s ≤ (site_at cs s).floor) → IsKnownJob v name r → (s : ℕ) → s < 16 → IsListed (site_at cs s) name (slice_index r.touched s)
-below_floor cs v name r after k s small =
+below_floor : (cs : List SiteValue) (v : List ℕ) (id : StampValue) (r : JobRecordValue) → ((s : ℕ) → s < 16 → slice_index v s ≤ (site_at cs s).floor) → IsKnownJob v id r → (s : ℕ) → s < 16 → IsListed (site_at cs s) id (slice_index r.touched s)
+below_floor cs v id r after k s small =
     let most : slice_index r.touched s ≤ slice_index v s = each_from_below r.touched v k.touched s in
     let low : slice_index v s ≤ (site_at cs s).floor = after s small in
-    listed_below (site_at cs s) name (slice_index r.touched s) (omega arith)
+    listed_below (site_at cs s) id (slice_index r.touched s) (omega arith)
 
 pub listed_after : (cs : List SiteValue) (b : BoardValue) → IsBoard b → ((s : ℕ) → s < 16 → slice_index b.version s ≤ (site_at cs s).floor) → AreListed cs b.jobs
-listed_after cs b i after name = IfSome_then _ (i.jobs name) (λ r. below_floor cs b.version name r after)
+listed_after cs b i after id = IfSome_then _ (i.jobs id) (λ r. below_floor cs b.version id r after)
 
 -- each job has a counter for each site
 pub counted : (b : BoardValue) → IsBoard b → IsAtEach stamp_cmp (λ job (r : JobRecordValue). length r.touched ≡ 16) b.jobs
-counted b i name = IfSome_then _ (i.jobs name) (λ (r : JobRecordValue) (k : IsKnownJob b.version name r). k.stamps.counters)
+counted b i id = IfSome_then _ (i.jobs id) (λ (r : JobRecordValue) (k : IsKnownJob b.version id r). k.stamps.counters)
 
 module _ (cs ds : List SiteValue) (kept : Keeps cs ds) (jobs : List (StampValue × JobRecordValue)) (listed : AreListed cs jobs) where
-  kept_each : (name : StampValue) (r : JobRecordValue) → ((s : ℕ) → s < 16 → IsListed (site_at cs s) name (slice_index r.touched s)) → (s : ℕ) → s < 16 → IsListed (site_at ds s) name (slice_index r.touched s)
-  kept_each name r h s small = kept s name (slice_index r.touched s) small (h s small)
+  kept_each : (id : StampValue) (r : JobRecordValue) → ((s : ℕ) → s < 16 → IsListed (site_at cs s) id (slice_index r.touched s)) → (s : ℕ) → s < 16 → IsListed (site_at ds s) id (slice_index r.touched s)
+  kept_each id r h s small = kept s id (slice_index r.touched s) small (h s small)
 
   pub still_listed : AreListed ds jobs
-  still_listed name = IfSome_then _ (listed name) (λ r. kept_each name r)
+  still_listed id = IfSome_then _ (listed id) (λ r. kept_each id r)
 
   -- also where the job is absent
-  value_listed : (name : StampValue) (s : ℕ) → s < 16 → IsListed (site_at ds s) name (slice_index (value_at stamp_cmp no_operation jobs name).touched s)
-  value_listed name s small = go (lookup (is_at (stamp_cmp name)) jobs) (still_listed name) where
-    go : (a : Option JobRecordValue) → IfSome a (λ r. (s : ℕ) → s < 16 → IsListed (site_at ds s) name (slice_index r.touched s)) → IsListed (site_at ds s) name (slice_index (unwrap_or a no_operation).touched s)
-    go None h = listed_below (site_at ds s) name _ (omega (arith, counter_of_zeros 16 s))
+  value_listed : (id : StampValue) (s : ℕ) → s < 16 → IsListed (site_at ds s) id (slice_index (value_at stamp_cmp no_operation jobs id).touched s)
+  value_listed id s small = go (lookup (is_at (stamp_cmp id)) jobs) (still_listed id) where
+    go : (a : Option JobRecordValue) → IfSome a (λ r. (s : ℕ) → s < 16 → IsListed (site_at ds s) id (slice_index r.touched s)) → IsListed (site_at ds s) id (slice_index (unwrap_or a no_operation).touched s)
+    go None h = listed_below (site_at ds s) id _ (omega (arith, counter_of_zeros 16 s))
     go (Some r) h = h s small
 
   -- after a change that is listed
@@ -64,7 +64,7 @@ module _ (cs ds : List SiteValue) (kept : Keeps cs ds) (jobs : List (StampValue 
       → (at job : StampValue) (op : Operation) → IsListed (site_at ds at.site) job at.counter → AreListed ds (applied_table stamp_cmp no_operation applied jobs at (job, op))
   applied_listed applied touched at job op here =
       let r : JobRecordValue = value_at stamp_cmp no_operation jobs job in
-      each_insert_entry stamp_cmp stamp_total exact_stamp (λ name (q : JobRecordValue). (s : ℕ) → s < 16 → IsListed (site_at ds s) name (slice_index q.touched s)) jobs job (applied r at op) still_listed
+      each_insert_entry stamp_cmp stamp_total exact_stamp (λ id (q : JobRecordValue). (s : ℕ) → s < 16 → IsListed (site_at ds s) id (slice_index q.touched s)) jobs job (applied r at op) still_listed
       (λ s small. subst (λ t. IsListed (site_at ds s) job (slice_index t s)) (sym (touched r at op)) (elim (raised_cases r.touched at s) [
         | inl same ↦ subst (IsListed (site_at ds s) job) (sym same) (value_listed job s small)
         | inr own ↦ listed_max (site_at ds s) job (slice_index r.touched s) at.counter _ own.1 (value_listed job s small) (λ less. subst (λ i. IsListed (site_at ds i) job at.counter) own.0 here)
@@ -74,14 +74,14 @@ module _ (cs ds : List SiteValue) (kept : Keeps cs ds) (jobs : List (StampValue 
   pub joined_listed : (join : JobRecordValue → List ℕ → JobRecordValue → List ℕ → JobRecordValue) → ((r q : JobRecordValue) (v w : List ℕ) → (join r v q w).touched ≡ joined r.touched q.touched)
       → (records : List (StampValue × JobRecordValue)) (v w : List ℕ) → AreRisen ds jobs records → AreListed ds (joined_entries stamp_cmp no_operation join jobs v records w)
   joined_listed join touched records v w risen =
-      each_joined_entries stamp_cmp stamp_total exact_stamp no_operation join jobs records v w (λ name (q : JobRecordValue). (s : ℕ) → s < 16 → IsListed (site_at ds s) name (slice_index q.touched s))
-      (λ name there s small.
-      let r : JobRecordValue = value_at stamp_cmp no_operation jobs name in
-      let q : JobRecordValue = value_at stamp_cmp no_operation records name in
-      subst (λ t. IsListed (site_at ds s) name (slice_index t s)) (sym (touched r q v w))
-      (listed_max (site_at ds s) name (slice_index r.touched s) (slice_index q.touched s) _ (counter_of_joined r.touched q.touched s) (value_listed name s small)
-      (theirs name (lookup (is_at (stamp_cmp name)) records) (risen name) there s small)))
+      each_joined_entries stamp_cmp stamp_total exact_stamp no_operation join jobs records v w (λ id (q : JobRecordValue). (s : ℕ) → s < 16 → IsListed (site_at ds s) id (slice_index q.touched s))
+      (λ id there s small.
+      let r : JobRecordValue = value_at stamp_cmp no_operation jobs id in
+      let q : JobRecordValue = value_at stamp_cmp no_operation records id in
+      subst (λ t. IsListed (site_at ds s) id (slice_index t s)) (sym (touched r q v w))
+      (listed_max (site_at ds s) id (slice_index r.touched s) (slice_index q.touched s) _ (counter_of_joined r.touched q.touched s) (value_listed id s small)
+      (theirs id (lookup (is_at (stamp_cmp id)) records) (risen id) there s small)))
       still_listed where
-        theirs : (name : StampValue) (a : Option JobRecordValue) → IfSome a (IsRisen ds jobs name) → is_some a ≡ true → IsRisen ds jobs name (unwrap_or a no_operation)
-        theirs name None h there = cc
-        theirs name (Some r) h there = h
+        theirs : (id : StampValue) (a : Option JobRecordValue) → IfSome a (IsRisen ds jobs id) → is_some a ≡ true → IsRisen ds jobs id (unwrap_or a no_operation)
+        theirs id None h there = cc
+        theirs id (Some r) h there = h

@@ -23,7 +23,7 @@ use Rattle.fed_board.specs.Board.{BoardValue, IsBoard, IsKnownJob, IsKnownReserv
 use Rattle.fed_theory.specs.ViewSteps.{join_records}
 use Rattle.fed_board.proofs.BoardKeeps.{joined_known, joined_known_reservation}
 use Rattle.fed_board.proofs.CoveredJobs.{later_covered}
-use Rattle.fed_board.proofs.ListedNames.{submitted_found}
+use Rattle.fed_board.proofs.ListedIdentifiers.{submitted_found}
 
 -- ---- beside a greater version
 kept_job : (v w : List ℕ) (job : StampValue) (r : JobRecordValue) → IsKnownJob v job r → IsKnownJob (joined v w) job r
@@ -35,10 +35,10 @@ kept_job v w job r k = record {
   stamps = k.stamps;
 }
 
-kept_reservation : (v w : List ℕ) (name : StampValue) (r : ReservationView) → IsKnownReservation v name r → IsKnownReservation (joined v w) name r
-kept_reservation v w name r k = record {
+kept_reservation : (v w : List ℕ) (id : StampValue) (r : ReservationView) → IsKnownReservation v id r → IsKnownReservation (joined v w) id r
+kept_reservation v w id r k = record {
   placed = k.placed;
-  named = covers_more v (joined v w) name (below_joined_left v w) k.named;
+  named = covers_more v (joined v w) id (below_joined_left v w) k.named;
   made = k.made;
   stamp = later_covered (λ latest. latest.0) v (joined v w) (λ s. covers_more v (joined v w) s (below_joined_left v w)) r k.stamp;
 }
@@ -59,43 +59,43 @@ module _ (join : JobRecordValue → List ℕ → JobRecordValue → List ℕ →
   pub with_records_keeps : IsBoard b → IsBoard c → IsBoard (with_records join b c)
   with_records_keeps i k = record {
     jobs = each_joined_entries stamp_cmp stamp_total exact_stamp no_operation join b.jobs c.jobs b.version c.version (IsKnownJob version)
-        (λ name e. joined_known join law b.version c.version name (lookup (is_at (stamp_cmp name)) b.jobs) (lookup (is_at (stamp_cmp name)) c.jobs) (i.jobs name) (k.jobs name) (or_right _ _ e))
-        (λ name. IfSome_then _ (i.jobs name) (λ r. kept_job b.version c.version name r));
+        (λ id e. joined_known join law b.version c.version id (lookup (is_at (stamp_cmp id)) b.jobs) (lookup (is_at (stamp_cmp id)) c.jobs) (i.jobs id) (k.jobs id) (or_right _ _ e))
+        (λ id. IfSome_then _ (i.jobs id) (λ r. kept_job b.version c.version id r));
     reservations = each_joined_entries stamp_cmp stamp_total exact_stamp None (λ x v y w. joined_registers option_window_cmp x y) b.reservations c.reservations b.version c.version (IsKnownReservation version)
-        (λ name e. joined_known_reservation join law b.version c.version name (lookup (is_at (stamp_cmp name)) b.reservations) (lookup (is_at (stamp_cmp name)) c.reservations) (i.reservations name) (k.reservations name) (or_right _ _ e))
-        (λ name. IfSome_then _ (i.reservations name) (λ r. kept_reservation b.version c.version name r));
+        (λ id e. joined_known_reservation join law b.version c.version id (lookup (is_at (stamp_cmp id)) b.reservations) (lookup (is_at (stamp_cmp id)) c.reservations) (i.reservations id) (k.reservations id) (or_right _ _ e))
+        (λ id. IfSome_then _ (i.reservations id) (λ r. kept_reservation b.version c.version id r));
   }
 
   abbrev old_job : StampValue → JobRecordValue
-  old_job name = value_at stamp_cmp no_operation b.jobs name
+  old_job id = value_at stamp_cmp no_operation b.jobs id
 
   abbrev new_job : StampValue → JobRecordValue
-  new_job name = value_at stamp_cmp no_operation c.jobs name
+  new_job id = value_at stamp_cmp no_operation c.jobs id
 
   abbrev job_by : Bool → StampValue → JobView
-  job_by t name = cond t (join_jobs b.version (job_reads (old_job name)) c.version (job_reads (new_job name))) (job_reads (old_job name))
+  job_by t id = cond t (join_jobs b.version (job_reads (old_job id)) c.version (job_reads (new_job id))) (job_reads (old_job id))
 
-  joined_job_read : IsBoard c → (name : StampValue) → job_reads (value_at stamp_cmp no_operation (with_records join b c).jobs name) ≡ job_by (is_submitted (job_reads (new_job name))) name
-  joined_job_read k name =
-      ap job_reads (value_at-joined_entries stamp_cmp stamp_total exact_stamp no_operation join b.jobs c.jobs b.version c.version name)
-      ∙ go (is_some (lookup (is_at (stamp_cmp name)) c.jobs))
-      ∙ ap (λ t. job_by t name) (sym (submitted_found c.version name (lookup (is_at (stamp_cmp name)) c.jobs) (k.jobs name)))
+  joined_job_read : IsBoard c → (id : StampValue) → job_reads (value_at stamp_cmp no_operation (with_records join b c).jobs id) ≡ job_by (is_submitted (job_reads (new_job id))) id
+  joined_job_read k id =
+      ap job_reads (value_at-joined_entries stamp_cmp stamp_total exact_stamp no_operation join b.jobs c.jobs b.version c.version id)
+      ∙ go (is_some (lookup (is_at (stamp_cmp id)) c.jobs))
+      ∙ ap (λ t. job_by t id) (sym (submitted_found c.version id (lookup (is_at (stamp_cmp id)) c.jobs) (k.jobs id)))
     where
-      go : (t : Bool) → job_reads (cond t (join (old_job name) b.version (new_job name) c.version) (old_job name)) ≡ job_by t name
-      go true = law (old_job name) (new_job name) b.version c.version
+      go : (t : Bool) → job_reads (cond t (join (old_job id) b.version (new_job id) c.version) (old_job id)) ≡ job_by t id
+      go true = law (old_job id) (new_job id) b.version c.version
       go false = refl
 
-  reservation_reads : (name : StampValue) → value_at stamp_cmp None (with_records join b c).reservations name ≡ joined_registers option_window_cmp (value_at stamp_cmp None b.reservations name) (value_at stamp_cmp None c.reservations name)
-  reservation_reads name =
-      value_at-joined_entries stamp_cmp stamp_total exact_stamp None (λ x v y w. joined_registers option_window_cmp x y) b.reservations c.reservations b.version c.version name
-      ∙ joined_none (is_some (lookup (is_at (stamp_cmp name)) c.reservations)) (value_at stamp_cmp None b.reservations name) (value_at stamp_cmp None c.reservations name) (lookup (is_at (stamp_cmp name)) c.reservations) refl refl
+  reservation_reads : (id : StampValue) → value_at stamp_cmp None (with_records join b c).reservations id ≡ joined_registers option_window_cmp (value_at stamp_cmp None b.reservations id) (value_at stamp_cmp None c.reservations id)
+  reservation_reads id =
+      value_at-joined_entries stamp_cmp stamp_total exact_stamp None (λ x v y w. joined_registers option_window_cmp x y) b.reservations c.reservations b.version c.version id
+      ∙ joined_none (is_some (lookup (is_at (stamp_cmp id)) c.reservations)) (value_at stamp_cmp None b.reservations id) (value_at stamp_cmp None c.reservations id) (lookup (is_at (stamp_cmp id)) c.reservations) refl refl
 
   pub with_records_reads : IsBoard c → board_reads (with_records join b c) ≡ join_records (board_reads b) (board_reads c)
   unfolding join_records
   with_records_reads k = λ i. record {
     version = version;
-    job = λ name. joined_job_read k name i;
-    reservation = λ name. reservation_reads name i;
+    job = λ id. joined_job_read k id i;
+    reservation = λ id. reservation_reads id i;
   }
 
   pub with_records_same : (now other : BoardValue) → b ≡ now → c ≡ other → with_records join b c ≡ with_records join now other

@@ -14,7 +14,7 @@ use Rattle.fed_model.specs.Body.{Body, Body.Submit, Body.Set, Body.Hold, Body.Re
 use Rattle.fed_record.specs.Operation.{has_site_pair, has_hold_pair}
 use Rattle.fed_theory.specs.JobSteps.{add_to_job, join_jobs}
 use Rattle.fed_model.specs.Letter.{any_below, has_site, is_submitted, letter}
-use Rattle.fed_model.specs.Names.{jobs_in, reservations_in}
+use Rattle.fed_model.specs.Identifiers.{jobs_in, reservations_in}
 use Rattle.fed_model.specs.View.{view}
 use Rattle.fed_theory.specs.ViewSteps.{add_to_view, join_views}
 
@@ -194,9 +194,9 @@ reserved_window = refl
 cancelled_window : (view (reserved ++ (at 2 1, Cancel (at 1 0)) ∷ [])).reservation (at 1 0) ≡ Some (at 2 1, None)
 cancelled_window = refl
 
--- ---- names in the order of their stamps
+-- ---- identifiers in the order of their stamps
 exchanged_jobs : jobs_in (view (there ++ here)) ≡ at 1 0 ∷ at 1 1 ∷ []
 exchanged_jobs = refl
 
-reserved_names : reservations_in (view (reserved ++ (at 2 1, Cancel (at 1 0)) ∷ [])) ≡ at 1 0 ∷ []
-reserved_names = refl
+reserved_ids : reservations_in (view (reserved ++ (at 2 1, Cancel (at 1 0)) ∷ [])) ≡ at 1 0 ∷ []
+reserved_ids = refl

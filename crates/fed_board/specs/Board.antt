@@ -42,10 +42,10 @@ abbrev pub board_reads : BoardValue → View
 board_reads b = record {
   version = b.version;
   job = λ job. job_reads (value_at stamp_cmp no_operation b.jobs job);
-  reservation = λ name. value_at stamp_cmp None b.reservations name;
+  reservation = λ id. value_at stamp_cmp None b.reservations id;
 }
 
--- of a board of the version: the job's name is of one of the 16 sites and is covered, the job is submitted, its
+-- of a board of the version: the job's identifier is of one of the 16 sites and is covered, the job is submitted, its
 -- operations are covered, and so is, by the version of its operations, every stamp and every tag that is read of it
 pub record IsKnownJob (version : List ℕ) (job : StampValue) (r : JobRecordValue) : Type 0 where
   pub placed : job.site < SITES
@@ -54,11 +54,11 @@ pub record IsKnownJob (version : List ℕ) (job : StampValue) (r : JobRecordValu
   pub touched : is_below r.touched version ≡ true
   pub stamps : IsCoveredJob (job_reads r)
 
--- the reservation's name is of one of the 16 sites and is covered, the reservation is made, and its greatest stamp is
--- covered
-pub record IsKnownReservation (version : List ℕ) (name : StampValue) (r : ReservationView) : Type 0 where
-  pub placed : name.site < SITES
-  pub named : covers version name ≡ true
+-- the reservation's identifier is of one of the 16 sites and is covered, the reservation is made, and its greatest
+-- stamp is covered
+pub record IsKnownReservation (version : List ℕ) (id : StampValue) (r : ReservationView) : Type 0 where
+  pub placed : id.site < SITES
+  pub named : covers version id ≡ true
   pub made : IsSome r
   pub stamp : IsCoveredRegister version r
 
@@ -72,7 +72,7 @@ abbrev pub HasJob : BoardValue → StampValue → Type 0
 HasJob b job = IsSome (lookup (is_at (stamp_cmp job)) b.jobs)
 
 abbrev pub HasReservation : BoardValue → StampValue → Type 0
-HasReservation b name = IsSome (lookup (is_at (stamp_cmp name)) b.reservations)
+HasReservation b id = IsSome (lookup (is_at (stamp_cmp id)) b.reservations)
 
 -- the job or the reservation that an operation is of is on the board, unless the operation makes it
 abbrev pub HasNamed : BoardValue → Body → Type 0
@@ -86,9 +86,9 @@ HasNamed b (HandBack job term) = HasJob b job
 HasNamed b (Begin job beginning) = HasJob b job
 HasNamed b (Finish job ending) = HasJob b job
 HasNamed b (Reserve window) = Unit {0}
-HasNamed b (Cancel name) = HasReservation b name
+HasNamed b (Cancel id) = HasReservation b id
 
--- what two boards merge to, where the records of a job join as said: at each name what the two boards have there,
+-- what two boards merge to, where the records of a job join as said: at each identifier what the two boards have there,
 -- each beside its version
 abbrev pub merged : (JobRecordValue → List ℕ → JobRecordValue → List ℕ → JobRecordValue) →
     BoardValue → BoardValue → BoardValue
@@ -99,8 +99,8 @@ merged join_records b c = record {
       b.reservations b.version c.reservations c.version;
 }
 
--- the board with the records of another: at each name that the other board has, what the two boards merge to there, and
--- at every other name what was there
+-- the board with the records of another: at each identifier that the other board has, what the two boards merge to
+-- there, and at every other identifier what was there
 abbrev pub with_records : (JobRecordValue → List ℕ → JobRecordValue → List ℕ → JobRecordValue) →
     BoardValue → BoardValue → BoardValue
 with_records join_two b c = record {
@@ -121,10 +121,10 @@ changed_job applied b at op job = record {
 
 -- the board with a change of one reservation
 abbrev pub changed_reservation : BoardValue → StampValue → Operation → StampValue → BoardValue
-changed_reservation b at op name = record {
+changed_reservation b at op id = record {
   version = raised b.version at;
   jobs = b.jobs;
   reservations = applied_table stamp_cmp None
       (λ r s c. joined_registers option_window_cmp r (with_stamp s (window_change c)))
-      b.reservations at (name, op);
+      b.reservations at (id, op);
 }

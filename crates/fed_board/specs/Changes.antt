@@ -62,14 +62,14 @@ is_later need r = not (is_below r.touched need)
 
 -- ---- tables of the entries that pass a test
 module _ {X : Type 0} (p : X → Bool) (all part : List (StampValue × X)) where
-  -- the value at the name, where it passes
+  -- the value at the identifier, where it passes
   abbrev pub passing : StampValue → Option X
-  passing name = option_filter p (lookup (is_at (stamp_cmp name)) all)
+  passing id = option_filter p (lookup (is_at (stamp_cmp id)) all)
 
-  -- the part has at the name what it is to have
+  -- the part has at the identifier what it is to have
   abbrev pub IsFound : StampValue → Type 0
-  IsFound name = lookup (is_at (stamp_cmp name)) part ≡ passing name
+  IsFound id = lookup (is_at (stamp_cmp id)) part ≡ passing id
 
   -- wherever the part has anything
   abbrev pub IsPart : Type 0
-  IsPart = (name : StampValue) → lookup (is_at (stamp_cmp name)) part ≢ None → IsFound name
+  IsPart = (id : StampValue) → lookup (is_at (stamp_cmp id)) part ≢ None → IsFound id

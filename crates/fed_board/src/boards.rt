@@ -19,13 +19,13 @@ ghost use Rattle.fed_record.specs.Operation.{body_of};
 ghost use Rattle.fed_model.specs.Reservation.{ReservationView};
 ghost use Rattle.fed_board.specs.Board.{IsBoard, HasNamed, board_reads, merged, with_records, changed_job, changed_reservation};
 ghost use Rattle.fed_board.specs.Changes.{is_later};
-ghost use Rattle.fed_board.specs.Counts.{names_of};
+ghost use Rattle.fed_board.specs.Counts.{ids_of};
 ghost use Rattle.fed_model.specs.Lawful.{IsLawful, AreKin};
-ghost use Rattle.fed_model.specs.Names.{jobs_in, reservations_in};
+ghost use Rattle.fed_model.specs.Identifiers.{jobs_in, reservations_in};
 ghost use Rattle.fed_model.specs.View.{view};
 ghost use Rattle.fed_theory.specs.ViewSteps.{add_to_view, join_views, join_records};
 
-use crate::counts::{change_at, count_more, count_names};
+use crate::counts::{change_at, count_ids, count_more};
 use crate::noting::{changed_after, forget_all, none_after, note_at, note_records};
 use crate::records::Records;
 use crate::site_changes::SiteChanges;
@@ -96,8 +96,8 @@ impl Board {
             alloc,
             changes: none_after(alloc, &version),
             version,
-            job_counts: count_names(&jobs),
-            reservation_counts: count_names(&reservations),
+            job_counts: count_ids(&jobs),
+            reservation_counts: count_ids(&reservations),
             jobs,
             reservations,
         }
@@ -131,7 +131,7 @@ impl Board {
         ensures submitted { All (λ r. IsTrue (is_submitted (job_reads r))) (values_of self.now.jobs) }
         ensures all { (job : StampValue) →
             Has (keys_of self.now.jobs) job ↔ IsTrue (is_submitted ((board_reads self.now).job job)) }
-        ensures names { keys_of self.now.jobs ≡ jobs_in (board_reads self.now) }
+        ensures ids { keys_of self.now.jobs ≡ jobs_in (board_reads self.now) }
         ensures well_formed { All ⟦<JobRecord as Causal>⟧.well_formed (values_of self.now.jobs) }
     {
         self.jobs.iter()
@@ -149,12 +149,12 @@ impl Board {
 
     /// The reservation that was made under the stamp, or `None` where it is not on the board. A reservation on a board
     /// is made.
-    pub fn reservation(&self, name: Stamp) -> Option<&Reservation>
-        ensures value { option_copied result ≡ lookup (is_at (stamp_cmp name)) self.now.reservations }
-        ensures reads { MatchOption (option_copied result) ((board_reads self.now).reservation name ≡ None)
-            (λ r. (r ≡ (board_reads self.now).reservation name) × IsSome r) }
+    pub fn reservation(&self, id: Stamp) -> Option<&Reservation>
+        ensures value { option_copied result ≡ lookup (is_at (stamp_cmp id)) self.now.reservations }
+        ensures reads { MatchOption (option_copied result) ((board_reads self.now).reservation id ≡ None)
+            (λ r. (r ≡ (board_reads self.now).reservation id) × IsSome r) }
     {
-        self.reservations.get(name)
+        self.reservations.get(id)
     }
 
     /// The reservations on the board, in ascending order of the stamps of their Reserves. They are exactly those that
@@ -164,16 +164,16 @@ impl Board {
         ensures runs { ShowsInOrder (deref_pair {K = StampValue} {X = ReservationView}) }
         ensures ascending { IsStrictlySortedBy stamp_cmp (keys_of self.now.reservations) }
         ensures made { All IsSome (values_of self.now.reservations) }
-        ensures all { (name : StampValue) →
-            Has (keys_of self.now.reservations) name ↔ IsSome ((board_reads self.now).reservation name) }
-        ensures names { keys_of self.now.reservations ≡ reservations_in (board_reads self.now) }
+        ensures all { (id : StampValue) →
+            Has (keys_of self.now.reservations) id ↔ IsSome ((board_reads self.now).reservation id) }
+        ensures ids { keys_of self.now.reservations ≡ reservations_in (board_reads self.now) }
     {
         self.reservations.iter()
     }
 
     /// How many jobs on the board were submitted at the site. It takes the same time however many there are.
     pub fn job_count(&self, site: SiteId) -> u64
-        ensures { result ≡ names_of site (keys_of self.now.jobs) }
+        ensures { result ≡ ids_of site (keys_of self.now.jobs) }
     {
         self.job_counts[site.get() as usize]
     }
@@ -181,7 +181,7 @@ impl Board {
     /// How many reservations on the board were made at the site, those that are cancelled among them. It takes the same
     /// time however many there are.
     pub fn reservation_count(&self, site: SiteId) -> u64
-        ensures { result ≡ names_of site (keys_of self.now.reservations) }
+        ensures { result ≡ ids_of site (keys_of self.now.reservations) }
     {
         self.reservation_counts[site.get() as usize]
     }
@@ -229,19 +229,19 @@ impl Board {
     // Changes the reservation that the operation is of.
     fn change_reservation(
         &mut self,
-        name: Stamp,
+        id: Stamp,
         at: Stamp,
         operation: &Operation,
     ) -> Result<(), NoMemory>
-        requires of { reservation_of at (body_of operation.now) ≡ Some name }
+        requires of { reservation_of at (body_of operation.now) ≡ Some id }
         requires named { HasNamed self.old (body_of operation.now) }
-        ensures changed { OnOk result (self.new ≡ changed_reservation self.old at operation.now name) }
+        ensures changed { OnOk result (self.new ≡ changed_reservation self.old at operation.now id) }
         ensures unchanged { OnErr result (self.new ≡ self.old) }
     {
         change_at(
             &mut self.reservations,
             &mut self.reservation_counts,
-            name,
+            id,
             at,
             operation,
         )?;
@@ -299,8 +299,8 @@ impl Board {
         let reservations = self
             .reservations
             .join(&self.version, &other.reservations, &other.version)?;
-        self.job_counts = count_names(&jobs);
-        self.reservation_counts = count_names(&reservations);
+        self.job_counts = count_ids(&jobs);
+        self.reservation_counts = count_ids(&reservations);
         self.jobs = jobs;
         self.reservations = reservations;
         self.version = self.version.join(&other.version);

@@ -1,4 +1,4 @@
-//! How many names each site gave.
+//! How many identifiers each site gave.
 ghost use Rattle.std.specs.Prelude.{◌≡◌, ◌<◌, ℕ, slice_index, OnOk, OnErr};
 ghost use Rattle.std.specs.Map.{keys_of};
 ghost use Rattle.fed_lattice.specs.Latest.{stamp_cmp};
@@ -9,55 +9,55 @@ use fed_lattice::{Causal, NoMemory, Table, table_is_countable};
 use fed_record::Operation;
 use fed_stamp::{SITES, Stamp};
 
-/// For each site the number of the table's names that it gave.
-pub(crate) fn count_names<V: Causal + Drop>(table: &Table<Stamp, V>) -> [u64; SITES]
+/// For each site the number of the table's identifiers that it gave.
+pub(crate) fn count_ids<V: Causal + Drop>(table: &Table<Stamp, V>) -> [u64; SITES]
     ensures { AreCounts result (keys_of table.now) }
 {
     table_is_countable(table);
     let mut counts = [0; SITES];
-    for (name, _value) in table.iter() {
-        counts[name.site().get() as usize] += 1;
+    for (id, _value) in table.iter() {
+        counts[id.site().get() as usize] += 1;
     }
     counts
 }
 
-/// The counts, with these names counted too, which are the names of the table that were not counted yet.
+/// The counts, with these identifiers counted too, which are the identifiers of the table that were not counted yet.
 pub(crate) fn count_more<V: Causal + Drop>(
     counts: [u64; SITES],
-    names: &[Stamp],
+    ids: &[Stamp],
     table: &Table<Stamp, V>,
 ) -> [u64; SITES]
-    requires { AreCounting counts names.now (keys_of table.now) }
+    requires { AreCounting counts ids.now (keys_of table.now) }
     ensures { AreCounts result (keys_of table.now) }
 {
     table_is_countable(table);
     let mut more = counts;
-    for name in names {
-        more[name.site().get() as usize] += 1;
+    for id in ids {
+        more[id.site().get() as usize] += 1;
     }
     more
 }
 
-/// Changes the value at the name by the operation with the stamp `at`, and counts the name where it is new. On an error
-/// both are as before.
+/// Changes the value at the identifier by the operation with the stamp `at`, and counts the identifier where it is
+/// new. On an error both are as before.
 pub(crate) fn change_at<V: Causal<Change = Operation> + Drop>(
     table: &mut Table<Stamp, V>,
     counts: &mut [u64; SITES],
-    name: Stamp,
+    id: Stamp,
     at: Stamp,
     operation: &Operation,
 ) -> Result<(), NoMemory>
     requires { AreCounts counts.old (keys_of table.old) }
     ensures applied { OnOk result
-        (table.new ≡ applied_table stamp_cmp V.bottom V.applied table.old at (name, operation.now)) }
+        (table.new ≡ applied_table stamp_cmp V.bottom V.applied table.old at (id, operation.now)) }
     ensures counted { OnOk result (AreCounts counts.new (keys_of table.new)) }
     ensures unchanged { OnErr result (table.new ≡ table.old) }
     ensures uncounted { OnErr result (counts.new ≡ counts.old) }
 {
     let before = table.len();
-    table.apply_at(name, at, operation)?;
+    table.apply_at(id, at, operation)?;
     if table.len() > before {
-        counts[name.site().get() as usize] += 1;
+        counts[id.site().get() as usize] += 1;
     }
     Ok(())
 }

@@ -4,7 +4,7 @@ ghost use Rattle.std.specs.Prelude.{◌≡◌, All};
 ghost use Rattle.std.specs.List.Sorted.{IsStrictlySortedBy};
 ghost use Rattle.std.specs.Map.{keys_of, values_of};
 ghost use Rattle.fed_lattice.specs.Latest.{stamp_cmp};
-ghost use Rattle.fed_model.specs.Names.{jobs_in, reservations_in};
+ghost use Rattle.fed_model.specs.Identifiers.{jobs_in, reservations_in};
 ghost use Rattle.fed_board.specs.Board.{IsBoard, board_reads};
 
 use crate::boards::Board;

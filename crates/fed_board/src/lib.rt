@@ -7,7 +7,7 @@ pub mod boards;
 mod changed_jobs;
 /// Which job a change was of.
 mod changes;
-/// How many names each site gave.
+/// How many identifiers each site gave.
 pub mod counts;
 /// Facts that the types keep.
 pub mod facts;

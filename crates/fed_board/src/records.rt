@@ -10,7 +10,7 @@ ghost use Rattle.fed_record.specs.JobRecord.{JobRecordValue, job_reads};
 ghost use Rattle.fed_model.specs.Letter.{is_submitted};
 ghost use Rattle.fed_model.specs.Reservation.{ReservationView};
 ghost use Rattle.fed_board.specs.Board.{IsBoard, board_reads};
-ghost use Rattle.fed_model.specs.Names.{jobs_in, reservations_in};
+ghost use Rattle.fed_model.specs.Identifiers.{jobs_in, reservations_in};
 
 use crate::boards::is_same;
 use fed_lattice::{Causal, Entries, Table, table_is_well_formed};
@@ -18,8 +18,9 @@ use fed_record::{JobRecord, Reservation};
 use fed_stamp::{JobId, Stamp, Version};
 use std::marker::Model;
 
-/// Records that a board of the version may have: some of its jobs and reservations, or all. They are seen as that board,
-/// and can be joined into another; what a board keeps besides, counts of names and lists of changes, they have not.
+/// Records that a board of the version may have: some of its jobs and reservations, or all. They are seen as that
+/// board, and can be joined into another; what a board keeps besides, counts of identifiers and lists of changes,
+/// they have not.
 #[derive(Drop)]
 pub struct Records {
     pub(crate) version: Version,
@@ -69,7 +70,7 @@ impl Records {
         ensures runs { ShowsInOrder (deref_pair {K = StampValue} {X = JobRecordValue}) }
         ensures ascending { IsStrictlySortedBy stamp_cmp (keys_of self.now.jobs) }
         ensures submitted { All (λ r. IsTrue (is_submitted (job_reads r))) (values_of self.now.jobs) }
-        ensures names { keys_of self.now.jobs ≡ jobs_in (board_reads self.now) }
+        ensures ids { keys_of self.now.jobs ≡ jobs_in (board_reads self.now) }
         ensures well_formed { All ⟦<JobRecord as Causal>⟧.well_formed (values_of self.now.jobs) }
     {
         self.jobs.iter()
@@ -81,7 +82,7 @@ impl Records {
         ensures runs { ShowsInOrder (deref_pair {K = StampValue} {X = ReservationView}) }
         ensures ascending { IsStrictlySortedBy stamp_cmp (keys_of self.now.reservations) }
         ensures made { All IsSome (values_of self.now.reservations) }
-        ensures names { keys_of self.now.reservations ≡ reservations_in (board_reads self.now) }
+        ensures ids { keys_of self.now.reservations ≡ reservations_in (board_reads self.now) }
     {
         self.reservations.iter()
     }

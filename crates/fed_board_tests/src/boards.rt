@@ -85,8 +85,8 @@ fn both_submitted(rt: &(impl Abort + AllocGlobal), first: Stamp, second: Stamp) 
 }
 
 /// Whether the jobs of the board are these two, in this order.
-pub(crate) fn has_jobs(board: &Board, names: [Stamp; 2]) -> bool {
-    board.jobs().map(|(name, _record)| *name).eq(names)
+pub(crate) fn has_jobs(board: &Board, ids: [Stamp; 2]) -> bool {
+    board.jobs().map(|(id, _record)| *id).eq(ids)
 }
 
 #[test]
@@ -195,13 +195,13 @@ pub(crate) fn window(site: SiteId) -> Window {
     }
 }
 
-/// A board with one reservation, which has this name.
-pub(crate) fn reserved(rt: &(impl Abort + AllocGlobal), name: Stamp) -> Board {
-    let window = window(name.site());
+/// A board with one reservation, which has this identifier.
+pub(crate) fn reserved(rt: &(impl Abort + AllocGlobal), id: Stamp) -> Board {
+    let window = window(id.site());
     after(
         rt,
         &Board::new(rt.alloc()),
-        name,
+        id,
         &Operation::Reserve { window },
     )
 }
@@ -213,20 +213,20 @@ fn first_reservation(board: &Board) -> Option<Reservation> {
 
 #[test]
 fn reservations_are_made(rt: HostRuntime) {
-    let name = stamp(1, 2);
-    let made = Reservation::from_parts(name, Some(window(name.site())));
-    let board = reserved(&rt, name);
-    assert!(rt; board.reservation(name).copied() == Some(made));
+    let id = stamp(1, 2);
+    let made = Reservation::from_parts(id, Some(window(id.site())));
+    let board = reserved(&rt, id);
+    assert!(rt; board.reservation(id).copied() == Some(made));
 }
 
 #[test]
 fn reservations_stand_until_cancelled(rt: HostRuntime) {
-    let name = stamp(1, 2);
+    let id = stamp(1, 2);
     let at = stamp(2, 2);
     let last = Reservation::from_parts(at, None);
-    let a = reserved(&rt, name);
-    let b = after(&rt, &a, at, &Operation::Cancel { reservation: name });
+    let a = reserved(&rt, id);
+    let b = after(&rt, &a, at, &Operation::Cancel { reservation: id });
     let both = merged(&rt, &a, &b);
     assert!(rt; first_reservation(&both) == Some(last));
-    assert!(rt; both.reservation_count(name.site()) == 1);
+    assert!(rt; both.reservation_count(id.site()) == 1);
 }

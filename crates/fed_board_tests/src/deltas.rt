@@ -31,7 +31,7 @@ fn taken_whole(rt: &(impl Abort + AllocGlobal), board: &Board) -> Board {
     passed(rt, board, &Version::default(), &Board::new(rt.alloc()))
 }
 
-/// The names of the first two jobs that are told.
+/// The identifiers of the first two jobs that are told.
 fn first_jobs(news: &Delta) -> [Option<Stamp>; 2] {
     let mut jobs = news.jobs();
     let first = jobs.next().map(|(job, _record)| *job);
@@ -129,28 +129,28 @@ fn release_alone_is_taken(rt: HostRuntime) {
 }
 
 /// A board with a held job that has taken in a board with a reservation and no more.
-fn beside(rt: &(impl Abort + AllocGlobal), job: Stamp, name: Stamp) -> Board {
+fn beside(rt: &(impl Abort + AllocGlobal), job: Stamp, id: Stamp) -> Board {
     let board = submitted(rt, job, true);
-    let other = reserved(rt, name);
+    let other = reserved(rt, id);
     passed(rt, &other, &board.version(), &board)
 }
 
 #[test]
 fn what_the_sender_has_not_touched_stays(rt: HostRuntime) {
     let job = stamp(1, 0);
-    let name = stamp(1, 2);
-    let board = beside(&rt, job, name);
+    let id = stamp(1, 2);
+    let board = beside(&rt, job, id);
     assert!(rt; letter(&board, job) == Some(Letter::Held));
     assert!(rt; board.job_count(job.site()) == 1);
-    assert!(rt; board.reservation_count(name.site()) == 1);
+    assert!(rt; board.reservation_count(id.site()) == 1);
 }
 
 #[test]
 fn reservations_are_taken_in(rt: HostRuntime) {
-    let name = stamp(1, 2);
-    let board = beside(&rt, stamp(1, 0), name);
-    let made = Reservation::from_parts(name, Some(window(name.site())));
-    assert!(rt; board.reservation(name).copied() == Some(made));
+    let id = stamp(1, 2);
+    let board = beside(&rt, stamp(1, 0), id);
+    let made = Reservation::from_parts(id, Some(window(id.site())));
+    assert!(rt; board.reservation(id).copied() == Some(made));
 }
 
 /// Adds an operation whose stamp is the next of the site.

@@ -34,53 +34,53 @@ joined_none (Some latest) = refl
 
 module _ (ops others : History Body) (kin : AreKin ops others) (need : List ℕ) (below : is_below need (version_of ops) ≡ true) where
   abbrev mine : StampValue → JobView
-  mine name = (view ops).job name
+  mine id = (view ops).job id
 
   abbrev theirs : StampValue → JobView
-  theirs name = (view others).job name
+  theirs id = (view others).job id
 
   abbrev joined_if : Bool → StampValue → JobView → JobView
-  joined_if b name j = cond b (join_jobs (version_of ops) (mine name) (version_of others) j) (mine name)
+  joined_if b id j = cond b (join_jobs (version_of ops) (mine id) (version_of others) j) (mine id)
 
-  union_job : (name : StampValue) → (view (ops ++ others)).job name ≡ join_jobs (version_of ops) (mine name) (version_of others) (theirs name)
+  union_job : (id : StampValue) → (view (ops ++ others)).job id ≡ join_jobs (version_of ops) (mine id) (version_of others) (theirs id)
   unfolding join_views
-  union_job name = ap (λ (v : View). v.job name) (view_union ops others kin)
+  union_job id = ap (λ (v : View). v.job id) (view_union ops others kin)
 
-  union_reservation : (name : StampValue) → (view (ops ++ others)).reservation name ≡ joined_registers option_window_cmp ((view ops).reservation name) ((view others).reservation name)
+  union_reservation : (id : StampValue) → (view (ops ++ others)).reservation id ≡ joined_registers option_window_cmp ((view ops).reservation id) ((view others).reservation id)
   unfolding join_views
-  union_reservation name = ap (λ (v : View). v.reservation name) (view_union ops others kin)
+  union_reservation id = ap (λ (v : View). v.reservation id) (view_union ops others kin)
 
   union_version : (view (ops ++ others)).version ≡ joined (version_of ops) (version_of others)
   unfolding join_views
   union_version = ap (λ (v : View). v.version) (view_union ops others kin)
 
-  job_known : (name : StampValue) → is_changed_job need (theirs name) ≡ false → (view (ops ++ others)).job name ≡ mine name
-  job_known name e = untouched_job ops others kin name (below_trans (theirs name).touched need (version_of ops) (not-false (is_below (theirs name).touched need) e) below)
+  job_known : (id : StampValue) → is_changed_job need (theirs id) ≡ false → (view (ops ++ others)).job id ≡ mine id
+  job_known id e = untouched_job ops others kin id (below_trans (theirs id).touched need (version_of ops) (not-false (is_below (theirs id).touched need) e) below)
 
   -- a job that was touched is submitted
-  job_submitted : (name : StampValue) → is_changed_job need (theirs name) ≡ true → is_submitted (theirs name) ≡ true
-  job_submitted name e = go (is_submitted (theirs name)) refl where
-    go : (b : Bool) → is_submitted (theirs name) ≡ b → is_submitted (theirs name) ≡ true
+  job_submitted : (id : StampValue) → is_changed_job need (theirs id) ≡ true → is_submitted (theirs id) ≡ true
+  job_submitted id e = go (is_submitted (theirs id)) refl where
+    go : (b : Bool) → is_submitted (theirs id) ≡ b → is_submitted (theirs id) ≡ true
     go true i = i
-    go false i = absurd (let f : false ≡ true = sym (ap not (ap (λ (j : JobView). is_below j.touched need) (unknown_view others name kin.right i) ∙ zeros_below 16 need)) ∙ e in cc)
+    go false i = absurd (let f : false ≡ true = sym (ap not (ap (λ (j : JobView). is_below j.touched need) (unknown_view others id kin.right i) ∙ zeros_below 16 need)) ∙ e in cc)
 
-  job_joined : (name : StampValue) (c : Bool) → is_changed_job need (theirs name) ≡ c → joined_if (is_submitted (cond c (theirs name) (job_view []))) name (cond c (theirs name) (job_view [])) ≡ (view (ops ++ others)).job name
-  job_joined name true e = ap (λ b. joined_if b name (theirs name)) (job_submitted name e) ∙ sym (union_job name)
-  job_joined name false e = sym (job_known name e)
+  job_joined : (id : StampValue) (c : Bool) → is_changed_job need (theirs id) ≡ c → joined_if (is_submitted (cond c (theirs id) (job_view []))) id (cond c (theirs id) (job_view [])) ≡ (view (ops ++ others)).job id
+  job_joined id true e = ap (λ b. joined_if b id (theirs id)) (job_submitted id e) ∙ sym (union_job id)
+  job_joined id false e = sym (job_known id e)
 
-  reservation_joined : (name : StampValue) (c : Bool) → is_changed_reservation need ((view others).reservation name) ≡ c
-      → joined_registers option_window_cmp ((view ops).reservation name) (cond c ((view others).reservation name) None) ≡ (view (ops ++ others)).reservation name
-  reservation_joined name true e = sym (union_reservation name)
-  reservation_joined name false e =
-      joined_none ((view ops).reservation name)
-      ∙ sym (covered_reservation ops others kin name (later_covered (λ latest. latest.0) need (version_of ops) (λ s. covers_more need (version_of ops) s below) ((view others).reservation name) (covered need ((view others).reservation name) e)))
+  reservation_joined : (id : StampValue) (c : Bool) → is_changed_reservation need ((view others).reservation id) ≡ c
+      → joined_registers option_window_cmp ((view ops).reservation id) (cond c ((view others).reservation id) None) ≡ (view (ops ++ others)).reservation id
+  reservation_joined id true e = sym (union_reservation id)
+  reservation_joined id false e =
+      joined_none ((view ops).reservation id)
+      ∙ sym (covered_reservation ops others kin id (later_covered (λ latest. latest.0) need (version_of ops) (λ s. covers_more need (version_of ops) s below) ((view others).reservation id) (covered need ((view others).reservation id) e)))
 
   cut_joins : join_records (view ops) (cut (view others) need) ≡ view (ops ++ others)
   unfolding join_records cut
   cut_joins = λ i. record {
     version = sym union_version i;
-    job = λ name. job_joined name (is_changed_job need (theirs name)) refl i;
-    reservation = λ name. reservation_joined name (is_changed_reservation need ((view others).reservation name)) refl i;
+    job = λ id. job_joined id (is_changed_job need (theirs id)) refl i;
+    reservation = λ id. reservation_joined id (is_changed_reservation need ((view others).reservation id)) refl i;
   }
 
   pub stands_absorbed : (v w u : View) → u ≡ join_records v w → v ≡ view ops → w ≡ cut (view others) need → u ≡ view (ops ++ others)

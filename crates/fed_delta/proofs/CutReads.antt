@@ -18,8 +18,8 @@ use Rattle.fed_delta.specs.Cut.{is_changed_job, is_changed_reservation, cut}
 
 -- ---- entries whose values pass a test
 module _ {X : Type 0} (p : X → Bool) (es : List (StampValue × X)) (s : IsStrictlySortedBy stamp_cmp (keys_of es)) where
-  lookup-changed : (name : StampValue) → lookup (is_at (stamp_cmp name)) (filter (λ e. p e.1) es) ≡ option_filter p (lookup (is_at (stamp_cmp name)) es)
-  lookup-changed name = lookup-filter-values (eq_by_cmp_equiv stamp_total) p name es (IsDistinct-from_sorted stamp_cmp (keys_of es) s)
+  lookup-changed : (id : StampValue) → lookup (is_at (stamp_cmp id)) (filter (λ e. p e.1) es) ≡ option_filter p (lookup (is_at (stamp_cmp id)) es)
+  lookup-changed id = lookup-filter-values (eq_by_cmp_equiv stamp_total) p id es (IsDistinct-from_sorted stamp_cmp (keys_of es) s)
 
   still : (P : X → Type 0) (a : Option X) → IfSome a P → IfSome (option_filter p a) P
   still P None h = tt
@@ -29,7 +29,7 @@ module _ {X : Type 0} (p : X → Bool) (es : List (StampValue × X)) (s : IsStri
     go false = tt
 
   pub each_changed : (P : StampValue → X → Type 0) → IsAtEach stamp_cmp P es → IsAtEach stamp_cmp P (filter (λ e. p e.1) es)
-  each_changed P h name = subst (λ a. IfSome a (P name)) (sym (lookup-changed name)) (still (P name) (lookup (is_at (stamp_cmp name)) es) (h name))
+  each_changed P h id = subst (λ a. IfSome a (P id)) (sym (lookup-changed id)) (still (P id) (lookup (is_at (stamp_cmp id)) es) (h id))
 
 -- ---- what is read of them
 same_both : {A : Type 0} (b : Bool) (x : A) → x ≡ cond b x x
@@ -66,24 +66,24 @@ module _ (need : List ℕ) (b : BoardValue) (s : IsStrictlySortedBy stamp_cmp (k
     reservations = each_changed (is_changed_reservation need) b.reservations t (IsKnownReservation b.version) i.reservations;
   }
 
-  changed_job_read : (name : StampValue) → job_reads (value_at stamp_cmp no_operation changes.jobs name)
-      ≡ cond (is_changed_job need (job_reads (value_at stamp_cmp no_operation b.jobs name))) (job_reads (value_at stamp_cmp no_operation b.jobs name)) (job_view [])
-  changed_job_read name =
-      ap (λ a. job_reads (unwrap_or a no_operation)) (lookup-changed (λ r. is_changed_job need (job_reads r)) b.jobs s name)
-      ∙ job_changed need (lookup (is_at (stamp_cmp name)) b.jobs)
+  changed_job_read : (id : StampValue) → job_reads (value_at stamp_cmp no_operation changes.jobs id)
+      ≡ cond (is_changed_job need (job_reads (value_at stamp_cmp no_operation b.jobs id))) (job_reads (value_at stamp_cmp no_operation b.jobs id)) (job_view [])
+  changed_job_read id =
+      ap (λ a. job_reads (unwrap_or a no_operation)) (lookup-changed (λ r. is_changed_job need (job_reads r)) b.jobs s id)
+      ∙ job_changed need (lookup (is_at (stamp_cmp id)) b.jobs)
 
-  reservation_reads : (name : StampValue) → value_at stamp_cmp None changes.reservations name
-      ≡ cond (is_changed_reservation need (value_at stamp_cmp None b.reservations name)) (value_at stamp_cmp None b.reservations name) None
-  reservation_reads name =
-      ap (λ a. unwrap_or a None) (lookup-changed (is_changed_reservation need) b.reservations t name)
-      ∙ reservation_changed need (lookup (is_at (stamp_cmp name)) b.reservations)
+  reservation_reads : (id : StampValue) → value_at stamp_cmp None changes.reservations id
+      ≡ cond (is_changed_reservation need (value_at stamp_cmp None b.reservations id)) (value_at stamp_cmp None b.reservations id) None
+  reservation_reads id =
+      ap (λ a. unwrap_or a None) (lookup-changed (is_changed_reservation need) b.reservations t id)
+      ∙ reservation_changed need (lookup (is_at (stamp_cmp id)) b.reservations)
 
   changes_read : board_reads changes ≡ cut (board_reads b) need
   unfolding cut
   changes_read = λ i. record {
     version = b.version;
-    job = λ name. changed_job_read name i;
-    reservation = λ name. reservation_reads name i;
+    job = λ id. changed_job_read id i;
+    reservation = λ id. reservation_reads id i;
   }
 
   -- the board that is made of them

@@ -28,7 +28,7 @@ use Rattle.fed_board.specs.Board.{IsKnownJob}
 use Rattle.fed_board.specs.CoveredJob.{AreCoveredPairs, IsCoveredAt}
 use Rattle.fed_delta.specs.Parts.{covers_at, covers_fields, covers_stages}
 
--- ---- what stands at each name, entry by entry
+-- ---- what stands at each identifier, entry by entry
 module _ {X : Type 0} (P : StampValue → X → Type 0) where
   abbrev pub AreAll : List (StampValue × X) → Type 0
   AreAll es = AllByRecursion (λ (e : StampValue × X). P e.0 e.1) es
@@ -90,15 +90,15 @@ live_pairs : {E : Type 0} (cmp : E → E → Ordering) → IsTotalOrder cmp → 
     → AreCoveredPairs v (λ element tag. has (pair_cmp cmp) ps (element, tag))
 live_pairs cmp o exact v ps covered element tag live = (covered (element, tag) (member (pair_cmp cmp) (pair_total cmp o) (exact_pair cmp exact) (element, tag) ps live)).1
 
-module _ (version t : List ℕ) (name : StampValue) (r : JobRecordValue) (same : t ≡ r.touched) where
+module _ (version t : List ℕ) (id : StampValue) (r : JobRecordValue) (same : t ≡ r.touched) where
   abbrev covered_fields : List ℕ → Bool
   covered_fields v = covers_fields v (job_reads r)
 
   abbrev covered_stages : List ℕ → Bool
   covered_stages v = covers_stages v (job_reads r)
 
-  pub known_job : name.site < 16 → covers version name ≡ true → is_below t version ≡ true → is_submitted (job_reads r) ≡ true → IsVersion t → AreCovered r.touched r.holds → AreCovered r.touched r.sites
-      → covered_fields t ≡ true → covered_stages t ≡ true → IsKnownJob version name r
+  pub known_job : id.site < 16 → covers version id ≡ true → is_below t version ≡ true → is_submitted (job_reads r) ≡ true → IsVersion t → AreCovered r.touched r.holds → AreCovered r.touched r.sites
+      → covered_fields t ≡ true → covered_stages t ≡ true → IsKnownJob version id r
   known_job placed named below submitted lawful holds sites fields stages =
       let f = subst (λ v. covered_fields v ≡ true) same fields in
       let g = subst (λ v. covered_stages v ≡ true) same stages in
@@ -130,7 +130,7 @@ module _ (version t : List ℕ) (name : StampValue) (r : JobRecordValue) (same :
         };
       }
 
-  pub stages_known : IsKnownJob version name r → covered_stages t ≡ true
+  pub stages_known : IsKnownJob version id r → covered_stages t ≡ true
   stages_known known =
       let k = known.stamps in
       subst (λ v. covered_stages v ≡ true) (sym same)

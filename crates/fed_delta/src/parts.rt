@@ -9,7 +9,7 @@ ghost use Rattle.fed_delta.specs.Parts.{covers_fields as are_fields_covered, cov
 
 use fed_lattice::Table;
 use fed_record::{JobRecord, Reservation, tags_are_covered};
-use fed_stamp::{JobId, Stamp, Version, site_is_of_sixteen, version_is_of_sixteen};
+use fed_stamp::{JobId, Stamp, Version, site_is_in_range, version_is_in_range};
 
 /// Whether the version covers the stamp of each field.
 fn covers_fields(version: &Version, job: &JobRecord) -> bool
@@ -44,15 +44,15 @@ fn covers_stages(version: &Version, job: &JobRecord) -> bool
     grant && begun && finished
 }
 
-/// Whether a board of the version may have the job with this name.
-fn is_known_job(version: &Version, name: JobId, job: &JobRecord) -> bool
-    ensures { IsTrue result ↔ IsKnownJob version.now name job.now }
+/// Whether a board of the version may have the job with this identifier.
+fn is_known_job(version: &Version, id: JobId, job: &JobRecord) -> bool
+    ensures { IsTrue result ↔ IsKnownJob version.now id job.now }
 {
-    site_is_of_sixteen(name.site());
+    site_is_in_range(id.site());
     let touched = job.touched();
-    version_is_of_sixteen(&touched);
+    version_is_in_range(&touched);
     tags_are_covered(job);
-    if !version.covers(name) || !touched.le(version) {
+    if !version.covers(id) || !touched.le(version) {
         return false;
     }
     if !job.is_submitted() || !covers_fields(&touched, job) {
@@ -61,20 +61,20 @@ fn is_known_job(version: &Version, name: JobId, job: &JobRecord) -> bool
     covers_stages(&touched, job)
 }
 
-/// Whether a board of the version may have the reservation with this name.
-fn is_known_reservation(version: &Version, name: Stamp, reservation: &Reservation) -> bool
-    ensures { IsTrue result ↔ IsKnownReservation version.now name reservation.now }
+/// Whether a board of the version may have the reservation with this identifier.
+fn is_known_reservation(version: &Version, id: Stamp, reservation: &Reservation) -> bool
+    ensures { IsTrue result ↔ IsKnownReservation version.now id reservation.now }
 {
-    site_is_of_sixteen(name.site());
-    version.covers(name) && reservation.is_made() && version.covers(reservation.stamp())
+    site_is_in_range(id.site());
+    version.covers(id) && reservation.is_made() && version.covers(reservation.stamp())
 }
 
 /// Whether a board of the version may have these jobs.
 fn are_known_jobs(version: &Version, jobs: &Table<JobId, JobRecord>) -> bool
     ensures { IsTrue result ↔ IsAtEach stamp_cmp (IsKnownJob version.now) jobs.now }
 {
-    for (name, job) in jobs.iter() {
-        if !is_known_job(version, *name, job) {
+    for (id, job) in jobs.iter() {
+        if !is_known_job(version, *id, job) {
             return false;
         }
     }
@@ -85,17 +85,18 @@ fn are_known_jobs(version: &Version, jobs: &Table<JobId, JobRecord>) -> bool
 fn are_known_reservations(version: &Version, reservations: &Table<Stamp, Reservation>) -> bool
     ensures { IsTrue result ↔ IsAtEach stamp_cmp (IsKnownReservation version.now) reservations.now }
 {
-    for (name, reservation) in reservations.iter() {
-        if !is_known_reservation(version, *name, reservation) {
+    for (id, reservation) in reservations.iter() {
+        if !is_known_reservation(version, *id, reservation) {
             return false;
         }
     }
     true
 }
 
-/// Whether these may be what a delta reaches and tells, as `Delta::from_parts` asks: each job is submitted, its name and
-/// its operations are covered by the version, and each stamp that is read of it is covered by that of its operations; each
-/// reservation is made, and its name and its stamp are covered by the version. It takes no memory.
+/// Whether these may be what a delta reaches and tells, as `Delta::from_parts` asks: each job is submitted, its
+/// identifier and its operations are covered by the version, and each stamp that is read of it is covered by that of
+/// its operations; each reservation is made, and its identifier and its stamp are covered by the version. It takes no
+/// memory.
 pub fn are_parts(
     reached: &Version,
     jobs: &Table<JobId, JobRecord>,

@@ -1,4 +1,4 @@
--- What is read of the entries of a board, and of their names.
+-- What is read of the entries of a board, and of their identifiers.
 use Rattle.std.specs.declared.cmp.Ordering.TheVariants.{Less}
 use Rattle.std.specs.BTreeMap.{is_at}
 use Rattle.std.specs.List.{filter_map}
@@ -16,7 +16,7 @@ use Rattle.fed_lattice.specs.Sets.{Has}
 use Rattle.fed_record.specs.JobRecord.{JobRecordValue, job_reads}
 use Rattle.fed_model.specs.Reservation.{ReservationView}
 use Rattle.fed_board.specs.Board.{BoardValue, no_operation, board_reads}
-use Rattle.fed_model.specs.Names.{jobs_in, reservations_in}
+use Rattle.fed_model.specs.Identifiers.{jobs_in, reservations_in}
 use Rattle.fed_easy.specs.declared.bookings.Booking.{Booking}
 use Rattle.fed_easy.specs.declared.machines.Running.{Running}
 use Rattle.fed_easy.specs.declared.queues.QueuedJob.{QueuedJob}
@@ -25,7 +25,7 @@ use Rattle.fed_easy.specs.Queue.{queued, waiting_in}
 use Rattle.fed_easy.specs.SitePlan.{booked_at, reserved_in}
 use Rattle.fed_easy.proofs.Ordered.{all_has}
 
--- ---- entries in the order of their names
+-- ---- entries in the order of their identifiers
 pub key_has : {X : Type 0} (es : List (StampValue × X)) (e : StampValue × X) → Has es e → Has (keys_of es) e.0
 key_has [] e h = elim h [ ]
 key_has (x ∷ es) e (inl same) = inl (ap (λ x. x.0) same)
@@ -42,7 +42,7 @@ less_apart s t less true e =
     absurd cc
 less_apart s t less false e = refl
 
--- a look-up of an entry's name finds its value
+-- a look-up of an entry's identifier finds its value
 pub entry_found : {X : Type 0} (es : List (StampValue × X)) (e : StampValue × X) → IsStrictlySortedBy stamp_cmp (keys_of es) → Has es e → lookup (is_at (stamp_cmp e.0)) es ≡ Some e.1
 unfolding IsStrictlySortedBy
 entry_found [] e sorted h = elim h [ ]
@@ -52,12 +52,12 @@ entry_found (x ∷ es) e sorted (inr h) =
     let less : stamp_cmp x.0 e.0 ≡ Less = all_has (λ y. stamp_cmp x.0 y ≡ Less) (keys_of es) e.0 sorted.0 (key_has es e h) in
     rw (less_apart x.0 e.0 less (is_eq (stamp_cmp e.0 x.0)) refl) (entry_found es e sorted.1 h)
 
--- what the names say is what the entries say
-names_read : {X Y : Type 0} (f : StampValue → Option Y) (g : StampValue × X → Option Y) (es : List (StampValue × X)) → ((e : StampValue × X) → Has es e → f e.0 ≡ g e) → filter_map f (keys_of es) ≡ filter_map g es
-names_read f g [] h = refl
-names_read f g (e ∷ es) h =
+-- what the identifiers say is what the entries say
+ids_read : {X Y : Type 0} (f : StampValue → Option Y) (g : StampValue × X → Option Y) (es : List (StampValue × X)) → ((e : StampValue × X) → Has es e → f e.0 ≡ g e) → filter_map f (keys_of es) ≡ filter_map g es
+ids_read f g [] h = refl
+ids_read f g (e ∷ es) h =
     let first = h e (inl refl) in
-    let rest = names_read f g es (λ x k. h x (inr k)) in
+    let rest = ids_read f g es (λ x k. h x (inr k)) in
     rw (first, rest) refl
 
 -- ---- running jobs, and jobs that wait
@@ -67,14 +67,14 @@ entry_running site e = running_of site (job_reads e.1)
 abbrev pub entry_waiting : ℕ → ℕ → StampValue × JobRecordValue → Option QueuedJob
 entry_waiting site capacity e = queued site capacity e.0 (job_reads e.1)
 
-module _ (b : BoardValue) (sorted : IsStrictlySortedBy stamp_cmp (keys_of b.jobs)) (names : keys_of b.jobs ≡ jobs_in (board_reads b)) where
+module _ (b : BoardValue) (sorted : IsStrictlySortedBy stamp_cmp (keys_of b.jobs)) (ids : keys_of b.jobs ≡ jobs_in (board_reads b)) where
   entry_read : (e : StampValue × JobRecordValue) → Has b.jobs e → (board_reads b).job e.0 ≡ job_reads e.1
   entry_read e h = ap (λ (o : Option JobRecordValue). job_reads (unwrap_or o no_operation)) (entry_found b.jobs e sorted h)
 
   pub running_read : (site : ℕ) → running_in site (board_reads b) ≡ filter_map (entry_running site) b.jobs
   running_read site =
-      ap (filter_map (λ job. running_of site ((board_reads b).job job))) (sym names)
-      ∙ names_read (λ job. running_of site ((board_reads b).job job)) (entry_running site) b.jobs (λ e h. ap (running_of site) (entry_read e h))
+      ap (filter_map (λ job. running_of site ((board_reads b).job job))) (sym ids)
+      ∙ ids_read (λ job. running_of site ((board_reads b).job job)) (entry_running site) b.jobs (λ e h. ap (running_of site) (entry_read e h))
 
   pub running_done : (site : ℕ) (xs : List Running) (rest : List (StampValue × JobRecordValue)) → xs ++ filter_map (entry_running site) rest ≡ filter_map (entry_running site) b.jobs → rest ≡ []
       → xs ≡ running_in site (board_reads b)
@@ -84,8 +84,8 @@ module _ (b : BoardValue) (sorted : IsStrictlySortedBy stamp_cmp (keys_of b.jobs
 
   waiting_read : (site capacity : ℕ) → waiting_in site capacity (board_reads b) ≡ filter_map (entry_waiting site capacity) b.jobs
   waiting_read site capacity =
-      ap (filter_map (λ job. queued site capacity job ((board_reads b).job job))) (sym names)
-      ∙ names_read (λ job. queued site capacity job ((board_reads b).job job)) (entry_waiting site capacity) b.jobs (λ e h. ap (queued site capacity e.0) (entry_read e h))
+      ap (filter_map (λ job. queued site capacity job ((board_reads b).job job))) (sym ids)
+      ∙ ids_read (λ job. queued site capacity job ((board_reads b).job job)) (entry_waiting site capacity) b.jobs (λ e h. ap (queued site capacity e.0) (entry_read e h))
 
   pub waiting_done : (site capacity : ℕ) (xs : List QueuedJob) → xs ≡ filter_map (entry_waiting site capacity) b.jobs → xs ≡ waiting_in site capacity (board_reads b)
   waiting_done site capacity xs same = same ∙ sym (waiting_read site capacity)
@@ -107,13 +107,13 @@ abbrev pub read_reserved : ℕ → List (StampValue × ReservationView) → List
 read_reserved site es = filter_map (λ e. booked_at site e.1) es
 
 pub reserved_read : (site : ℕ) (b : BoardValue) → IsStrictlySortedBy stamp_cmp (keys_of b.reservations) → keys_of b.reservations ≡ reservations_in (board_reads b) → reserved_in site (board_reads b) ≡ read_reserved site b.reservations
-reserved_read site b sorted names =
-    ap (filter_map (λ name. booked_at site ((board_reads b).reservation name))) (sym names)
-    ∙ names_read (λ name. booked_at site ((board_reads b).reservation name)) (λ e. booked_at site e.1) b.reservations
+reserved_read site b sorted ids =
+    ap (filter_map (λ id. booked_at site ((board_reads b).reservation id))) (sym ids)
+    ∙ ids_read (λ id. booked_at site ((board_reads b).reservation id)) (λ e. booked_at site e.1) b.reservations
     (λ e h. ap (λ (o : Option ReservationView). booked_at site (unwrap_or o None)) (entry_found b.reservations e sorted h))
 
 pub reserved_done : (site : ℕ) (b : BoardValue) → IsStrictlySortedBy stamp_cmp (keys_of b.reservations) → keys_of b.reservations ≡ reservations_in (board_reads b) → (old xs : List Booking) (rest : List (StampValue × ReservationView))
     → xs ++ read_reserved site rest ≡ old ++ read_reserved site b.reservations → rest ≡ [] → xs ≡ old ++ reserved_in site (board_reads b)
-reserved_done site b sorted names old xs rest same none =
+reserved_done site b sorted ids old xs rest same none =
     let whole : xs ++ [] ≡ old ++ read_reserved site b.reservations = rw none at same in
-    sym (append-nil xs) ∙ whole ∙ ap (λ (bs : List Booking). old ++ bs) (sym (reserved_read site b sorted names))
+    sym (append-nil xs) ∙ whole ∙ ap (λ (bs : List Booking). old ++ bs) (sym (reserved_read site b sorted ids))

@@ -11,6 +11,7 @@ use Rattle.fed_easy.specs.Promises.{IsIdleFrom, IsSized}
 use Rattle.fed_easy.proofs.FirstFit.{shadow_least}
 use Rattle.fed_easy.proofs.Fits.{Fits, fits-true, Fits-fits, same_test}
 use Rattle.fed_easy.proofs.NoDelay.{during, within, with_job_swap, job_used, at_second}
+use Rattle.fed_easy.proofs.Fronts.{behind_next}
 use Rattle.fed_easy.proofs.Started.{all_behind, idle_started}
 
 -- from now on the use doesn't rise
@@ -49,13 +50,6 @@ front_free capacity now [] used h some = refl
 front_free capacity now (j ∷ js) used h some =
     let rest : front capacity now (with_job now j used) js ≡ front_by_free (free_at capacity used now - j.nodes) js =
     front_free capacity now js (with_job now j used) (falls_job now j used h) some.1 ∙ ap (λ free. front_by_free free js) (ap (λ n. capacity - n) (job_used now now j used (omega arith) (omega (arith, some.0.limit))) ∙ less_free capacity j.nodes (used now)) in
-    rw (front_step capacity now used j h some.0, rest) refl
-
-pub behind_free : (capacity now : ℕ) (js : List QueuedJob) (used : ℕ → ℕ) → Falls now used → AllByRecursion (IsSized capacity) js → behind capacity now used js ≡ behind_by_free (free_at capacity used now) js
-behind_free capacity now [] used h some = refl
-behind_free capacity now (j ∷ js) used h some =
-    let rest : behind capacity now (with_job now j used) js ≡ behind_by_free (free_at capacity used now - j.nodes) js =
-    behind_free capacity now js (with_job now j used) (falls_job now j used h) some.1 ∙ ap (λ free. behind_by_free free js) (ap (λ n. capacity - n) (job_used now now j used (omega arith) (omega (arith, some.0.limit))) ∙ less_free capacity j.nodes (used now)) in
     rw (front_step capacity now used j h some.0, rest) refl
 
 -- ---- behind the head
@@ -155,7 +149,8 @@ not_now_step false capacity now used j js h rest e later is = let same : j ≡ h
 not_now : (capacity now : ℕ) (js : List QueuedJob) (used : ℕ → ℕ) (h : QueuedJob) (rest : List QueuedJob) → behind capacity now used js ≡ h ∷ rest → fits capacity (with_jobs now (front capacity now used js) used) h now ≡ false
 not_now capacity now [] used h rest is = absurd cc
 not_now capacity now (j ∷ js) used h rest is =
-    not_now_step (fits capacity used j now) capacity now used j js h rest refl (not_now capacity now js (with_job now j used) h rest) is
+    not_now_step (fits capacity used j now) capacity now used j js h rest refl (not_now capacity now js (with_job now j used) h rest)
+    (sym (behind_next capacity now used j js) ∙ is)
 
 -- the nodes are free at the same seconds at which the job fits
 same_first : (capacity now : ℕ) (used : ℕ → ℕ) (j : QueuedJob) (k t : ℕ) → Falls now used → IsSized capacity j → now ≤ t
@@ -197,4 +192,4 @@ by_extra_nodes capacity now end used queue begun idle some =
     let started : List QueuedJob = front capacity now used queue in
     let same = plans_behind capacity now (end_with now started end) (with_jobs now started used) started (behind capacity now used queue) (falls_started now started used begun)
     (idle_started now started used end idle) (all_behind (IsSized capacity) capacity now queue used some) (λ h rest is. not_now capacity now queue used h rest is) in
-    rw (← front_free capacity now queue used begun some, ← behind_free capacity now queue used begun some) same
+    rw (← front_free capacity now queue used begun some) same

@@ -1,5 +1,5 @@
 -- The front of a queue, and the jobs behind it, job by job.
-use Rattle.std.proofs.Common.{◌≡◌, ℕ, suc, ◌≤◌, ◌<◌, true, false, List, [], ◌∷◌, ◌++◌, length, take, drop, drop-cons, refl, sym, ◌∙◌, ap, append_assoc}
+use Rattle.std.proofs.Common.{◌≡◌, ℕ, suc, ◌≤◌, ◌<◌, Bool, true, false, cond, List, [], ◌∷◌, ◌++◌, length, take, drop, drop-cons, refl, sym, ◌∙◌, ap, append_assoc}
 use Rattle.std.specs.Prelude.{slice_index_or, Some}
 use Rattle.std.proofs.lemmas.List.{map_push, map-append}
 use Rattle.std.proofs.Math.Seq.{take-suc}
@@ -21,6 +21,14 @@ append_none (j ∷ js) = ap (λ (ks : List QueuedJob). j ∷ ks) (append_none js
 
 pub ids_push : (js : List QueuedJob) (j : QueuedJob) → ids (js ++ j ∷ []) ≡ ids js ++ j.id ∷ []
 ids_push js j = map_push (λ (j : QueuedJob). j.id) js j
+
+-- the jobs behind the front, job by job
+pub behind_next : (capacity now : ℕ) (used : ℕ → ℕ) (j : QueuedJob) (js : List QueuedJob)
+    → behind capacity now used (j ∷ js) ≡ cond (fits capacity used j now) (behind capacity now (with_job now j used) js) (j ∷ js)
+behind_next capacity now used j js = go (fits capacity used j now) where
+  go : (t : Bool) → drop (length (cond t (j ∷ front capacity now (with_job now j used) js) [])) (j ∷ js) ≡ cond t (behind capacity now (with_job now j used) js) (j ∷ js)
+  go true = refl
+  go false = refl
 
 module _ (capacity now : ℕ) (queue : List QueuedJob) (i : ℕ) where
   module _ (x : QueuedJob) (lt : i < length queue) (is : x ≡ slice_index_or queue i x) where
@@ -51,13 +59,16 @@ module _ (capacity now : ℕ) (queue : List QueuedJob) (i : ℕ) where
           → behind capacity now used queue ≡ behind capacity now (with_jobs now (take (suc i) queue) used) (drop (suc i) queue)
       behind_more passes so_far =
           let step : behind capacity now (with_jobs now (take i queue) used) (drop i queue) ≡ behind capacity now (with_job now x (with_jobs now (take i queue) used)) (drop (suc i) queue) =
-          rw (rest_is, passes) refl in
+          ap (behind capacity now (with_jobs now (take i queue) used)) rest_is
+          ∙ behind_next capacity now (with_jobs now (take i queue) used) x (drop (suc i) queue) ∙ rw passes refl in
           so_far ∙ step ∙ rw (taken_more, with_jobs_push) refl
 
       pub behind_stops : fits capacity (with_jobs now (take i queue) used) x now ≡ false
           → behind capacity now used queue ≡ behind capacity now (with_jobs now (take i queue) used) (drop i queue)
           → behind capacity now used queue ≡ drop i queue
-      behind_stops fails so_far = so_far ∙ rw (rest_is, fails) refl
+      behind_stops fails so_far =
+          so_far ∙ ap (behind capacity now (with_jobs now (take i queue) used)) rest_is
+          ∙ behind_next capacity now (with_jobs now (take i queue) used) x (drop (suc i) queue) ∙ rw fails (sym rest_is)
 
       pub backfill_starts : fits capacity used x now ≡ true → backfill capacity now used (drop i queue) ≡ x ∷ backfill capacity now (with_job now x used) (drop (suc i) queue)
       backfill_starts passes = rw (rest_is, passes) refl
@@ -75,4 +86,4 @@ plan_with_head capacity now end used queue started rest h s starts idle narrow s
     shadow_is capacity now (end_with now started end) (with_jobs now started used) h (idle_started now started used end idle) narrow s least in
     let all : starts ≡ ids (started ++ backfill capacity now (with_job s h (with_jobs now started used)) rest) =
     e ∙ sym (map-append (λ (j : QueuedJob). j.id) started (backfill capacity now (with_job s h (with_jobs now started used)) rest)) in
-    rw (same_front, same_behind, ← same, all) refl
+    rw (same_behind, same_front, ← same, all) refl

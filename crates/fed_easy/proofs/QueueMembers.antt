@@ -15,7 +15,7 @@ use Rattle.fed_lattice.specs.KeySetLaws.{sorted_insert_key, has_insert_key}
 use Rattle.fed_tags.specs.TagLaws.{sorted_empty}
 use Rattle.fed_model.specs.JobView.{JobView}
 use Rattle.fed_model.specs.Letter.{is_granted_to}
-use Rattle.fed_model.specs.Names.{jobs_in}
+use Rattle.fed_model.specs.Identifiers.{jobs_in}
 use Rattle.fed_model.specs.View.{View}
 use Rattle.fed_easy.specs.declared.queues.QueuedJob.{QueuedJob}
 use Rattle.fed_easy.specs.Queue.{in_order, is_waiting, queue_in, queued, queued_with, waiting_in}

@@ -1,13 +1,13 @@
 -- What is in use once jobs have started, and which jobs are left.
-use Rattle.std.proofs.Common.{◌≡◌, ℕ, ◌+◌, ◌≤◌, Bool, true, false, cond, List, [], ◌∷◌, refl, arith}
+use Rattle.std.proofs.Common.{◌≡◌, ℕ, zero, suc, ◌+◌, ◌≤◌, List, [], ◌∷◌, drop, length, refl, arith}
 use Rattle.std.specs.List.{AllByRecursion}
 use Rattle.std.specs.Prelude.{nat_le, nat_lt}
 use Rattle.std.proofs.lemmas.Bool.{and_right, le-ltb}
 use Rattle.fed_easy.specs.declared.bookings.Booking.{Booking}
 use Rattle.fed_easy.specs.declared.queues.QueuedJob.{QueuedJob}
-use Rattle.fed_easy.specs.Plan.{behind}
+use Rattle.fed_easy.specs.Plan.{behind, front}
 use Rattle.fed_easy.specs.Promises.{IsIdleFrom}
-use Rattle.fed_easy.specs.Use.{end_with, fits, last_end, use_at, with_job, with_jobs, with_nodes}
+use Rattle.fed_easy.specs.Use.{end_with, last_end, use_at, with_job, with_jobs, with_nodes}
 
 -- nodes are not used from the end of their time on
 pub over : (from until nodes u : ℕ) (used : ℕ → ℕ) → until ≤ u → with_nodes from until nodes used u ≡ used u
@@ -36,11 +36,10 @@ idle_started now js used end idle u late =
 
 -- what holds of all jobs holds of those that are left
 module _ (P : QueuedJob → Type 0) where
-  all_choice : (t : Bool) (xs ys : List QueuedJob) → AllByRecursion P xs → AllByRecursion P ys → AllByRecursion P (cond t xs ys)
-  all_choice true xs ys h k = h
-  all_choice false xs ys h k = k
+  all_dropped : (n : ℕ) (js : List QueuedJob) → AllByRecursion P js → AllByRecursion P (drop n js)
+  all_dropped zero js h = h
+  all_dropped (suc n) [] h = tt
+  all_dropped (suc n) (j ∷ js) h = all_dropped n js h.1
 
   pub all_behind : (capacity now : ℕ) (js : List QueuedJob) (used : ℕ → ℕ) → AllByRecursion P js → AllByRecursion P (behind capacity now used js)
-  all_behind capacity now [] used h = tt
-  all_behind capacity now (j ∷ js) used h =
-      all_choice (fits capacity used j now) (behind capacity now (with_job now j used) js) (j ∷ js) (all_behind capacity now js (with_job now j used) h.1) h
+  all_behind capacity now js used = all_dropped (length (front capacity now used js)) js

@@ -1,5 +1,5 @@
 -- The same plan by free and extra nodes.
-use Rattle.std.specs.Prelude.{ℕ, zero, suc, ◌+◌, ◌-◌, ◌&&◌, ◌||◌, List, [], ◌∷◌, ◌++◌, Bool, nat_le, if◌then◌else◌, Some, None}
+use Rattle.std.specs.Prelude.{ℕ, zero, suc, ◌+◌, ◌-◌, ◌&&◌, ◌||◌, List, [], ◌∷◌, ◌++◌, drop, length, Bool, nat_le, if◌then◌else◌, Some, None}
 use Rattle.fed_easy.specs.declared.queues.QueuedJob.{QueuedJob}
 use Rattle.fed_easy.specs.Plan.{PlanValue, ids}
 use Rattle.fed_easy.specs.Use.{end_with, with_jobs}
@@ -13,9 +13,9 @@ abbrev pub front_by_free : ℕ → List QueuedJob → List QueuedJob
 front_by_free free [] = []
 front_by_free free (j ∷ js) = if nat_le j.nodes free then j ∷ front_by_free (free - j.nodes) js else []
 
+-- the jobs behind those
 abbrev pub behind_by_free : ℕ → List QueuedJob → List QueuedJob
-behind_by_free free [] = []
-behind_by_free free (j ∷ js) = if nat_le j.nodes free then behind_by_free (free - j.nodes) js else j ∷ js
+behind_by_free free queue = drop (length (front_by_free free queue)) queue
 
 -- the job ends by second s where it starts now
 abbrev pub ends_by : ℕ → ℕ → QueuedJob → Bool

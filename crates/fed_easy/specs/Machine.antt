@@ -8,7 +8,7 @@ use Rattle.fed_stamp.specs.Stamp.{StampValue}
 use Rattle.fed_model.specs.declared.moments.TheConstants.{MAX_END}
 use Rattle.fed_model.specs.declared.beginnings.Beginning.{Beginning}
 use Rattle.fed_model.specs.JobView.{JobView}
-use Rattle.fed_model.specs.Names.{jobs_in}
+use Rattle.fed_model.specs.Identifiers.{jobs_in}
 use Rattle.fed_model.specs.View.{View}
 use Rattle.fed_easy.specs.declared.machines.Running.{Running}
 use Rattle.fed_easy.specs.declared.machines.TheConstants.{MAX_RUNNING}

@@ -1,5 +1,5 @@
 -- Which jobs start now: the front of the queue, and behind the head those that fit beside its time.
-use Rattle.std.specs.Prelude.{ℕ, List, [], ◌∷◌, ◌++◌, map, if◌then◌else◌, Option, Some, None}
+use Rattle.std.specs.Prelude.{ℕ, List, [], ◌∷◌, ◌++◌, drop, length, map, if◌then◌else◌, Option, Some, None}
 use Rattle.fed_stamp.specs.Stamp.{StampValue}
 use Rattle.fed_easy.specs.declared.plans.Plan.{Plan}
 use Rattle.fed_easy.specs.declared.queues.QueuedJob.{QueuedJob}
@@ -22,9 +22,7 @@ front capacity now used (j ∷ js) =
 
 -- the jobs behind it, of which the first is the head
 abbrev pub behind : ℕ → ℕ → (ℕ → ℕ) → List QueuedJob → List QueuedJob
-behind capacity now used [] = []
-behind capacity now used (j ∷ js) =
-    if fits capacity used j now then behind capacity now (with_job now j used) js else j ∷ js
+behind capacity now used queue = drop (length (front capacity now used queue)) queue
 
 -- of the jobs, in their order, each that fits now after those before it that do
 abbrev pub backfill : ℕ → ℕ → (ℕ → ℕ) → List QueuedJob → List QueuedJob

@@ -5,7 +5,7 @@ use Rattle.std.specs.List.{filter_map}
 use Rattle.fed_stamp.specs.Stamp.{StampValue}
 use Rattle.fed_model.specs.JobView.{JobView}
 use Rattle.fed_model.specs.Letter.{has_site, is_gone, is_granted, is_granted_to, is_held, is_submitted}
-use Rattle.fed_model.specs.Names.{jobs_in}
+use Rattle.fed_model.specs.Identifiers.{jobs_in}
 use Rattle.fed_model.specs.View.{View}
 use Rattle.fed_easy.specs.declared.queues.QueuedJob.{QueuedJob}
 use Rattle.fed_easy.specs.QueueOrder.{queue_cmp}

@@ -3,7 +3,7 @@ use Rattle.std.specs.Prelude.{ℕ, suc, max, nat_eq, if◌then◌else◌, List, 
 use Rattle.std.specs.List.{filter_map}
 use Rattle.fed_model.specs.declared.windows.Window.{Window}
 use Rattle.fed_model.specs.Reservation.{ReservationView}
-use Rattle.fed_model.specs.Names.{reservations_in}
+use Rattle.fed_model.specs.Identifiers.{reservations_in}
 use Rattle.fed_model.specs.View.{View}
 use Rattle.fed_easy.specs.declared.bookings.Booking.{Booking}
 use Rattle.fed_easy.specs.declared.machines.Running.{Running}
@@ -31,7 +31,7 @@ booked_at site (Some latest) = window_booking site latest.1
 
 -- the times of the site's standing reservations
 abbrev pub reserved_in : ℕ → View → List Booking
-reserved_in site v = filter_map (λ name. booked_at site (v.reservation name)) (reservations_in v)
+reserved_in site v = filter_map (λ id. booked_at site (v.reservation id)) (reservations_in v)
 
 -- what is in use before any job starts
 abbrev pub bookings_in : ℕ → View → ℕ → MachineValue → List Booking

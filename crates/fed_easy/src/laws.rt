@@ -2,7 +2,7 @@
 ghost use Rattle.std.specs.Prelude.{◌≡◌, ◌↔◌, ◌≤◌, ℕ, Some};
 ghost use Rattle.std.specs.List.Sorted.{IsStrictlySortedBy};
 ghost use Rattle.fed_lattice.specs.Sets.{Has};
-ghost use Rattle.fed_model.specs.Names.{jobs_in};
+ghost use Rattle.fed_model.specs.Identifiers.{jobs_in};
 ghost use Rattle.fed_model.specs.View.{View};
 ghost use Rattle.fed_easy.specs.Promises.{IsIdleFrom};
 ghost use Rattle.fed_easy.specs.Queue.{queue_in, queued};

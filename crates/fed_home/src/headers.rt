@@ -41,14 +41,14 @@ fn line_text(line: &[u8]) -> Option<&str>
     }
 }
 
-// The place of the first byte that is no white space.
+// The index of the first byte that is no white space.
 fn word_start(text: &[u8]) -> Option<usize>
     ensures { result ≡ position (λ byte. not (is_ascii_whitespace byte)) text.now }
 {
     text.iter().position(|byte| !byte.is_ascii_whitespace())
 }
 
-// The place of the first byte that is white space.
+// The index of the first byte that is white space.
 fn word_end(text: &[u8]) -> Option<usize>
     ensures { result ≡ position is_ascii_whitespace text.now }
 {

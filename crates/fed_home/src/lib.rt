@@ -16,6 +16,3 @@ pub use faults::HomeFault;
 pub use headers::{Header, read_header};
 pub use homes::{Home, Unopened};
 pub use runs::replay;
-
-#[cfg(test)]
-mod tests;

@@ -32,8 +32,3 @@ pub use journals::{Journal, MAX_BYTES, Recovered, Unopened};
 pub use lines::{are_lines, is_line};
 pub use memory::{Memory, Tear};
 pub use tails::keep;
-
-#[cfg(test)]
-mod file_tests;
-#[cfg(test)]
-mod tests;

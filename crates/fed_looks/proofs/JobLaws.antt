@@ -19,7 +19,7 @@ use Rattle.fed_record.specs.JobRecord.{JobRecordValue, job_reads}
 use Rattle.fed_model.specs.JobView.{JobView}
 use Rattle.fed_model.specs.Letter.{letter}
 use Rattle.fed_board.specs.Board.{BoardValue, no_operation, board_reads}
-use Rattle.fed_model.specs.Names.{jobs_in}
+use Rattle.fed_model.specs.Identifiers.{jobs_in}
 use Rattle.fed_model.specs.View.{View}
 use Rattle.fed_easy.proofs.BoardEntries.{entry_found}
 use Rattle.fed_json.specs.Numbers.{integer_value}
@@ -27,7 +27,7 @@ use Rattle.fed_json.specs.Objects.{Named, members_from}
 use Rattle.fed_qstat.specs.JobText.{sites_of}
 use Rattle.fed_looks.specs.JobMembers.{with_names, with_numbers, with_sets, with_stages}
 use Rattle.fed_looks.specs.JobObject.{asked_jobs, begun_data, field_data, finished_data, grant_data, job_data, job_members, kinds_data, known_line, letter_data, lines_of_jobs, site_data}
-use Rattle.fed_looks.proofs.Entries.{names_said}
+use Rattle.fed_looks.proofs.Entries.{ids_said}
 
 pub members_are : (roster : List (List ℕ × ℕ)) (id : StampValue) (j : JobView) → object (with_sets roster j (with_stages roster j (with_numbers j (with_names roster id j no_members)))) ≡ job_data roster id j
 unfolding job_members with_names with_numbers with_stages with_sets
@@ -129,16 +129,16 @@ known_from roster es = flat_map (λ e. known_line roster e.0 (job_reads e.1)) es
 
 pub known_done : (roster : List (List ℕ × ℕ)) (b : BoardValue) → IsStrictlySortedBy stamp_cmp (keys_of b.jobs) → keys_of b.jobs ≡ jobs_in (board_reads b)
     → (written : List ℕ) (rest : List (StampValue × JobRecordValue)) → written ++ known_from roster rest ≡ known_from roster b.jobs → rest ≡ [] → written ≡ lines_of_jobs roster (board_reads b) (jobs_in (board_reads b))
-known_done roster b sorted names written rest under none =
+known_done roster b sorted ids written rest under none =
     sym (append-nil written) ∙ ap (λ l. written ++ known_from roster l) (sym none) ∙ under
-    ∙ sym (names_said (λ job. known_line roster job ((board_reads b).job job)) (λ e. known_line roster e.0 (job_reads e.1)) b.jobs
+    ∙ sym (ids_said (λ job. known_line roster job ((board_reads b).job job)) (λ e. known_line roster e.0 (job_reads e.1)) b.jobs
     (λ e h. ap (λ (o : Option JobRecordValue). known_line roster e.0 (job_reads (unwrap_or o no_operation))) (entry_found b.jobs e sorted h)))
-    ∙ ap (lines_of_jobs roster (board_reads b)) names
+    ∙ ap (lines_of_jobs roster (board_reads b)) ids
 
-pub asked_all : (v : View) (names : List StampValue) → true ≡ (length names == 0) → asked_jobs v names ≡ jobs_in v
+pub asked_all : (v : View) (ids : List StampValue) → true ≡ (length ids == 0) → asked_jobs v ids ≡ jobs_in v
 asked_all v [] e = refl
-asked_all v (name ∷ names) e = absurd (omega (arith, eqb-true (length (name ∷ names)) 0 (sym e)))
+asked_all v (id ∷ ids) e = absurd (omega (arith, eqb-true (length (id ∷ ids)) 0 (sym e)))
 
-pub asked_some : (v : View) (names : List StampValue) → false ≡ (length names == 0) → asked_jobs v names ≡ names
+pub asked_some : (v : View) (ids : List StampValue) → false ≡ (length ids == 0) → asked_jobs v ids ≡ ids
 asked_some v [] e = absurd cc
-asked_some v (name ∷ names) e = refl
+asked_some v (id ∷ ids) e = refl

@@ -1,5 +1,4 @@
--- Lemmas on the bars of a chart, on the entries of a board, on jobs as JSON objects, on looks, on sites and on words.
-pub mod ChartApart
+-- Lemmas on the entries of a board, on jobs as JSON objects, on looks, on sites and on words.
 pub mod EachWord
 pub mod Entries
 pub mod JobLaws

@@ -7,10 +7,10 @@ use Rattle.fed_replica.specs.Replica.{ReplicaValue}
 use Rattle.fed_replica.specs.State.{state_of}
 use Rattle.fed_looks.specs.declared.looks.Look.{Look}
 use Rattle.fed_looks.specs.declared.looks.Look.TheVariants.{Why, Machine, Reservations, Chart}
-use Rattle.fed_looks.specs.Chart.{chart_svg}
+use Rattle.fed_machine.specs.Chart.{chart_svg}
 use Rattle.fed_looks.specs.LookText.{look_text}
 use Rattle.fed_looks.specs.LookView.{asked_by}
-use Rattle.fed_looks.specs.Machine.{machine_lines}
+use Rattle.fed_machine.specs.Machine.{machine_lines}
 use Rattle.fed_looks.specs.Reserved.{reservation_lines}
 use Rattle.fed_looks.specs.Why.{why_line}
 

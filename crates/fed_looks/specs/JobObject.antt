@@ -12,7 +12,7 @@ use Rattle.fed_model.specs.Account.{text_of}
 use Rattle.fed_model.specs.Grant.{holder_of, term_of}
 use Rattle.fed_model.specs.JobView.{JobView}
 use Rattle.fed_model.specs.Letter.{has_hold, is_submitted, letter}
-use Rattle.fed_model.specs.Names.{jobs_in}
+use Rattle.fed_model.specs.Identifiers.{jobs_in}
 use Rattle.fed_model.specs.View.{View}
 use Rattle.fed_json.specs.Numbers.{integer_value, natural_value}
 use Rattle.fed_json.specs.Objects.{Named, object_value}

@@ -1,15 +1,10 @@
 -- What the contracts of this crate cite.
-pub mod Chart
-pub mod ChartBars
-pub mod ChartMarks
 pub mod JobMembers
 pub mod JobObject
 pub mod Look
 pub mod LookLine
 pub mod LookText
 pub mod LookView
-pub mod Machine
-pub mod Planned
 pub mod Reserved
 pub mod Seen
 pub mod Why

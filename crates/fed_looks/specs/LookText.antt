@@ -1,10 +1,10 @@
 -- The text of a look, by what is read of a site.
 use Rattle.std.specs.Prelude.{ℕ, List}
 use Rattle.fed_replica.specs.State.{State}
-use Rattle.fed_looks.specs.Chart.{chart_svg}
+use Rattle.fed_machine.specs.Chart.{chart_svg}
 use Rattle.fed_looks.specs.JobObject.{jobs_json}
 use Rattle.fed_looks.specs.Look.{Look, whys, machines, reserves, tells, sees, charts}
-use Rattle.fed_looks.specs.Machine.{machine_lines}
+use Rattle.fed_machine.specs.Machine.{machine_lines}
 use Rattle.fed_looks.specs.Reserved.{reservation_lines}
 use Rattle.fed_looks.specs.Seen.{seen_lines}
 use Rattle.fed_looks.specs.Why.{why_line}

@@ -13,7 +13,7 @@ use Rattle.fed_easy.specs.Plan.{PlanValue}
 use Rattle.fed_qstat.specs.Identifier.{identifier_text, site_text}
 use Rattle.fed_qstat.specs.JobText.{field_text, holder_text, holds_text}
 use Rattle.fed_answers.specs.Outcome.{answer_line}
-use Rattle.fed_looks.specs.Planned.{planned}
+use Rattle.fed_answers.specs.Planned.{plan_in}
 
 -- where the job began, when, and on how many nodes
 abbrev pub begun_text : List (List ℕ × ℕ) → StampValue × Beginning → List ℕ
@@ -62,7 +62,7 @@ job_text roster here job j plan = if j.deleted then codes "deleted"
 -- the first that applies
 abbrev pub why_text : List (List ℕ × ℕ) → View → ℕ → StampValue → ℕ → List ℕ
 why_text roster v here job moment = if is_submitted (v.job job)
-    then job_text roster here job (v.job job) (planned roster v here moment) else codes "unknown"
+    then job_text roster here job (v.job job) (plan_in roster v here moment) else codes "unknown"
 
 abbrev pub why_line : List (List ℕ × ℕ) → View → ℕ → StampValue → ℕ → List ℕ
 why_line roster v here job moment = answer_line (why_text roster v here job moment)

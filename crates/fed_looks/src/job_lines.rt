@@ -5,7 +5,7 @@ ghost use Rattle.serde_json.specs.Written.{compact_text};
 ghost use Rattle.fed_record.specs.JobRecord.{job_reads};
 ghost use Rattle.fed_model.specs.Letter.{is_submitted};
 ghost use Rattle.fed_board.specs.Board.{board_reads};
-ghost use Rattle.fed_model.specs.Names.{jobs_in};
+ghost use Rattle.fed_model.specs.Identifiers.{jobs_in};
 ghost use Rattle.fed_looks.specs.JobMembers.{with_names, with_numbers, with_sets, with_stages};
 ghost use Rattle.fed_looks.specs.JobObject.{job_data, jobs_json as json_of_jobs, known_line, lines_of_jobs};
 
@@ -176,7 +176,7 @@ fn push_job(
     text.push_str("\n")
 }
 
-/// Adds the line of the job of this name, or nothing where there is no such job.
+/// Adds the line of the job with this identifier, or nothing where there is no such job.
 fn push_named(
     alloc: Global,
     text: &mut String,
@@ -209,19 +209,19 @@ fn named_lines(
     alloc: Global,
     roster: &Roster,
     board: &Board,
-    names: &[JobId],
+    ids: &[JobId],
 ) -> Result<String, AllocError>
-    ensures { IfOk result (λ text. string_bytes text ≡ lines_of_jobs roster.now (board_reads board.now) names.now) }
+    ensures { IfOk result (λ text. string_bytes text ≡ lines_of_jobs roster.now (board_reads board.now) ids.now) }
 {
     let mut text = String::new(alloc);
-    for name in names {
-        push_named(alloc, &mut text, roster, board, *name)?;
+    for id in ids {
+        push_named(alloc, &mut text, roster, board, *id)?;
     }
     Ok(text)
 }
 
-/// All that is known of these jobs, as one compact JSON object a line, with names in place of numbers: jobs that are gone
-/// too, in the order in which they are named, and nothing for a name that no job has. Where none is named all jobs are
+/// All that is known of these jobs, as one compact JSON object a line, with names in place of numbers: jobs that are
+/// gone too, in the order in which they are named, and nothing for an identifier that no job has. Where none is named all jobs are
 /// told, in the order of their stamps.
 pub fn jobs_json(
     alloc: Global,

@@ -1,15 +1,6 @@
 //! Looks: what an operator asks a site. Each is a text that is a function of what the board reads as, and changes nothing.
 #![tactic(auto)]
 
-/// A picture of a site's machine.
-mod chart;
-/// What a chart shows.
-mod chart_bars;
-/// How the bars of a chart are drawn.
-mod chart_marks;
-/// Worked charts.
-#[cfg(test)]
-mod chart_tests;
 /// Jobs as JSON objects.
 mod job_lines;
 /// The values of the parts of a job.
@@ -20,23 +11,18 @@ mod look_lines;
 mod look_texts;
 /// What words ask for a look.
 pub mod looks;
-/// What is said of a site's machine.
-mod machines;
 /// What is reserved.
 mod reserved;
 /// What a site has seen of the others.
 mod seen;
-/// The plan of a site.
-mod site_plans;
 /// Why a job stands where it does.
 mod whys;
 
-pub use chart::chart_svg;
+pub use fed_machine::{chart_svg, machine_lines};
 pub use job_lines::jobs_json;
 pub use look_lines::look_of_line;
 pub use look_texts::look_text;
 pub use looks::{Look, read_look};
-pub use machines::machine_lines;
 pub use reserved::reservation_lines;
 pub use seen::seen_lines;
 pub use whys::why_line;

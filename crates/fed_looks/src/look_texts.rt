@@ -4,14 +4,13 @@ ghost use Rattle.fed_replica.specs.State.{state_of};
 ghost use Rattle.fed_looks.specs.LookText.{look_text as text_of_look};
 ghost use Rattle.fed_looks.specs.LookView.{asked_by};
 
-use crate::chart::chart_svg;
 use crate::job_lines::jobs_json;
 use crate::looks::Look;
-use crate::machines::machine_lines;
 use crate::reserved::reservation_lines;
 use crate::seen::seen_lines;
 use crate::whys::why_line;
 use fed_lattice::NoMemory;
+use fed_machine::{chart_svg, machine_lines};
 use fed_replica::Replica;
 use fed_stamp::Roster;
 use std::alloc::Global;

@@ -14,12 +14,12 @@ use std::alloc::{AllocError, Global};
 fn window_line(
     alloc: Global,
     roster: &Roster,
-    name: Stamp,
+    id: Stamp,
     window: Window,
 ) -> Result<String, AllocError>
-    ensures { IfOk result (λ text. string_bytes text ≡ line_of_window roster.now name window) }
+    ensures { IfOk result (λ text. string_bytes text ≡ line_of_window roster.now id window) }
 {
-    let id = identifier_text(alloc, roster, name)?;
+    let id = identifier_text(alloc, roster, id)?;
     let site = site_text(alloc, roster, window.site)?;
     let (start, end, nodes) = (window.start, window.end, window.nodes);
     format!(in alloc; "{id} {site} {start} {end} {nodes}\n")
@@ -30,31 +30,31 @@ fn push_reservation(
     alloc: Global,
     text: &mut String,
     roster: &Roster,
-    name: Stamp,
+    id: Stamp,
     reservation: &Reservation,
 ) -> Result<(), AllocError>
     ensures { OnOk result (string_bytes text.new ≡
-        string_bytes text.old ++ reservation_line roster.now name reservation.now) }
+        string_bytes text.old ++ reservation_line roster.now id reservation.now) }
 {
     if !reservation.is_made() {
         return Ok(());
     }
     match reservation.window() {
         Some(window) => {
-            let line = window_line(alloc, roster, name, window)?;
+            let line = window_line(alloc, roster, id, window)?;
             text.push_str(line.as_str())
         }
         None => Ok(()),
     }
 }
 
-/// A line `ID WHERE START END NODES` for each reservation that stands, in the order of their names.
+/// A line `ID WHERE START END NODES` for each reservation that stands, in the order of their identifiers.
 pub fn reservation_lines(alloc: Global, roster: &Roster, board: &Board) -> Result<String, NoMemory>
     ensures { IfOk result (λ text. string_bytes text ≡ lines_of_reservations roster.now (board_reads board.now)) }
 {
     let mut text = String::new(alloc);
-    for (name, reservation) in board.reservations() {
-        push_reservation(alloc, &mut text, roster, *name, reservation)?;
+    for (id, reservation) in board.reservations() {
+        push_reservation(alloc, &mut text, roster, *id, reservation)?;
     }
     Ok(text)
 }

@@ -6,14 +6,14 @@ ghost use Rattle.fed_looks.specs.Seen.{known_counter as counter_known, seen_line
 use fed_lattice::NoMemory;
 use fed_qstat::site_text;
 use fed_replica::Replica;
-use fed_stamp::{Roster, SiteId, site_is_of_sixteen};
+use fed_stamp::{Roster, SiteId, site_is_in_range};
 use std::alloc::{AllocError, Global};
 
 /// The counter of the replica's own site that a site is known to have seen.
 fn known_counter(replica: &Replica, site: SiteId) -> u64
     ensures { result ≡ counter_known (state_of replica.now) site }
 {
-    site_is_of_sixteen(site);
+    site_is_in_range(site);
     if site == replica.site() {
         replica.board().version().get(site)
     } else {

@@ -7,10 +7,10 @@ ghost use Rattle.fed_board.specs.Board.{board_reads};
 ghost use Rattle.fed_easy.specs.Plan.{plan_reads};
 ghost use Rattle.fed_qstat.specs.Identifier.{site_text as text_of_site};
 ghost use Rattle.fed_qstat.specs.JobText.{hold_letters as letters_of_holds, holder_text as text_of_holder, holds_text as text_of_holds};
-ghost use Rattle.fed_looks.specs.Planned.{planned};
+ghost use Rattle.fed_answers.specs.Planned.{plan_in};
 ghost use Rattle.fed_looks.specs.Why.{behind_text as text_of_behind, begun_text as text_of_begun, job_text as text_of_job, obstacle as obstacle_of, place_text as text_of_place, why_line as line_of_why};
 
-use crate::site_plans::{nodes_of, plan_at};
+use fed_answers::{nodes_of, plan_at};
 use fed_board::Board;
 use fed_easy::Plan;
 use fed_lattice::NoMemory;
@@ -172,7 +172,7 @@ fn waiting_text(
     requires site { here < length roster.now }
     requires submitted { IsTrue (is_submitted (job_reads job.now)) }
     ensures { IfOk result (λ text. string_bytes text ≡ unwrap_or (obstacle_of roster.now here (job_reads job.now))
-        (text_of_place roster.now id (planned roster.now (board_reads board.now) here moment))) }
+        (text_of_place roster.now id (plan_in roster.now (board_reads board.now) here moment))) }
 {
     if let Some(text) = obstacle(alloc, roster, here, job)? {
         return Ok(text);
@@ -196,7 +196,7 @@ fn job_text(
     requires site { here < length roster.now }
     requires submitted { IsTrue (is_submitted (job_reads job.now)) }
     ensures { IfOk result (λ text. string_bytes text ≡
-        text_of_job roster.now here id (job_reads job.now) (planned roster.now (board_reads board.now) here moment)) }
+        text_of_job roster.now here id (job_reads job.now) (plan_in roster.now (board_reads board.now) here moment)) }
 {
     if job.deleted() {
         return Ok(String::from_str(alloc, "deleted")?);

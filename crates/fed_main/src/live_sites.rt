@@ -50,9 +50,9 @@ pub(crate) struct Log {
     text: String,
 }
 
-/// Where a thread stands: at a site.
+/// A site, by the thread that runs its lines.
 #[derive(Drop)]
-struct Place<'a, R, G> {
+struct LiveSite<'a, R, G> {
     rt: &'a R,
     sites: &'a Sites<'a, G>,
     here: SiteId,
@@ -107,9 +107,9 @@ impl Log {
     }
 }
 
-impl<'a, R: Wait, G: Gate> Place<'a, R, G> {
-    /// The place of a thread at the site with this number, or `None` where the roster has no such site.
-    fn new(rt: &'a R, sites: &'a Sites<'a, G>, number: u8) -> Option<Place<'a, R, G>>
+impl<'a, R: Wait, G: Gate> LiveSite<'a, R, G> {
+    /// The site with this number, or `None` where the roster has no such site.
+    fn new(rt: &'a R, sites: &'a Sites<'a, G>, number: u8) -> Option<LiveSite<'a, R, G>>
         ensures none { IsNone result → length sites.now.roster.now ≤ number }
         ensures here { IfSome result (λ p. p.here ≡ number) }
         ensures inside { IfSome result (λ p. p.here < length sites.now.roster.now) }
@@ -119,7 +119,7 @@ impl<'a, R: Wait, G: Gate> Place<'a, R, G> {
             return None;
         }
         let here = SiteId::new(number)?;
-        Some(Place { rt, sites, here })
+        Some(LiveSite { rt, sites, here })
     }
 
     /// A copy of the site's board.
@@ -276,11 +276,11 @@ pub(crate) fn run_lines<R: Wait, G: Gate>(
         starts (known_by result.seat) (string_bytes result.text) }
 {
     let mut log = Log::new(sites);
-    let Some(place) = Place::new(rt, sites, number) else {
+    let Some(site) = LiveSite::new(rt, sites, number) else {
         return log.report(Ok(()));
     };
-    let ran = place.run_lines(lines, &mut log);
-    let ended = place.end_all();
+    let ran = site.run_lines(lines, &mut log);
+    let ended = site.end_all();
     log.report(ran.and(ended))
 }
 
@@ -289,9 +289,9 @@ pub(crate) fn take_all<R: Wait, G: Gate>(rt: &R, sites: &Sites<'_, G>, number: u
     ensures { string_bytes result.text ≡ [] }
 {
     let mut log = Log::new(sites);
-    let Some(place) = Place::new(rt, sites, number) else {
+    let Some(site) = LiveSite::new(rt, sites, number) else {
         return log.report(Ok(()));
     };
-    let ended = place.take_all(&mut log.seat);
+    let ended = site.take_all(&mut log.seat);
     log.report(ended)
 }

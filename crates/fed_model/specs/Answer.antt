@@ -66,7 +66,7 @@ effect v who (Command.HandBack job) = Some (Body.HandBack job (term_in (v.job jo
 effect v who (Command.Begin job moment) = Some (Body.Begin job (beginning (v.job job) moment))
 effect v who (Command.Finish job moment status) = Some (Body.Finish job (record { moment = moment; status = status }))
 effect v who (Command.Reserve window) = Some (Body.Reserve window)
-effect v who (Command.Cancel name) = Some (Body.Cancel name)
+effect v who (Command.Cancel id) = Some (Body.Cancel id)
 
 -- the reply to a command that adds an operation under the stamp
 abbrev pub reply_with : StampValue → Command → Reply

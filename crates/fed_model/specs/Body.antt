@@ -46,14 +46,14 @@ reservation_of t (Cancel reservation) = Some reservation
 reservation_of t _ = None
 
 abbrev pub is_named : StampValue → Option StampValue → Bool
-is_named name None = false
-is_named name (Some t) = same_stamp t name
+is_named id None = false
+is_named id (Some t) = same_stamp t id
 
 abbrev pub is_of_job : StampValue → StampValue × Body → Bool
 is_of_job job e = is_named job (job_of e.0 e.1)
 
 abbrev pub is_of_reservation : StampValue → StampValue × Body → Bool
-is_of_reservation name e = is_named name (reservation_of e.0 e.1)
+is_of_reservation id e = is_named id (reservation_of e.0 e.1)
 
 -- the operations of one job
 abbrev pub of_job : StampValue → History Body → History Body
@@ -61,4 +61,4 @@ of_job job ops = filter (is_of_job job) ops
 
 -- the operations of one reservation
 abbrev pub of_reservation : StampValue → History Body → History Body
-of_reservation name ops = filter (is_of_reservation name) ops
+of_reservation id ops = filter (is_of_reservation id) ops

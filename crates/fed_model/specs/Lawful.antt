@@ -23,7 +23,7 @@ IsSubmitted ops t job = (owner : List ℕ) × (values : JobValues) × (held : Bo
 
 -- the reservation that the operation at t names was made before
 abbrev pub IsReserved : History Body → StampValue → StampValue → Type 0
-IsReserved ops t name = (window : Window) × HasBefore ops t name (Reserve window)
+IsReserved ops t id = (window : Window) × HasBefore ops t id (Reserve window)
 
 -- each pair that the operation at t removes was added before, by an operation of the same job
 abbrev pub HasAdded : {E : Type 0} → (Body → E → Bool) → History Body →
@@ -52,7 +52,7 @@ IsGrounded ops t (Begin job beginning) = IsSubmitted ops t job
 IsGrounded ops t (Finish job ending) =
     IsSubmitted ops t job × ((s : StampValue) × (beginning : Beginning) × Has ops (s, Begin job beginning))
 IsGrounded ops t (Reserve window) = Unit {0}
-IsGrounded ops t (Cancel name) = IsReserved ops t name
+IsGrounded ops t (Cancel id) = IsReserved ops t id
 
 -- the job's grant of the greatest term is to the site and is not handed back
 pub record IsHolder (ops : History Body) (job : StampValue) (site : ℕ) : Type 0 where

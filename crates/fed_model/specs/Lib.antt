@@ -11,7 +11,7 @@ pub mod JobView
 pub mod Letter
 pub mod Reservation
 pub mod View
-pub mod Names
+pub mod Identifiers
 -- What a site answers to a command.
 pub mod Permission
 pub mod Origin

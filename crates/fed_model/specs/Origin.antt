@@ -1,4 +1,4 @@
--- How many jobs and reservations bear the name of one site.
+-- How many jobs and reservations have an identifier that one site gave.
 use Rattle.std.specs.Prelude.{ℕ, suc, Bool, is_some, count_by}
 use Rattle.std.specs.List.{range_with_len}
 use Rattle.fed_stamp.specs.Stamp.{StampValue}
@@ -17,4 +17,4 @@ jobs_of v site = count_at v site (λ job. is_submitted (v.job job))
 
 -- the reservations that were made at the site, those that are cancelled among them
 abbrev pub reservations_of : View → ℕ → ℕ
-reservations_of v site = count_at v site (λ name. is_some (v.reservation name))
+reservations_of v site = count_at v site (λ id. is_some (v.reservation id))

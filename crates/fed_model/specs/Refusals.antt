@@ -83,7 +83,7 @@ refusals v here who (Command.Reserve window) =
     ∷ (is_bad_window window, Refusal.BadWindow)
     ∷ (nat_le MAX_RESERVATIONS (reservations_of v here), Refusal.SiteFull)
     ∷ []
-refusals v here who (Command.Cancel name) =
+refusals v here who (Command.Cancel id) =
     (not (is_operator who.role), Refusal.NotPermitted)
-    ∷ (not (is_standing (v.reservation name)), Refusal.UnknownReservation)
+    ∷ (not (is_standing (v.reservation id)), Refusal.UnknownReservation)
     ∷ []

@@ -21,7 +21,7 @@ abbrev pub view : History Body → View
 view ops = record {
   version = version_of ops;
   job = λ job. job_view (of_job job ops);
-  reservation = λ name. reservation_view (of_reservation name ops);
+  reservation = λ id. reservation_view (of_reservation id ops);
 }
 
 -- the set has the Submit of the job
@@ -30,4 +30,4 @@ HasSubmit ops job = (owner : List ℕ) × (values : JobValues) × (held : Bool) 
 
 -- the set has the Reserve of the reservation
 abbrev pub HasReserve : History Body → StampValue → Type 0
-HasReserve ops name = (window : Window) × Has ops (name, Reserve window)
+HasReserve ops id = (window : Window) × Has ops (id, Reserve window)

@@ -14,7 +14,7 @@ use crate::moments::Moment;
 use crate::node_counts::Nodes;
 use crate::priorities::Priority;
 use crate::values::{Changes, JobValues};
-use fed_stamp::{Word, site_is_of_sixteen, word_is_name};
+use fed_stamp::{Word, site_is_in_range, word_is_name};
 
 /// A priority is from `MIN_PRIORITY` to `MAX_PRIORITY`.
 pub fn priority_is_ranged(priority: Priority)
@@ -123,14 +123,14 @@ pub fn commands_are_ranged(who: &Who, command: &Command)
             values_are_ranged(values);
         }
         Command::Alter { changes, .. } => changes_are_ranged(changes),
-        Command::Grant { asker, .. } => site_is_of_sixteen(*asker),
+        Command::Grant { asker, .. } => site_is_in_range(*asker),
         Command::Begin { moment, .. } => moment_is_ranged(*moment),
         Command::Finish { moment, status, .. } => {
             moment_is_ranged(*moment);
             // it is read, which tells that it is a `u8`
             let _status = *status;
         }
-        Command::Reserve { window } => site_is_of_sixteen(window.site),
+        Command::Reserve { window } => site_is_in_range(window.site),
         _ => {}
     }
 }

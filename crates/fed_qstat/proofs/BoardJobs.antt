@@ -22,10 +22,10 @@ use Rattle.fed_record.specs.JobRecord.{JobRecordValue, job_reads}
 use Rattle.fed_model.specs.JobView.{JobView}
 use Rattle.fed_model.specs.Letter.{is_submitted, letter}
 use Rattle.fed_board.specs.Board.{BoardValue, IsBoard, no_operation, board_reads}
-use Rattle.fed_model.specs.Names.{covered_stamps, jobs_in}
+use Rattle.fed_model.specs.Identifiers.{covered_stamps, jobs_in}
 use Rattle.fed_model.specs.View.{View}
 use Rattle.fed_theory.proofs.CoveredStamps.{covered_ascend, covered_has, same_stamps}
-use Rattle.fed_board.proofs.ListedNames.{known_job}
+use Rattle.fed_board.proofs.ListedIdentifiers.{known_job}
 use Rattle.fed_qstat.specs.Listing.{is_asked, is_shown, listing, shown_text}
 
 -- ---- the jobs of a board
@@ -33,7 +33,7 @@ use Rattle.fed_qstat.specs.Listing.{is_asked, is_shown, listing, shown_text}
 pub record IsListed (b : BoardValue) : Type 0 where
   pub board : IsBoard b
   pub ascending : IsStrictlySortedBy stamp_cmp (keys_of b.jobs)
-  pub names : keys_of b.jobs ≡ jobs_in (board_reads b)
+  pub ids : keys_of b.jobs ≡ jobs_in (board_reads b)
 
 there : (b : BoardValue) → IsListed b → (job : StampValue) → is_submitted ((board_reads b).job job) ≡ true → Has (jobs_in (board_reads b)) job
 there b p job s =
@@ -67,7 +67,7 @@ module _ (lines : StampValue → JobView → List ℕ) where
 
   -- the lines of named jobs
   abbrev pub named_texts : View → List StampValue → List ℕ
-  named_texts v names = flat_map (λ job. shown_text lines job (v.job job)) names
+  named_texts v ids = flat_map (λ job. shown_text lines job (v.job job)) ids
 
   -- the record of an entry reads as a view has it
   abbrev IsRead : View → StampValue × JobRecordValue → Type 0
@@ -86,36 +86,36 @@ module _ (lines : StampValue → JobView → List ℕ) where
   all_listed b p =
       let v : View = board_reads b in
       texts-read v b.jobs (All-weaker _ (IsRead v) (λ e h. read_at b e (lookup-from_Contains (eq_by_cmp_equiv stamp_total) e.0 e.1 b.jobs (IsDistinct-from_sorted stamp_cmp (keys_of b.jobs) p.ascending) h)) b.jobs (All-contains_itself b.jobs))
-      ∙ ap (named_texts v) p.names
+      ∙ ap (named_texts v) p.ids
       ∙ flat_map_where (λ job. is_submitted (v.job job) && is_some (letter (v.job job))) (is_shown v []) (λ job. lines job (v.job job)) (jobs_in v)
       (λ job h. ap (λ t. t && is_some (letter (v.job job))) (submitted v job h))
 
   asked_member : (asked : List StampValue) (job : StampValue) → asked ≢ [] → Has asked job → is_asked asked job ≡ true
   asked_member [] job some h = absurd h
-  asked_member (name ∷ asked) job some h = any_from (same_stamp job) (name ∷ asked) job h (same_stamp_itself job)
+  asked_member (id ∷ asked) job some h = any_from (same_stamp job) (id ∷ asked) job h (same_stamp_itself job)
 
   member_asked : (asked : List StampValue) (job : StampValue) → asked ≢ [] → is_asked asked job ≡ true → Has asked job
   member_asked [] job some e = absurd (some refl)
-  member_asked (name ∷ asked) job some e =
-      let f = found (same_stamp job) (name ∷ asked) e in subst (Has (name ∷ asked)) (sym (same_stamp_is job f.0 f.2)) f.1
+  member_asked (id ∷ asked) job some e =
+      let f = found (same_stamp job) (id ∷ asked) e in subst (Has (id ∷ asked)) (sym (same_stamp_is job f.0 f.2)) f.1
 
-  pub some_listed : (b : BoardValue) (names asked : List StampValue) → IsListed b → IsStrictlySortedBy stamp_cmp names → asked ≢ []
-      → ((job : StampValue) → Has names job ↔ Has asked job) → named_texts (board_reads b) names ≡ listing lines (board_reads b) asked
-  some_listed b names asked p ascending some same =
+  pub some_listed : (b : BoardValue) (ids asked : List StampValue) → IsListed b → IsStrictlySortedBy stamp_cmp ids → asked ≢ []
+      → ((job : StampValue) → Has ids job ↔ Has asked job) → named_texts (board_reads b) ids ≡ listing lines (board_reads b) asked
+  some_listed b ids asked p ascending some same =
       let v : View = board_reads b in
       let shows : StampValue → Bool = λ job. is_submitted (v.job job) && is_some (letter (v.job job)) in
-      flat_map_where shows shows (λ job. lines job (v.job job)) names (λ job h. refl)
-      ∙ ap (flat_map (λ job. lines job (v.job job))) (same_stamps (filter shows names) (filter (is_shown v asked) (jobs_in v))
-      (IsStrictlySortedBy-filter stamp_cmp shows names ascending) (IsStrictlySortedBy-filter stamp_cmp (is_shown v asked) (jobs_in v) (jobs_ascend v))
+      flat_map_where shows shows (λ job. lines job (v.job job)) ids (λ job h. refl)
+      ∙ ap (flat_map (λ job. lines job (v.job job))) (same_stamps (filter shows ids) (filter (is_shown v asked) (jobs_in v))
+      (IsStrictlySortedBy-filter stamp_cmp shows ids ascending) (IsStrictlySortedBy-filter stamp_cmp (is_shown v asked) (jobs_in v) (jobs_ascend v))
       (λ job h.
-      let f = Has-filter shows names job h in
+      let f = Has-filter shows ids job h in
       let parts = and_parts (is_submitted (v.job job)) (is_some (letter (v.job job))) f.1 in
       filter-Has (is_shown v asked) (jobs_in v) job (there b p job parts.0)
       (ap₂ (λ x y. x && y) (asked_member asked job some ((same job).0 f.0)) parts.1))
       (λ job h.
       let f = Has-filter (is_shown v asked) (jobs_in v) job h in
       let parts = and_parts (is_asked asked job) (is_some (letter (v.job job))) f.1 in
-      filter-Has shows names job ((same job).1 (member_asked asked job some parts.0))
+      filter-Has shows ids job ((same job).1 (member_asked asked job some parts.0))
       (ap₂ (λ x y. x && y) (submitted v job f.0) parts.1)))
 
   -- ---- one after another
@@ -127,18 +127,18 @@ module _ (lines : StampValue → JobView → List ℕ) where
   all_written b written s p under none =
       sym (append-nil written) ∙ ap (λ l. written ++ texts l) (sym none) ∙ under ∙ all_listed b p
 
-  -- the text has the lines of these names
+  -- the text has the lines of these identifiers
   abbrev pub AreWritten : View → List ℕ → List StampValue → Type 0
-  AreWritten v written names = written ≡ named_texts v names
+  AreWritten v written ids = written ≡ named_texts v ids
 
-  pub next_name : (v : View) (written more : List ℕ) (names names' : List StampValue) (name : StampValue)
-      → AreWritten v written names → names' ≡ names ++ name ∷ [] → more ≡ shown_text lines name (v.job name) → AreWritten v (written ++ more) names'
-  next_name v written more names names' name before grown same =
+  pub next_id : (v : View) (written more : List ℕ) (ids ids' : List StampValue) (id : StampValue)
+      → AreWritten v written ids → ids' ≡ ids ++ id ∷ [] → more ≡ shown_text lines id (v.job id) → AreWritten v (written ++ more) ids'
+  next_id v written more ids ids' id before grown same =
       ap₂ (λ x y. x ++ y) before same
-      ∙ flat_map_more (λ job. shown_text lines job (v.job job)) [] names name
+      ∙ flat_map_more (λ job. shown_text lines job (v.job job)) [] ids id
       ∙ ap (named_texts v) (sym grown)
 
-  pub named_written : (b : BoardValue) (written : List ℕ) (seen names asked : List StampValue) → IsListed b → IsStrictlySortedBy stamp_cmp names → asked ≢ []
-      → ((job : StampValue) → Has names job ↔ Has asked job) → AreWritten (board_reads b) written seen → seen ≡ names → written ≡ listing lines (board_reads b) asked
-  named_written b written seen names asked p ascending some same before whole =
-      before ∙ ap (named_texts (board_reads b)) whole ∙ some_listed b names asked p ascending some same
+  pub named_written : (b : BoardValue) (written : List ℕ) (seen ids asked : List StampValue) → IsListed b → IsStrictlySortedBy stamp_cmp ids → asked ≢ []
+      → ((job : StampValue) → Has ids job ↔ Has asked job) → AreWritten (board_reads b) written seen → seen ≡ ids → written ≡ listing lines (board_reads b) asked
+  named_written b written seen ids asked p ascending some same before whole =
+      before ∙ ap (named_texts (board_reads b)) whole ∙ some_listed b ids asked p ascending some same

@@ -1,8 +1,8 @@
 -- The columns of the short listing, as they are written one after another.
-use Rattle.std.proofs.Common.{◌≡◌, Bor, Result, Ok, Err, ℕ, suc, zero, add-one, ◌+◌, ◌-◌, ◌^◌, ◌≤◌, ◌∙◌, take, drop, sym, get_or, subst, Option, Some, None, option_map, unwrap_or, ◌<◌, Bool, true, false, cond, List, [], ◌∷◌, ◌++◌, length, replicate, refl, ap, arith, append_assoc}
+use Rattle.std.proofs.Common.{◌≡◌, ℕ, suc, zero, add-one, ◌+◌, ◌-◌, ◌^◌, ◌≤◌, ◌∙◌, take, drop, sym, get_or, subst, Option, Some, None, option_map, unwrap_or, ◌<◌, Bool, true, false, cond, List, [], ◌∷◌, ◌++◌, length, replicate, refl, ap, arith, append_assoc}
 use Rattle.std.specs.Fmt.{decimal, char_count, is_char_start}
 use Rattle.std.specs.List.{All, join_with_byte}
-use Rattle.std.specs.Prelude.{IsOk, MatchResult, slice_get}
+use Rattle.std.specs.Prelude.{slice_get}
 use Rattle.std.specs.Str.{IsAscii, IsUtf8}
 use Rattle.std.proofs.lemmas.Bool.{and_parts}
 use Rattle.std.proofs.lemmas.Bool.Decides.{nat_tests}
@@ -105,12 +105,7 @@ numbers_ascii nodes limit small little =
     IsAscii-append (32 ∷ right_in 8 (decimal nodes)) (32 ∷ right_in 9 (decimal limit) ++ 32 ∷ []) (right_ascii 8 nodes small)
     (IsAscii-append (32 ∷ right_in 9 (decimal limit)) (32 ∷ []) (right_ascii 9 limit little) (IsAscii-cons 32 [] (omega arith) IsAscii-nil))
 
-text_ok : {E : Type 0} (V : E → Type 0) (r : Result (Bor (List ℕ)) E) (row : List ℕ) → MatchResult r (λ s. (s.now ≡ row) × IsUtf8 row) (λ e. (¬ IsUtf8 row) × V e) → IsUtf8 row → IsOk r
-text_ok V (Ok s) row cases text = refl
-text_ok V (Err e) row cases text = absurd (cases.0 text)
-
 -- a row of these two numbers is text
-pub numbers_are_text : {E : Type 0} (V : E → Type 0) (r : Result (Bor (List ℕ)) E) (row : List ℕ) (nodes limit : ℕ) → nodes < 2 ^ 64 → limit < 2 ^ 64 → row ≡ 32 ∷ right_in 8 (decimal nodes) ++ (32 ∷ right_in 9 (decimal limit) ++ 32 ∷ [])
-    → MatchResult r (λ s. (s.now ≡ row) × IsUtf8 row) (λ e. (¬ IsUtf8 row) × V e) → IsOk r
-numbers_are_text V r row nodes limit small little is cases =
-    text_ok V r row cases (rw is (IsUtf8-from_ascii (32 ∷ right_in 8 (decimal nodes) ++ (32 ∷ right_in 9 (decimal limit) ++ 32 ∷ [])) (numbers_ascii nodes limit small little)))
+pub numbers_are_text : (row : List ℕ) (nodes limit : ℕ) → nodes < 2 ^ 64 → limit < 2 ^ 64 → row ≡ 32 ∷ right_in 8 (decimal nodes) ++ (32 ∷ right_in 9 (decimal limit) ++ 32 ∷ []) → IsUtf8 row
+numbers_are_text row nodes limit small little is =
+    rw is (IsUtf8-from_ascii (32 ∷ right_in 8 (decimal nodes) ++ (32 ∷ right_in 9 (decimal limit) ++ 32 ∷ [])) (numbers_ascii nodes limit small little))

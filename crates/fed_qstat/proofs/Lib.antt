@@ -1,7 +1,7 @@
 -- Lemmas on columns and on lists of jobs.
 pub mod BoardJobs
 pub mod Columns
-pub mod DistinctNames
+pub mod DistinctIdentifiers
 pub mod ListedSets
 pub mod NamesBelow
 pub mod ShownFields

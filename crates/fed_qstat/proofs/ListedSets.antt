@@ -11,7 +11,7 @@ use Rattle.fed_model.specs.Letter.{is_submitted}
 use Rattle.fed_model.specs.Lawful.{IsLawful}
 use Rattle.fed_model.specs.View.{HasSubmit, view}
 use Rattle.fed_theory.proofs.SubmitLaws.{submit_of, submitted_by}
-use Rattle.fed_model.specs.Names.{covered_stamps, jobs_in}
+use Rattle.fed_model.specs.Identifiers.{covered_stamps, jobs_in}
 use Rattle.fed_qstat.proofs.BoardJobs.{submitted}
 use Rattle.fed_theory.proofs.CoveredStamps.{covered_has}
 

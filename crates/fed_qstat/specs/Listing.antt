@@ -4,13 +4,13 @@ use Rattle.std.specs.List.{list_any}
 use Rattle.fed_stamp.specs.Stamp.{StampValue, same_stamp}
 use Rattle.fed_model.specs.JobView.{JobView}
 use Rattle.fed_model.specs.Letter.{is_submitted, letter}
-use Rattle.fed_model.specs.Names.{jobs_in}
+use Rattle.fed_model.specs.Identifiers.{jobs_in}
 use Rattle.fed_model.specs.View.{View}
 
 -- a job is asked for where it is named; where none is named all are
 abbrev pub is_asked : List StampValue → StampValue → Bool
 is_asked [] job = true
-is_asked (name ∷ names) job = list_any (same_stamp job) (name ∷ names)
+is_asked (id ∷ ids) job = list_any (same_stamp job) (id ∷ ids)
 
 -- the jobs that a listing shows: those that are asked for and aren't gone
 abbrev pub is_shown : View → List StampValue → StampValue → Bool

@@ -8,7 +8,7 @@ ghost use Rattle.fed_lattice.specs.Sets.{Has};
 ghost use Rattle.fed_model.specs.Body.{Body};
 ghost use Rattle.fed_model.specs.Lawful.{IsLawful};
 ghost use Rattle.fed_model.specs.View.{View, view, HasSubmit};
-ghost use Rattle.fed_model.specs.Names.{jobs_in};
+ghost use Rattle.fed_model.specs.Identifiers.{jobs_in};
 
 /// The jobs among which a listing chooses are, in a lawful set, exactly those that were submitted, in the order of their
 /// stamps, each once.

@@ -77,7 +77,7 @@ fn push_job(
     }
 }
 
-/// Adds the lines of the job of this name, or nothing where the board has no such job or it is gone.
+/// Adds the lines of the job with this identifier, or nothing where the board has no such job or it is gone.
 fn push_named(
     alloc: Global,
     text: &mut String,
@@ -95,12 +95,12 @@ fn push_named(
     }
 }
 
-/// The names in the order of their stamps, each once.
-fn distinct(alloc: Global, names: &[JobId]) -> Result<Vec<JobId>, AllocError>
+/// The identifiers in the order of their stamps, each once.
+fn distinct(alloc: Global, ids: &[JobId]) -> Result<Vec<JobId>, AllocError>
     ensures ascending { IfOk result (λ v. IsStrictlySortedBy stamp_cmp v.items) }
-    ensures members { IfOk result (λ v. (name : StampValue) → Has v.items name ↔ Has names.now name) }
+    ensures members { IfOk result (λ v. (id : StampValue) → Has v.items id ↔ Has ids.now id) }
 {
-    let mut distinct = Vec::from_slice(alloc, names)?;
+    let mut distinct = Vec::from_slice(alloc, ids)?;
     distinct.sort()?;
     distinct.dedup();
     Ok(distinct)
@@ -137,9 +137,9 @@ fn list_named(
     board_is_covered(board);
     board_is_in_order(board);
     let mut text = String::with_capacity(alloc, NAMED_BYTES)?;
-    let names = distinct(alloc, asked)?;
-    for name in &names {
-        push_named(alloc, &mut text, roster, layout, board, *name)?;
+    let ids = distinct(alloc, asked)?;
+    for id in &ids {
+        push_named(alloc, &mut text, roster, layout, board, *id)?;
     }
     Ok(text)
 }
@@ -149,29 +149,29 @@ fn lines_of(
     roster: &Roster,
     layout: Layout,
     board: &Board,
-    names: &[JobId],
+    ids: &[JobId],
 ) -> Result<String, NoMemory>
-    ensures { IfOk result (λ text. string_bytes text ≡ listing (lines_in layout roster.now) (board_reads board.now) names.now) }
+    ensures { IfOk result (λ text. string_bytes text ≡ listing (lines_in layout roster.now) (board_reads board.now) ids.now) }
 {
-    if names.is_empty() {
+    if ids.is_empty() {
         Ok(list_all(alloc, roster, layout, board)?)
     } else {
-        Ok(list_named(alloc, roster, layout, board, names)?)
+        Ok(list_named(alloc, roster, layout, board, ids)?)
     }
 }
 
-/// The short listing: a line for each job on the board that isn't gone and is named, or for each that isn't gone where
-/// none is named, in the order of their stamps. A job that is named twice is shown once, and a name that no job has is
-/// passed over. Where jobs are named, the others on the board take no time.
+/// The short listing: a line for each job on the board that isn't gone and is named, or for each that isn't gone
+/// where none is named, in the order of their stamps. A job that is named twice is shown once, and an identifier that
+/// no job has is passed over. Where jobs are named, the others on the board take no time.
 pub fn list(
     alloc: Global,
     board: &Board,
     roster: &Roster,
-    names: &[JobId],
+    ids: &[JobId],
 ) -> Result<String, NoMemory>
-    ensures { IfOk result (λ text. string_bytes text ≡ listing (line_of_short roster.now) (board_reads board.now) names.now) }
+    ensures { IfOk result (λ text. string_bytes text ≡ listing (line_of_short roster.now) (board_reads board.now) ids.now) }
 {
-    lines_of(alloc, roster, Layout::Short, board, names)
+    lines_of(alloc, roster, Layout::Short, board, ids)
 }
 
 /// The full listing: twelve lines for each job that the short listing has a line for.
@@ -179,9 +179,9 @@ pub fn full(
     alloc: Global,
     board: &Board,
     roster: &Roster,
-    names: &[JobId],
+    ids: &[JobId],
 ) -> Result<String, NoMemory>
-    ensures { IfOk result (λ text. string_bytes text ≡ listing (lines_of_full roster.now) (board_reads board.now) names.now) }
+    ensures { IfOk result (λ text. string_bytes text ≡ listing (lines_of_full roster.now) (board_reads board.now) ids.now) }
 {
-    lines_of(alloc, roster, Layout::Full, board, names)
+    lines_of(alloc, roster, Layout::Full, board, ids)
 }

@@ -89,5 +89,6 @@ pub(crate) fn push_nodes_and_limit(
     let mut row = [b' '; ROW];
     write_right(&mut row, ROW - 1, 9, limit);
     write_right(&mut row, ROW - 11, 8, nodes);
-    text.push_str(str::from_utf8(&row).unwrap())
+    // digits and spaces are ASCII, and so text
+    text.push_str(unsafe { str::from_utf8_unchecked(&row) })
 }

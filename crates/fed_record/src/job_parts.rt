@@ -15,7 +15,7 @@ use crate::records::{JobFields, JobRecord, JobStages};
 use crate::stages::Stages;
 use fed_lattice::{Causal, Flag, NoMemory, Register, Stage};
 use fed_model::{Account, GrantStage, HoldKind, Limit, Nodes, Priority};
-use fed_stamp::{SiteId, Stamp, Version, Word, site_is_of_sixteen};
+use fed_stamp::{SiteId, Stamp, Version, Word, site_is_in_range};
 use fed_tags::TagSet;
 use std::alloc::Global;
 
@@ -55,7 +55,7 @@ fn covers_pairs<T: Copy>(version: &Version, pairs: &[(T, Stamp)]) -> bool
 {
     for pair in pairs {
         let stamp = pair.1;
-        site_is_of_sixteen(stamp.site());
+        site_is_in_range(stamp.site());
         if !version.covers(stamp) {
             return false;
         }

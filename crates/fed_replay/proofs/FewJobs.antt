@@ -10,17 +10,17 @@ use Rattle.fed_lattice.specs.Sets.{Has}
 use Rattle.fed_lattice.specs.SetLaws.{Has-cases}
 use Rattle.fed_lattice.proofs.FilterLaws.{Has-filter}
 use Rattle.fed_model.specs.Letter.{is_submitted}
-use Rattle.fed_board.specs.Counts.{names_of}
-use Rattle.fed_model.specs.Names.{covered_stamps, jobs_in, stamps_of}
+use Rattle.fed_board.specs.Counts.{ids_of}
+use Rattle.fed_model.specs.Identifiers.{covered_stamps, jobs_in, stamps_of}
 use Rattle.fed_model.specs.View.{View}
-use Rattle.fed_board.proofs.CountLaws.{names-push}
+use Rattle.fed_board.proofs.CountLaws.{ids-push}
 
--- ---- names that the sites below a number gave
-abbrev names_below : ℕ → List StampValue → ℕ
-names_below n names = count_by (λ (name : StampValue). nat_lt name.site n) names
+-- ---- identifiers that the sites below a number gave
+abbrev ids_below : ℕ → List StampValue → ℕ
+ids_below n ids = count_by (λ (id : StampValue). nat_lt id.site n) ids
 
-below-push : (n : ℕ) (name : StampValue) (names : List StampValue) → names_below n (name ∷ names) ≡ cond (nat_lt name.site n) 1 0 + names_below n names
-below-push n name names = sum_by-cons (λ (s : StampValue). cond (nat_lt s.site n) 1 0) name names
+below-push : (n : ℕ) (id : StampValue) (ids : List StampValue) → ids_below n (id ∷ ids) ≡ cond (nat_lt id.site n) 1 0 + ids_below n ids
+below-push n id ids = sum_by-cons (λ (s : StampValue). cond (nat_lt s.site n) 1 0) id ids
 
 -- a site below the next number is below the number or is it
 one_site : (n site : ℕ) → cond (nat_lt site (suc n)) 1 0 ≡ cond (nat_lt site n) 1 0 + cond (site == n) 1 0
@@ -32,26 +32,26 @@ one_site n site = elim (cases_lt site n) [
   ]
 ]
 
-one_site_more : (n : ℕ) (names : List StampValue) → names_below (suc n) names ≡ names_below n names + names_of n names
+one_site_more : (n : ℕ) (ids : List StampValue) → ids_below (suc n) ids ≡ ids_below n ids + ids_of n ids
 one_site_more n [] = refl
-one_site_more n (name ∷ names) =
-    omega (arith, below-push (suc n) name names, below-push n name names, names-push n name names, one_site n name.site, one_site_more n names)
+one_site_more n (id ∷ ids) =
+    omega (arith, below-push (suc n) id ids, below-push n id ids, ids-push n id ids, one_site n id.site, one_site_more n ids)
 
-none_below : (names : List StampValue) → names_below 0 names ≡ 0
+none_below : (ids : List StampValue) → ids_below 0 ids ≡ 0
 none_below [] = refl
-none_below (name ∷ names) =
-    let here : ◌≡◌ {A = ℕ} (cond (nat_lt name.site 0) 1 0) 0 = ap (λ b. cond b 1 0) (le-ltb name.site 0 (omega arith)) in
-    omega (arith, below-push 0 name names, here, none_below names)
+none_below (id ∷ ids) =
+    let here : ◌≡◌ {A = ℕ} (cond (nat_lt id.site 0) 1 0) 0 = ap (λ b. cond b 1 0) (le-ltb id.site 0 (omega arith)) in
+    omega (arith, below-push 0 id ids, here, none_below ids)
 
-few_below : (names : List StampValue) → ((site : ℕ) → names_of site names ≤ 10_000) → (n : ℕ) → names_below n names ≤ n * 10_000
-few_below names each zero = omega (arith, none_below names)
-few_below names each (suc n) = omega (arith, one_site_more n names, few_below names each n, each n)
+few_below : (ids : List StampValue) → ((site : ℕ) → ids_of site ids ≤ 10_000) → (n : ℕ) → ids_below n ids ≤ n * 10_000
+few_below ids each zero = omega (arith, none_below ids)
+few_below ids each (suc n) = omega (arith, one_site_more n ids, few_below ids each n, each n)
 
-all_below : (n : ℕ) (names : List StampValue) → ((name : StampValue) → Has names name → name.site < n) → names_below n names ≡ length names
+all_below : (n : ℕ) (ids : List StampValue) → ((id : StampValue) → Has ids id → id.site < n) → ids_below n ids ≡ length ids
 all_below n [] placed = refl
-all_below n (name ∷ names) placed =
-    let here : ◌≡◌ {A = ℕ} (cond (nat_lt name.site n) 1 0) 1 = ap (λ b. cond b 1 0) (lt-ltb name.site n (placed name (inl refl))) in
-    omega (arith, below-push n name names, here, all_below n names (λ s h. placed s (inr h)))
+all_below n (id ∷ ids) placed =
+    let here : ◌≡◌ {A = ℕ} (cond (nat_lt id.site n) 1 0) 1 = ap (λ b. cond b 1 0) (lt-ltb id.site n (placed id (inl refl))) in
+    omega (arith, below-push n id ids, here, all_below n ids (λ s h. placed s (inr h)))
 
 -- ---- the jobs of a view are named by the 16 sites
 row_placed : (counter n a : ℕ) (s : StampValue) → Has (map (λ site. let t : StampValue = record { counter = counter; site = site } in t) (range_with_len a n)) s → s.site < a + n
@@ -71,5 +71,5 @@ job_placed v job h =
     let covered : Has (covered_stamps v.version) job = (Has-filter (λ j. is_submitted (v.job j)) (covered_stamps v.version) job h).0 in
     table_placed (suc (greatest v.version)) 0 job (Has-filter (covers v.version) (flat_map stamps_of (range_with_len 0 (suc (greatest v.version)))) job covered).0
 
-pub few_jobs : (v : View) → ((site : ℕ) → names_of site (jobs_in v) ≤ 10_000) → length (jobs_in v) ≤ 160_000
+pub few_jobs : (v : View) → ((site : ℕ) → ids_of site (jobs_in v) ≤ 10_000) → length (jobs_in v) ≤ 160_000
 few_jobs v each = omega (arith, few_below (jobs_in v) each 16, all_below 16 (jobs_in v) (job_placed v))

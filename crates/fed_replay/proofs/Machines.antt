@@ -1,13 +1,15 @@
 -- The machine of a site in a run has no fault, so that its plan is said.
-use Rattle.std.specs.Prelude.{is_none, if◌then◌else◌}
+use Rattle.std.specs.Prelude.{is_none, option_map, if◌then◌else◌}
 use Rattle.std.proofs.Common.{◌≡◌, ℕ, ◌<◌, Bool, List, [], length, Option, Some, None, sym, ap, subst, ◌∙◌}
 use Rattle.fed_stamp.specs.Roster.{IsRoster, nodes_at}
 use Rattle.fed_lattice.specs.History.{History}
 use Rattle.fed_model.specs.Body.{Body}
 use Rattle.fed_model.specs.View.{View, view}
 use Rattle.fed_easy.specs.Machine.{first_fault, running_in}
+use Rattle.fed_easy.specs.SitePlan.{site_plan}
 use Rattle.fed_model.specs.Limits.{IsWithinLimits}
-use Rattle.fed_answers.specs.Planned.{plan_or_none, plan_text, planned}
+use Rattle.fed_answers.specs.Planned.{machine_in, plan_or_none, plan_text, planned}
+use Rattle.fed_qstat.specs.PlanText.{plan_lines}
 use Rattle.fed_replay.proofs.RunMachines.{machine_within}
 
 -- nothing is wrong with the machine of a site of the roster whose operations are within limits
@@ -20,7 +22,7 @@ whole_machine r roster v ops site lawful small same stands within =
 
 module _ (r roster : List (List ℕ × ℕ)) (v : View) (ops : History Body) (site moment : ℕ) (lawful : IsRoster roster) (small : site < length roster) (same : r ≡ roster) (stands : v ≡ view ops) (within : IsWithinLimits ops) where
   planned_whole : plan_text r v site moment ≡ planned r v site moment
-  planned_whole = ap (λ (b : Bool). plan_or_none (if b then Some (planned r v site moment) else None)) (ap is_none (whole_machine r roster v ops site lawful small same stands within))
+  planned_whole = ap (λ (b : Bool). plan_or_none (option_map (plan_lines r) (if b then Some (site_plan v site moment (machine_in r v site)) else None))) (ap is_none (whole_machine r roster v ops site lawful small same stands within))
 
   pub planned_at : (text : List ℕ) → text ≡ plan_text r v site moment → text ≡ planned roster (view ops) site moment
   planned_at text e = e ∙ planned_whole ∙ ap (λ l. planned l v site moment) same ∙ ap (λ u. planned roster u site moment) stands

@@ -14,13 +14,13 @@ use Rattle.fed_model.specs.Body.{Body, Body.Begin, is_of_job, of_job}
 use Rattle.fed_model.specs.Field.{begin_in, field}
 use Rattle.fed_model.specs.JobView.{JobView}
 use Rattle.fed_theory.proofs.FoundLaws.{field_found}
-use Rattle.fed_model.specs.Names.{jobs_in}
+use Rattle.fed_model.specs.Identifiers.{jobs_in}
 use Rattle.fed_model.specs.View.{view}
 use Rattle.fed_model.specs.Ranges.{IsBeginning, IsInRange}
 use Rattle.fed_model.specs.Limits.{IsWithinLimits}
 use Rattle.fed_model.specs.declared.capacities.TheConstants.{MAX_JOBS}
-use Rattle.fed_board.specs.Counts.{names_of}
-use Rattle.fed_board.proofs.CountedNames.{sited_jobs_counted}
+use Rattle.fed_board.specs.Counts.{ids_of}
+use Rattle.fed_board.proofs.CountedIdentifiers.{sited_jobs_counted}
 use Rattle.fed_easy.specs.declared.machines.MachineFault.TheVariants.{Nodes, TooMany, Entry}
 use Rattle.fed_easy.specs.declared.machines.Running.{Running}
 use Rattle.fed_easy.specs.Machine.{entry_of, first_fault, is_bad, is_entry, running_in, running_of}
@@ -94,7 +94,7 @@ module _ (ops : History Body) (within : IsWithinLimits ops) where
   sited : HasSites ops
   sited e h = let at = (within.stamps e h).1 in omega arith
 
-  few_named : (site : ℕ) → names_of site (jobs_in (view ops)) ≤ MAX_JOBS
+  few_named : (site : ℕ) → ids_of site (jobs_in (view ops)) ≤ MAX_JOBS
   few_named site = subst (λ (n : ℕ). n ≤ MAX_JOBS) (sym (sited_jobs_counted ops sited site)) (within.jobs site)
 
   few_entries : (site : ℕ) → length (running_in site (view ops)) ≤ 1_000_000

@@ -61,8 +61,8 @@ has_job b job = go (lookup (is_at (stamp_cmp job)) b.jobs)
     go None e = cc
     go (Some r) e = refl
 
-has_reservation : (b : BoardValue) (name : StampValue) → is_standing ((board_reads b).reservation name) ≡ true → HasReservation b name
-has_reservation b name = go (lookup (is_at (stamp_cmp name)) b.reservations)
+has_reservation : (b : BoardValue) (id : StampValue) → is_standing ((board_reads b).reservation id) ≡ true → HasReservation b id
+has_reservation b id = go (lookup (is_at (stamp_cmp id)) b.reservations)
   where
     go : (a : Option ReservationView) → is_standing (unwrap_or a None) ≡ true → IsSome a
     go None e = cc
@@ -91,4 +91,4 @@ named b who (Command.HandBack job) body d e = is_body (HasNamed b) _ body e (has
 named b who (Command.Begin job moment) body d e = is_body (HasNamed b) _ body e (has_job b job (known_begin (board_reads b) job moment d))
 named b who (Command.Finish job moment status) body d e = is_body (HasNamed b) _ body e (has_job b job (known_finish (board_reads b) job moment status d))
 named b who (Command.Reserve window) body d e = is_body (HasNamed b) _ body e tt
-named b who (Command.Cancel name) body d e = is_body (HasNamed b) _ body e (has_reservation b name (not-false _ (spared (board_reads b) (Command.Cancel name) d).1.0))
+named b who (Command.Cancel id) body d e = is_body (HasNamed b) _ body e (has_reservation b id (not-false _ (spared (board_reads b) (Command.Cancel id) d).1.0))

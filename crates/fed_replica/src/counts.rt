@@ -2,7 +2,7 @@
 ghost use Rattle.std.specs.Prelude.{◌≡◌};
 ghost use Rattle.std.specs.Map.{keys_of};
 ghost use Rattle.fed_board.specs.Board.{board_reads};
-ghost use Rattle.fed_board.specs.Counts.{names_of};
+ghost use Rattle.fed_board.specs.Counts.{ids_of};
 ghost use Rattle.fed_model.specs.Origin.{jobs_of, reservations_of};
 
 use fed_board::{Board, board_is_covered, board_is_in_order};
@@ -10,8 +10,8 @@ use fed_stamp::SiteId;
 
 /// What `Board::job_count` and `Board::reservation_count` answer is what a site's limits are held against.
 pub fn counts_are_read(board: &Board, site: SiteId)
-    ensures jobs { names_of site (keys_of board.now.jobs) ≡ jobs_of (board_reads board.now) site }
-    ensures reservations { names_of site (keys_of board.now.reservations) ≡ reservations_of (board_reads board.now) site }
+    ensures jobs { ids_of site (keys_of board.now.jobs) ≡ jobs_of (board_reads board.now) site }
+    ensures reservations { ids_of site (keys_of board.now.reservations) ≡ reservations_of (board_reads board.now) site }
 {
     board_is_covered(board);
     board_is_in_order(board);

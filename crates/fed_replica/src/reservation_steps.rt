@@ -24,10 +24,10 @@ fn is_bad_window(window: &Window) -> bool
 }
 
 /// Whether the reservation is made and not cancelled.
-fn is_standing(board: &Board, name: Stamp) -> bool
-    ensures { result ≡ is_reservation_standing ((board_reads board.now).reservation name) }
+fn is_standing(board: &Board, id: Stamp) -> bool
+    ensures { result ≡ is_reservation_standing ((board_reads board.now).reservation id) }
 {
-    match board.reservation(name) {
+    match board.reservation(id) {
         Some(reservation) => reservation.window().is_some(),
         None => false,
     }
@@ -62,19 +62,19 @@ pub(crate) fn reserve(
 
 /// Cancels the reservation.
 #[tactic(auto, unfolding(fed_model::specs::Answer::answer_to))]
-pub(crate) fn cancel(board: &Board, here: SiteId, who: &Who, name: Stamp) -> Result<Step, Refusal>
-    ensures { answer_by result ≡ answer_to (board_reads board.now) here who.now (Command.Cancel name) }
+pub(crate) fn cancel(board: &Board, here: SiteId, who: &Who, id: Stamp) -> Result<Step, Refusal>
+    ensures { answer_by result ≡ answer_to (board_reads board.now) here who.now (Command.Cancel id) }
 {
     if !is_operator(who.role) {
         return Err(Refusal::NotPermitted);
     }
-    if !is_standing(board, name) {
+    if !is_standing(board, id) {
         return Err(Refusal::UnknownReservation);
     }
     let at = next_stamp(board, here)?;
     Ok(Step::Adds {
         at,
-        operation: Operation::Cancel { reservation: name },
+        operation: Operation::Cancel { reservation: id },
         reply: Reply::Done,
     })
 }

@@ -1,5 +1,5 @@
 -- A readable line is ASCII, so it is text.
-use Rattle.std.proofs.Common.{◌≡◌, ℕ, ◌<◌, Bool, true, false, List, Some, Ok, Err, Result, ap, arith, get_or, refl}
+use Rattle.std.proofs.Common.{◌≡◌, ℕ, ◌<◌, true, List, Some, Ok, Err, Result, ap, arith, get_or}
 use Rattle.std.specs.Prelude.{MatchResult, option_map}
 use Rattle.std.specs.Result.{result_ok}
 use Rattle.std.specs.Borrow.{Bor}
@@ -16,13 +16,8 @@ readable_byte b e = grind (arith, nat_tests)
 readable_ascii : (line : List ℕ) → is_readable line ≡ true → IsAscii line
 readable_ascii line e = IsAscii-from_all line (λ k d within. readable_byte (get_or line k d) (AllPass-from_list_all is_readable_byte line e k d within))
 
--- what isn't text can't be read
-unread : (line : List ℕ) (read : Bool) → is_readable line ≡ read → ¬ IsUtf8 line → false ≡ read
-unread line true e not = absurd (not (IsUtf8-from_ascii line (readable_ascii line e)))
-unread line false e not = refl
-
-pub unreadable : (line : List ℕ) → ¬ IsUtf8 line → false ≡ is_readable line
-unreadable line not = unread line (is_readable line) refl not
+pub readable_text : (line : List ℕ) → is_readable line ≡ true → IsUtf8 line
+readable_text line e = IsUtf8-from_ascii line (readable_ascii line e)
 
 pub text_of_readable : {E : Type 0} (V : E → Type 0) (r : Result (Bor (List ℕ)) E) (line : List ℕ) → MatchResult r (λ s. (s.now ≡ line) × IsUtf8 line) (λ e. (¬ IsUtf8 line) × V e)
     → is_readable line ≡ true → option_map (λ text. text.now) (result_ok r) ≡ Some line

@@ -4,7 +4,7 @@ use Rattle.std.specs.List.{All, filter, AllPass, position, position_or_len, slic
 use Rattle.std.specs.Char.{is_ascii_whitespace}
 use Rattle.std.proofs.lemmas.Bool.{not-false, not-true, cases_lt}
 use Rattle.std.proofs.lemmas.Grind.{common_steps}
-use Rattle.std.proofs.lemmas.List.{get_or-take, take-append-drop, take_all}
+use Rattle.std.proofs.lemmas.List.{drop-take, get_or-take, take-append-drop, take_all}
 use Rattle.std.proofs.lemmas.List.Elements.{All-head, All-tail, All-drop, All-from_get_or}
 use Rattle.std.proofs.lemmas.List.Splits.{slice_split_at, slice_split_none, slice_split_first, slice_split-cons_yes}
 use Rattle.std.proofs.lemmas.List.Sums.{AllPass-from_list_all, list_all-from_AllPass, fails_before_first, passes_at_first}
@@ -114,10 +114,13 @@ module _ (line : List ℕ) (start n : ℕ) (inside : start + n < length line) (s
       let empty : nat_lt 0 (length (take n (drop start line))) ≡ false = grind (arith, common_steps) in
       ap (filter (λ w. nat_lt 0 (length w))) split ∙ rw empty refl
 
+pub to_the_end : (line : List ℕ) (start : ℕ) → take (length line - start) (drop start line) ≡ drop start line
+to_the_end line start = grind (arith, common_steps)
+
 -- the last word
 pub words_of-end : (line : List ℕ) (start : ℕ) → start < length line → IsSolid line start (length line) → words_of (drop start line) ≡ drop start line ∷ []
 words_of-end line start more solid =
-    let all : take (length line - start) (drop start line) ≡ drop start line = grind (arith, common_steps) in
+    let all = to_the_end line start in
     let last : start + (length line - start) ≡ length line = omega arith in
     let some : nat_lt 0 (length (drop start line)) ≡ true = grind (arith, common_steps) in
     let whole : IsSolid line start (start + (length line - start)) = rw last solid in
@@ -144,6 +147,13 @@ pub record AreCut (text : List ℕ) (words : List (List ℕ)) (start index : ℕ
 
 pub AreCut-none : (text : List ℕ) → AreCut text [] 0 0
 AreCut-none text = record { cut = refl; readable = refl; solid = λ k low high. absurd (omega arith); behind = omega arith }
+
+-- a word that was cut off can be read
+pub AreCut-readable_word : (text : List ℕ) (words : List (List ℕ)) (start index : ℕ) (word : List ℕ) → AreCut text words start index → word ≡ take (index - start) (drop start text) → is_readable word ≡ true
+AreCut-readable_word text words start index word h is =
+    let whole : index ≡ start + (index - start) = omega (arith, h.behind) in
+    ap is_readable (is ∙ sym (drop-take start (index - start) text) ∙ ap (λ n. drop start (take n text)) (sym whole))
+    ∙ readable-drop start (take index text) h.readable
 
 module _ (text : List ℕ) (words : List (List ℕ)) (start index : ℕ) (within : index < length text) (h : AreCut text words start index) where
   pub AreCut-more : 33 ≤ get_or text index 0 → get_or text index 0 ≤ 126 → AreCut text words start (index + 1)

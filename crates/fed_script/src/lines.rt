@@ -1,5 +1,5 @@
 //! Cutting a script into lines, and a line into words.
-ghost use Rattle.std.specs.Prelude.{◌≡◌, ◌<◌, [], ◌∷◌, true, not, IfOk, IfNone, IfSome, Some, None, length, map, option_map, position, slice_get, ◌==◌, if◌then◌else◌};
+ghost use Rattle.std.specs.Prelude.{◌≡◌, ◌<◌, [], ◌∷◌, true, not, IfOk, IfNone, IfSome, IsTrue, Some, None, length, map, option_map, position, slice_get, ◌==◌, if◌then◌else◌};
 ghost use Rattle.std.specs.Char.{is_ascii_whitespace};
 ghost use Rattle.std.specs.Str.Lines.{lines, strip_carriage_return};
 ghost use Rattle.fed_script.specs.Lines.{is_readable, words_of};
@@ -25,7 +25,7 @@ pub fn split_line(script: &[u8]) -> Option<(&[u8], &[u8])>
     }
 }
 
-// The place of the first line feed.
+// The index of the first line feed.
 fn line_end(script: &[u8]) -> Option<usize>
     ensures { result ≡ position (λ byte. byte == 10) script.now }
 {
@@ -45,14 +45,14 @@ fn without_carriage_return(line: &[u8]) -> &[u8]
     }
 }
 
-// The place of the first byte that is no white space.
+// The index of the first byte that is no white space.
 fn word_start(text: &[u8]) -> Option<usize>
     ensures { result ≡ position (λ byte. not (is_ascii_whitespace byte)) text.now }
 {
     text.iter().position(|byte| !byte.is_ascii_whitespace())
 }
 
-// The place of the first byte that is white space.
+// The index of the first byte that is white space.
 fn word_end(text: &[u8]) -> Option<usize>
     ensures { result ≡ position is_ascii_whitespace text.now }
 {
@@ -76,29 +76,12 @@ pub const INLINE_WORDS: usize = 8;
 /// The words of a line.
 pub type Words<'a> = SmallVec<&'a str, INLINE_WORDS>;
 
-/// Adds the words of a text, and says whether it can be read.
-fn push_words_of<'a>(text: &'a str, words: &mut Words<'a>) -> Result<bool, AllocError>
-    requires { words.old.items ≡ [] }
-    ensures readable { IfOk result (λ read. read ≡ is_readable text.now) }
-    ensures cut { IfOk result (λ read. read ≡ true → map (λ word. word.now) words.new.items ≡ words_of text.now) }
+/// A word of a line that can be read. It is ASCII, and so text.
+fn text_of(word: &[u8]) -> &str
+    requires { IsTrue (is_readable word.now) }
+    ensures { result.now ≡ word.now }
 {
-    let mut start = 0;
-    for (index, byte) in text.as_bytes().iter().enumerate() {
-        if b' ' < *byte && *byte <= b'~' {
-            continue;
-        }
-        if *byte != b' ' && *byte != b'\t' {
-            return Ok(false);
-        }
-        if start < index {
-            words.push(&text[start..index])?;
-        }
-        start = index + 1;
-    }
-    if start < text.len() {
-        words.push(&text[start..])?;
-    }
-    Ok(true)
+    unsafe { str::from_utf8_unchecked(word) }
 }
 
 /// Adds the words of a line, which are parted by spaces and tabs, and says whether it can be read: not where it has a
@@ -108,8 +91,21 @@ pub(crate) fn push_words<'a>(line: &'a [u8], words: &mut Words<'a>) -> Result<bo
     ensures readable { IfOk result (λ read. read ≡ is_readable line.now) }
     ensures cut { IfOk result (λ read. read ≡ true → map (λ word. word.now) words.new.items ≡ words_of line.now) }
 {
-    match str::from_utf8(line) {
-        Ok(text) => push_words_of(text, words),
-        Err(_) => Ok(false),
+    let mut start = 0;
+    for (index, byte) in line.iter().enumerate() {
+        if b' ' < *byte && *byte <= b'~' {
+            continue;
+        }
+        if *byte != b' ' && *byte != b'\t' {
+            return Ok(false);
+        }
+        if start < index {
+            words.push(text_of(&line[start..index]))?;
+        }
+        start = index + 1;
     }
+    if start < line.len() {
+        words.push(text_of(&line[start..]))?;
+    }
+    Ok(true)
 }

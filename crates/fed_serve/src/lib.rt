@@ -14,6 +14,3 @@ pub use faults::ServeFault;
 pub use inputs::{MAX_LINE_BYTES, heard};
 pub use lines::{line_of_words, take_line};
 pub use serving::serve;
-
-#[cfg(test)]
-mod tests;

@@ -61,7 +61,7 @@ plain_reply roster ready (Command.HandBack job) = refl
 plain_reply roster ready (Command.Begin job moment) = refl
 plain_reply roster ready (Command.Finish job moment status) = refl
 plain_reply roster ready (Command.Reserve window) = refl
-plain_reply roster ready (Command.Cancel name) = refl
+plain_reply roster ready (Command.Cancel id) = refl
 
 stamped_reply : (roster : List (List ℕ × ℕ)) (version : List ℕ) (here : ℕ) (t : StampValue) (command : Command) → next_stamp version here ≡ Ok t
     → line_for (next_line roster version here command) (reply_with t command) ≡ answer_line (reply_text roster (reply_with t command))
@@ -75,7 +75,7 @@ stamped_reply roster version here t (Command.HandBack job) e = refl
 stamped_reply roster version here t (Command.Begin job moment) e = refl
 stamped_reply roster version here t (Command.Finish job moment status) e = refl
 stamped_reply roster version here t (Command.Reserve window) e = ap (stamp_line roster) e
-stamped_reply roster version here t (Command.Cancel name) e = refl
+stamped_reply roster version here t (Command.Cancel id) e = refl
 
 -- ---- the version grows where an operation is added
 grown : (v : List ℕ) (here : ℕ) (t : StampValue) → IsVersion v → here < 16 → next_stamp v here ≡ Ok t → is_below (raised v t) v ≡ false

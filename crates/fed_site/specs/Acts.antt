@@ -36,4 +36,4 @@ line_for ready (Submitted job) = ready
 line_for ready IsDone = answer_line (codes "done")
 line_for ready Granted = answer_line (codes "granted")
 line_for ready Yours = answer_line (codes "yours")
-line_for ready (Reserved name) = ready
+line_for ready (Reserved id) = ready

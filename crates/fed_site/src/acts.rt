@@ -16,7 +16,7 @@ use fed_board::Board;
 use fed_lattice::NoMemory;
 use fed_record::{Command, Refusal, Reply, Who};
 use fed_replica::Replica;
-use fed_stamp::{Roster, SiteId, site_is_of_sixteen, version_is_of_sixteen};
+use fed_stamp::{Roster, SiteId, site_is_in_range, version_is_in_range};
 use fed_world::Outcome;
 use std::alloc::{AllocError, Global};
 use std::borrow::CowStr;
@@ -93,7 +93,7 @@ fn told(said: Result<Reply, Refusal>) -> Result<Result<Reply, Refusal>, NoMemory
     }
 }
 
-/// What is said where the command at this place of a line is refused.
+/// What is said where the command at this index of a line is refused.
 fn refused(
     alloc: Global,
     roster: &Roster,
@@ -112,7 +112,7 @@ fn refused(
     Ok(undone(text, complaint))
 }
 
-/// Does the command at this place of a line. Where memory is refused, nothing changes.
+/// Does the command at this index of a line. Where memory is refused, nothing changes.
 fn ask(
     alloc: Global,
     roster: &Roster,
@@ -129,8 +129,8 @@ fn ask(
     ensures unchanged { OnErr result (replica.new ≡ replica.old) }
 {
     let before = replica.board().version();
-    version_is_of_sixteen(&before);
-    site_is_of_sixteen(here);
+    version_is_in_range(&before);
+    site_is_in_range(here);
     let text = ready_line(alloc, roster, here, replica.board(), command)?;
     match told(replica.act(who, command))? {
         Ok(reply) => {

@@ -13,7 +13,7 @@ pub enum Complaint {
     Unreadable,
     /// The words of a utility ask nothing.
     Misused(UsageFault),
-    /// The command at this place of the line, counted from 0, is refused; it is the first that is.
+    /// The command at this index of the line, from 0, is refused; it is the first that is.
     Refused { index: usize, refusal: Refusal },
     /// The text is no packet's.
     Unread(WireFault),

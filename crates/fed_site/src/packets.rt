@@ -19,7 +19,7 @@ use fed_answers::{AnswerText, outcome_line};
 use fed_delta::Absorb;
 use fed_lattice::NoMemory;
 use fed_replica::{Replica, Taken};
-use fed_stamp::{Roster, SiteId, Version, site_is_of_sixteen};
+use fed_stamp::{Roster, SiteId, Version, site_is_in_range};
 use fed_wire::{
     Packet, Part, Place, WireFault, read, sender_is_of_sixteen, told_packets_are_within_limits,
     write,
@@ -151,7 +151,7 @@ fn take_known(
         }),
         Err(fault) => {
             let missing = lacked(fault)?;
-            site_is_of_sixteen(missing);
+            site_is_in_range(missing);
             let text = outcome_line(alloc, roster, Outcome::Gap(missing))?;
             Ok(undone(text, Complaint::Gap(missing)))
         }
@@ -220,7 +220,7 @@ pub(crate) fn ship(alloc: Global, replica: &Replica, to: SiteId) -> Result<Vec<u
     ensures { IfOk result (λ bytes. (text : List ℕ) × IsPacketText (state_of replica.now) to text ×
         (bytes.items ≡ answer_line text)) }
 {
-    site_is_of_sixteen(to);
+    site_is_in_range(to);
     let packet = replica.ship(to)?;
     told_packets_are_within_limits(&packet);
     let mut text = write(alloc, &packet)?;

@@ -1,12 +1,11 @@
 -- On names.
-use Rattle.std.proofs.Common.{◌≡◌, ℕ, ◌<◌, ◌-◌, true, List, ◌++◌, length, replicate, drop, slice_index, take, Result, Ok, Err, MatchResult, Bor, refl, sym, ap, inl, inr, arith}
+use Rattle.std.proofs.Common.{◌≡◌, ℕ, ◌<◌, ◌-◌, true, List, ◌++◌, length, replicate, drop, slice_index, take, refl, sym, ap, inl, inr, arith}
 use Rattle.std.proofs.lemmas.Bool.{and_parts, cases_lt}
 use Rattle.std.proofs.lemmas.Bool.Decides.{nat_tests}
 use Rattle.std.proofs.lemmas.List.{drop-replicate, get_or_past}
 use Rattle.std.proofs.lemmas.List.Sums.{AllPass-from_list_all}
 use Rattle.std.proofs.lemmas.Str.{IsUtf8-from_ascii}
 use Rattle.std.specs.Str.{IsAscii, IsUtf8}
-use Rattle.std.specs.Result.{result_unwrap_or}
 use Rattle.std.proofs.Math.Seq.{take-append_seam}
 use Rattle.fed_stamp.specs.Word.{is_name, is_name_byte, padded}
 
@@ -24,11 +23,6 @@ name_ascii text h i = elim (cases_lt i (length text)) [
 -- so a name is a text
 pub name_utf8 : (text : List ℕ) → is_name text ≡ true → IsUtf8 text
 name_utf8 text h = IsUtf8-from_ascii text (name_ascii text h)
-
--- what `from_utf8` gives of the bytes of a text
-pub text_from_utf8 : {E : Type 0} (Q : E → Type 0) (bytes : List ℕ) (r : Result (Bor (List ℕ)) E) (d : Bor (List ℕ)) → MatchResult r (λ s. (s.now ≡ bytes) × IsUtf8 bytes) (λ e. (¬ (IsUtf8 bytes)) × Q e) → IsUtf8 bytes → (result_unwrap_or r d).now ≡ bytes
-text_from_utf8 Q bytes (Ok s) d h u = h.0
-text_from_utf8 Q bytes (Err e) d h u = absurd (h.0 u)
 
 -- the fields that a name is made of: its bytes copied over the front of 15 zeros
 pub written_name : (text copied : List ℕ) → copied ≡ text → is_name text ≡ true → let fields = copied ++ drop (length text) (replicate 15 0) in (padded (take (length text) fields) ≡ fields) × (length (take (length text) fields) ≡ length text) × (is_name (take (length text) fields) ≡ true)

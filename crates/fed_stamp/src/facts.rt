@@ -14,7 +14,7 @@ use crate::versions::Version;
 use crate::words::Word;
 
 /// A site is one of the 16.
-pub fn site_is_of_sixteen(site: SiteId)
+pub fn site_is_in_range(site: SiteId)
     ensures { site < SITES }
 {
     let _number = site.get();
@@ -27,11 +27,11 @@ pub fn stamp_is_in_range(stamp: Stamp)
     ensures site { stamp.site < SITES }
 {
     let _counter = stamp.counter();
-    site_is_of_sixteen(stamp.site());
+    site_is_in_range(stamp.site());
 }
 
 /// A version has a counter for each of the 16 sites, none above `MAX_COUNTER`.
-pub fn version_is_of_sixteen(version: &Version)
+pub fn version_is_in_range(version: &Version)
     ensures { IsVersion version.now }
 {
     let _counters = version.counters();

@@ -234,7 +234,7 @@ impl Roster {
     {
         for i in 0..SITES {
             if let Some((word, _)) = &self.sites[i] {
-                if word.as_bytes() == name.as_bytes() {
+                if word.as_str() == name {
                     return SiteId::new(i as u8);
                 }
             }

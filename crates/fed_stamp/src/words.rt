@@ -82,7 +82,8 @@ impl Word {
         ensures same { result.now ≡ self.now }
         ensures name { IsTrue (has_form_of_name result.now) }
     {
-        str::from_utf8(self.as_bytes()).unwrap_or("")
+        // a name is ASCII, and so text
+        unsafe { str::from_utf8_unchecked(self.as_bytes()) }
     }
 
     // The bytes of the name, which are compared without being read as text.

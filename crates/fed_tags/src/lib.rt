@@ -21,7 +21,7 @@ pub mod tag_changes;
 mod tags;
 
 pub use elements::Elements;
-pub use laws::joins_take_the_later_stage;
+pub use laws::joins_take_the_later_state;
 pub use pairs::Pairs;
 pub use sets::TagSet;
 pub use tag_changes::TagChange;

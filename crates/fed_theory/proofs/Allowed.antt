@@ -142,19 +142,19 @@ module _ (ops : History Body) (l : IsLawful ops) (here : ℕ) (t : StampValue) (
   ]
 
   -- ---- reservations
-  window_body : (name : StampValue) (body : Body) (w : Window) (s : StampValue) → window_in body ≡ Some (Some w) → is_of_reservation name (s, body) ≡ true → ◌≡◌ {A = StampValue × Body} (s, body) (name, Reserve w)
-  window_body name (Reserve window) w s e of =
-      let p : s ≡ name = same_stamp_is s name of in let q : window ≡ w = cc in (λ i. (p i, Reserve (q i)))
-  window_body name _ w s e of = cc
+  window_body : (id : StampValue) (body : Body) (w : Window) (s : StampValue) → window_in body ≡ Some (Some w) → is_of_reservation id (s, body) ≡ true → ◌≡◌ {A = StampValue × Body} (s, body) (id, Reserve w)
+  window_body id (Reserve window) w s e of =
+      let p : s ≡ id = same_stamp_is s id of in let q : window ≡ w = cc in (λ i. (p i, Reserve (q i)))
+  window_body id _ w s e of = cc
 
-  standing : (name : StampValue) (o : ReservationView) → (view ops).reservation name ≡ o → is_standing o ≡ true → IsReserved ops t name
-  standing name None is e = cc
-  standing name (Some (s, None)) is e = cc
-  standing name (Some (s, Some w)) is e =
-      let f = field_found window_in (of_reservation name ops) (s, Some w) is in
-      let m = Has-filter (is_of_reservation name) ops (s, f.0) f.1 in
-      let h : Has ops (name, Reserve w) = subst (Has ops) (window_body name f.0 w s f.2 m.1) m.0 in
-      (w, (h, before name (Reserve w) h))
+  standing : (id : StampValue) (o : ReservationView) → (view ops).reservation id ≡ o → is_standing o ≡ true → IsReserved ops t id
+  standing id None is e = cc
+  standing id (Some (s, None)) is e = cc
+  standing id (Some (s, Some w)) is e =
+      let f = field_found window_in (of_reservation id ops) (s, Some w) is in
+      let m = Has-filter (is_of_reservation id) ops (s, f.0) f.1 in
+      let h : Has ops (id, Reserve w) = subst (Has ops) (window_body id f.0 w s f.2 m.1) m.0 in
+      (w, (h, before id (Reserve w) h))
 
   -- ---- grants
   next_term : (job : StampValue) (term : ℕ) (s : StampValue) → Has ops (s, HandBack job term) → IsNextTerm ops t job (suc term)
@@ -251,8 +251,8 @@ module _ (ops : History Body) (l : IsLawful ops) (here : ℕ) (t : StampValue) (
     placed = tt;
     limited = (r.1.0, subst (λ (site : ℕ). reservations_of (view ops) site < 1_000) (sym next.site) (leb-false 1_000 (reservations_of (view ops) here) r.1.1.0));
   })
-  effect_allowed who (Command.Cancel name) new r e =
-      is_body _ new e (record { grounded = standing name ((view ops).reservation name) refl (not-false _ r.1.0); may = tt; placed = tt; limited = tt })
+  effect_allowed who (Command.Cancel id) new r e =
+      is_body _ new e (record { grounded = standing id ((view ops).reservation id) refl (not-false _ r.1.0); may = tt; placed = tt; limited = tt })
 
 -- an answer adds at most one operation, which its site may add, under the next stamp
 pub answer_allowed : (ops : History Body) → IsLawful ops → (here : ℕ) (who : Who) (command : Command) (said : Reply) (new : StampValue × Body) → answer ops here who command ≡ Replies said (Some new) → (IsNext (version_of ops) here new.0) × IsAllowed ops new.0 new.1

@@ -17,7 +17,7 @@ use Rattle.fed_lattice.specs.LatestLaws.{stamp_total}
 use Rattle.fed_lattice.specs.Sets.{Has}
 use Rattle.fed_lattice.specs.SetLaws.{Has-left, Has-right, Has-cases, any_same}
 use Rattle.fed_lattice.specs.KeySetLaws.{same_sets}
-use Rattle.fed_model.specs.Names.{covered_stamps, stamps_of}
+use Rattle.fed_model.specs.Identifiers.{covered_stamps, stamps_of}
 
 -- ---- lists that ascend
 from_members : {A : Type 0} (P : A → Type 0) (xs : List A) → ((x : A) → Has xs x → P x) → AllByRecursion P xs

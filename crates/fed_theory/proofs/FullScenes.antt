@@ -75,8 +75,8 @@ one_term = refl
 abbrev full_site : ℕ → View
 full_site n = record {
   version = n ∷ replicate 15 0;
-  job = λ name. if name.counter == 0 then job_view [] else (view submitted).job job;
-  reservation = λ name. None;
+  job = λ id. if id.counter == 0 then job_view [] else (view submitted).job job;
+  reservation = λ id. None;
 }
 
 no_room : answer_to (full_site 10_000) 0 ann (Command.Submit values false) ≡ Refuses Refusal.SiteFull
@@ -91,8 +91,8 @@ last_room = refl
 abbrev reserved_site : ℕ → View
 reserved_site n = record {
   version = n ∷ replicate 15 0;
-  job = λ name. job_view [];
-  reservation = λ name. if name.counter == 0 then None else Some (name, None);
+  job = λ id. job_view [];
+  reservation = λ id. if id.counter == 0 then None else Some (id, None);
 }
 
 no_reservation : answer_to (reserved_site 1_000) 0 ann (Command.Reserve (record { site = 0; start = 60; end = 61; nodes = 1 })) ≡ Refuses Refusal.SiteFull

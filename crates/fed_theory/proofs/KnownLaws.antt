@@ -62,37 +62,37 @@ module _ (ops others : History Body) (kin : AreKin ops others) where
         ap job_view (filter-append (is_of_job job) ops others) ∙ job_same (g ++ h) g same one
 
   -- of a reservation that the other set does not know, or whose greatest stamp there the version covers
-  module _ (name : StampValue) where
+  module _ (id : StampValue) where
     g : History (Option Window)
-    g = part window_in (of_reservation name ops)
+    g = part window_in (of_reservation id ops)
 
     h : History (Option Window)
-    h = part window_in (of_reservation name others)
+    h = part window_in (of_reservation id others)
 
-    joined_window : (view (ops ++ others)).reservation name ≡ latest (g ++ h)
+    joined_window : (view (ops ++ others)).reservation id ≡ latest (g ++ h)
     unfolding g h
     joined_window =
-        ap reservation_view (filter-append (is_of_reservation name) ops others)
-        ∙ ap latest (part-append window_in (of_reservation name ops) (of_reservation name others))
+        ap reservation_view (filter-append (is_of_reservation id) ops others)
+        ∙ ap latest (part-append window_in (of_reservation id ops) (of_reservation id others))
 
     one_window : OneEach (g ++ h)
     unfolding g h
     one_window =
-        let p = is_of_reservation name in
-        subst OneEach (part-append window_in (of_reservation name ops) (of_reservation name others))
+        let p = is_of_reservation id in
+        subst OneEach (part-append window_in (of_reservation id ops) (of_reservation id others))
         (one_each_part window_in _ (subst OneEach (filter-append p ops others) (one_each_filter p (ops ++ others) kin.both.distinct)))
 
     known_window : (c : StampValue × Option Window) → Has h c → covers (version_of ops) c.0 ≡ true → Has g c
     unfolding g h
     known_window c k covered =
-        let s = source window_in (of_reservation name others) c k in
-        let m = Has-filter (is_of_reservation name) others (c.0, s.0) s.1 in
-        Has-part window_in (of_reservation name ops) c.0 s.0 c.1 (filter-Has (is_of_reservation name) ops (c.0, s.0) (kin.right_shares (c.0, s.0) m.0 covered) m.1) s.2
+        let s = source window_in (of_reservation id others) c k in
+        let m = Has-filter (is_of_reservation id) others (c.0, s.0) s.1 in
+        Has-part window_in (of_reservation id ops) c.0 s.0 c.1 (filter-Has (is_of_reservation id) ops (c.0, s.0) (kin.right_shares (c.0, s.0) m.0 covered) m.1) s.2
 
     known_latest : (x : ReservationView) → register_stands_for x h → IfSome x (λ c. covers (version_of ops) c.0 ≡ true) → latest (g ++ h) ≡ latest g
     known_latest None none covered = ap (λ l. latest (g ++ l)) none ∙ ap latest (append-nil g)
     known_latest (Some c) last covered = latest_kept g h c (known_window c last.0 covered) last one_window
 
-    pub covered_reservation : IfSome ((view others).reservation name) (λ c. covers (version_of ops) c.0 ≡ true) → (view (ops ++ others)).reservation name ≡ (view ops).reservation name
+    pub covered_reservation : IfSome ((view others).reservation id) (λ c. covers (version_of ops) c.0 ≡ true) → (view (ops ++ others)).reservation id ≡ (view ops).reservation id
     unfolding g h
     covered_reservation covered = joined_window ∙ known_latest (latest h) (latest_stands h) covered

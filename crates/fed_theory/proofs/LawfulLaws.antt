@@ -37,7 +37,7 @@ module _ (ops more : History Body) (includes : Includes more ops) where
   grounded_more t (Begin job beginning) g = submitted_more t job g
   grounded_more t (Finish job ending) g = (submitted_more t job g.0, (g.1.0, g.1.1, includes _ g.1.2))
   grounded_more t (Reserve window) g = tt
-  grounded_more t (Cancel name) g = (g.0, (includes _ g.1.0, g.1.1))
+  grounded_more t (Cancel id) g = (g.0, (includes _ g.1.0, g.1.1))
 
 -- kin sets agree beside their versions
 pub kin_agree : (ops others : History Body) → AreKin ops others → Agree (version_of ops) ops (version_of others) others

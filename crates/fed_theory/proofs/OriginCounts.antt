@@ -1,4 +1,4 @@
--- How many jobs and reservations bear the name of one site, as sets grow.
+-- How many jobs and reservations have an identifier that one site gave, as sets grow.
 use Rattle.std.specs.Prelude.{count_by, cond, is_some}
 use Rattle.std.specs.List.{range_with_len}
 use Rattle.std.proofs.Common.{◌≡◌, ◌⊎◌, ℕ, zero, suc, ◌+◌, ◌≤◌, [], ◌∷◌, ◌++◌, Bool, true, false, refl, sym, ap, subst, inl, inr, arith}
@@ -57,48 +57,48 @@ one_more q p c (suc n) a more = elim (cases_eq a c) [
       let head = bit_more (q a) (p a) (λ t. elim (more a t) [ inl y ↦ y | inr s ↦ absurd (apart s) ]) in omega (arith, first_counted q a n, first_counted p a n))
 ]
 
--- ---- names that one kind of operation makes
+-- ---- identifiers that one kind of operation makes
 module _ (Makes : Body → Type 0) (made : History Body → StampValue → Bool)
-    (found : (ops : History Body) → IsLawful ops → (name : StampValue) → made ops name ≡ true → (body : Body) × Has ops (name, body) × Makes body)
-    (from : (ops : History Body) (name : StampValue) (body : Body) → Has ops (name, body) → Makes body → made ops name ≡ true) where
-  abbrev name : ℕ → ℕ → StampValue
-  name site counter = record { counter = counter; site = site }
+    (found : (ops : History Body) → IsLawful ops → (id : StampValue) → made ops id ≡ true → (body : Body) × Has ops (id, body) × Makes body)
+    (from : (ops : History Body) (id : StampValue) (body : Body) → Has ops (id, body) → Makes body → made ops id ≡ true) where
+  abbrev id : ℕ → ℕ → StampValue
+  id site counter = record { counter = counter; site = site }
 
   abbrev count : History Body → ℕ → ℕ
-  count ops site = count_by (λ counter. made ops (name site counter)) (range_with_len 0 (suc (counter_of (version_of ops) site)))
+  count ops site = count_by (λ counter. made ops (id site counter)) (range_with_len 0 (suc (counter_of (version_of ops) site)))
 
-  beyond : (ops : History Body) → IsLawful ops → (site k : ℕ) → 0 + suc (counter_of (version_of ops) site) ≤ k → made ops (name site k) ≡ false
-  beyond ops l site k far = elim (cases_Bool (made ops (name site k))) [
+  beyond : (ops : History Body) → IsLawful ops → (site k : ℕ) → 0 + suc (counter_of (version_of ops) site) ≤ k → made ops (id site k) ≡ false
+  beyond ops l site k far = elim (cases_Bool (made ops (id site k))) [
     | inl t ↦ (
-        let f = found ops l (name site k) t in
-        let le : k ≤ counter_of (version_of ops) site = version_of-Has ops (name site k, f.0) f.1 (l.sites (name site k, f.0) f.1) in absurd (omega arith))
+        let f = found ops l (id site k) t in
+        let le : k ≤ counter_of (version_of ops) site = version_of-Has ops (id site k, f.0) f.1 (l.sites (id site k, f.0) f.1) in absurd (omega arith))
     | inr t ↦ t
   ]
 
-  pub count_fewer : (ops more : History Body) → IsLawful ops → IsLawful more → (site : ℕ) → ((k : ℕ) (body : Body) → Has ops (name site k, body) → Makes body → Has more (name site k, body)) → count ops site ≤ count more site
+  pub count_fewer : (ops more : History Body) → IsLawful ops → IsLawful more → (site : ℕ) → ((k : ℕ) (body : Body) → Has ops (id site k, body) → Makes body → Has more (id site k, body)) → count ops site ≤ count more site
   count_fewer ops more l m site has =
-      let a : count ops site ≤ count_by (λ counter. made more (name site counter)) (range_with_len 0 (suc (counter_of (version_of ops) site))) =
-      fewer (λ counter. made ops (name site counter)) (λ counter. made more (name site counter)) (suc (counter_of (version_of ops) site)) 0
-      (λ k h t. let f = found ops l (name site k) t in from more (name site k) f.0 (has k f.0 f.1 f.2) f.2) in
-      let b = shorter (λ counter. made more (name site counter)) (suc (counter_of (version_of ops) site)) (suc (counter_of (version_of more) site)) 0 (beyond more m site) in
+      let a : count ops site ≤ count_by (λ counter. made more (id site counter)) (range_with_len 0 (suc (counter_of (version_of ops) site))) =
+      fewer (λ counter. made ops (id site counter)) (λ counter. made more (id site counter)) (suc (counter_of (version_of ops) site)) 0
+      (λ k h t. let f = found ops l (id site k) t in from more (id site k) f.0 (has k f.0 f.1 f.2) f.2) in
+      let b = shorter (λ counter. made more (id site counter)) (suc (counter_of (version_of ops) site)) (suc (counter_of (version_of more) site)) 0 (beyond more m site) in
       omega arith
 
   pub count_one_more : (ops : History Body) (new : StampValue × Body) → IsLawful ops → IsLawful (ops ++ new ∷ []) → (site : ℕ) → count (ops ++ new ∷ []) site ≤ count ops site + 1
   count_one_more ops new l m site =
       let n : ℕ = suc (counter_of (version_of (ops ++ new ∷ [])) site) in
-      let a : count (ops ++ new ∷ []) site ≤ count_by (λ counter. made ops (name site counter)) (range_with_len 0 n) + 1 =
-      one_more (λ counter. made (ops ++ new ∷ []) (name site counter)) (λ counter. made ops (name site counter)) new.0.counter n 0 (λ k t.
-      let f = found (ops ++ new ∷ []) m (name site k) t in
-      elim (Has-push ops new (name site k, f.0) f.1) [
-        | inl h ↦ inl (from ops (name site k) f.0 h f.2)
+      let a : count (ops ++ new ∷ []) site ≤ count_by (λ counter. made ops (id site counter)) (range_with_len 0 n) + 1 =
+      one_more (λ counter. made (ops ++ new ∷ []) (id site counter)) (λ counter. made ops (id site counter)) new.0.counter n 0 (λ k t.
+      let f = found (ops ++ new ∷ []) m (id site k) t in
+      elim (Has-push ops new (id site k, f.0) f.1) [
+        | inl h ↦ inl (from ops (id site k) f.0 h f.2)
         | inr e ↦ inr (ap (λ (x : StampValue × Body). x.0.counter) (sym e))
       ]) in
-      let b = shorter (λ counter. made ops (name site counter)) n (suc (counter_of (version_of ops) site)) 0 (beyond ops l site) in
+      let b = shorter (λ counter. made ops (id site counter)) n (suc (counter_of (version_of ops) site)) 0 (beyond ops l site) in
       omega arith
 
-  -- an operation of another kind makes no name
+  -- an operation of another kind makes no identifier
   pub count_kept : (ops : History Body) (new : StampValue × Body) → IsLawful ops → IsLawful (ops ++ new ∷ []) → (Makes new.1 → ⊥) → (site : ℕ) → count (ops ++ new ∷ []) site ≤ count ops site
-  count_kept ops new l m other site = count_fewer (ops ++ new ∷ []) ops m l site (λ k body h makes. elim (Has-push ops new (name site k, body) h) [
+  count_kept ops new l m other site = count_fewer (ops ++ new ∷ []) ops m l site (λ k body h makes. elim (Has-push ops new (id site k, body) h) [
     | inl p ↦ p
     | inr e ↦ absurd (other (subst Makes (ap (λ (x : StampValue × Body). x.1) (sym e)) makes))
   ])
@@ -108,39 +108,39 @@ abbrev pub MakesJob : Body → Type 0
 MakesJob (Submit owner values held) = Unit {0}
 MakesJob _ = ⊥
 
-job_found : (ops : History Body) → IsLawful ops → (name : StampValue) → is_submitted ((view ops).job name) ≡ true → (body : Body) × Has ops (name, body) × MakesJob body
-job_found ops l name e = let s = submit_of ops name e in (Submit s.0 s.1 s.2, s.3, tt)
+job_found : (ops : History Body) → IsLawful ops → (id : StampValue) → is_submitted ((view ops).job id) ≡ true → (body : Body) × Has ops (id, body) × MakesJob body
+job_found ops l id e = let s = submit_of ops id e in (Submit s.0 s.1 s.2, s.3, tt)
 
-job_from : (ops : History Body) (name : StampValue) (body : Body) → Has ops (name, body) → MakesJob body → is_submitted ((view ops).job name) ≡ true
-job_from ops name (Submit owner values held) h m = submitted_by ops name (owner, values, held, h)
-job_from ops name _ h m = absurd m
+job_from : (ops : History Body) (id : StampValue) (body : Body) → Has ops (id, body) → MakesJob body → is_submitted ((view ops).job id) ≡ true
+job_from ops id (Submit owner values held) h m = submitted_by ops id (owner, values, held, h)
+job_from ops id _ h m = absurd m
 
 pub jobs_fewer : (ops more : History Body) → IsLawful ops → IsLawful more → (site : ℕ) → ((e : StampValue × Body) → Has ops e → e.0.site ≡ site → Has more e) → jobs_of (view ops) site ≤ jobs_of (view more) site
-jobs_fewer ops more l m site has = count_fewer MakesJob (λ o name. is_submitted ((view o).job name)) job_found job_from ops more l m site (λ k body h makes. has _ h refl)
+jobs_fewer ops more l m site has = count_fewer MakesJob (λ o id. is_submitted ((view o).job id)) job_found job_from ops more l m site (λ k body h makes. has _ h refl)
 
 pub jobs_one_more : (ops : History Body) (new : StampValue × Body) → IsLawful ops → IsLawful (ops ++ new ∷ []) → (site : ℕ) → jobs_of (view (ops ++ new ∷ [])) site ≤ jobs_of (view ops) site + 1
-jobs_one_more = count_one_more MakesJob (λ o name. is_submitted ((view o).job name)) job_found job_from
+jobs_one_more = count_one_more MakesJob (λ o id. is_submitted ((view o).job id)) job_found job_from
 
 pub jobs_kept : (ops : History Body) (new : StampValue × Body) → IsLawful ops → IsLawful (ops ++ new ∷ []) → (MakesJob new.1 → ⊥) → (site : ℕ) → jobs_of (view (ops ++ new ∷ [])) site ≤ jobs_of (view ops) site
-jobs_kept = count_kept MakesJob (λ o name. is_submitted ((view o).job name)) job_found job_from
+jobs_kept = count_kept MakesJob (λ o id. is_submitted ((view o).job id)) job_found job_from
 
 -- ---- reservations
 abbrev pub MakesReservation : Body → Type 0
 MakesReservation (Reserve window) = Unit {0}
 MakesReservation _ = ⊥
 
-reservation_found : (ops : History Body) → IsLawful ops → (name : StampValue) → is_some ((view ops).reservation name) ≡ true → (body : Body) × Has ops (name, body) × MakesReservation body
-reservation_found ops l name e = let r = reserve_of ops name l e in (Reserve r.0, r.1, tt)
+reservation_found : (ops : History Body) → IsLawful ops → (id : StampValue) → is_some ((view ops).reservation id) ≡ true → (body : Body) × Has ops (id, body) × MakesReservation body
+reservation_found ops l id e = let r = reserve_of ops id l e in (Reserve r.0, r.1, tt)
 
-reservation_from : (ops : History Body) (name : StampValue) (body : Body) → Has ops (name, body) → MakesReservation body → is_some ((view ops).reservation name) ≡ true
-reservation_from ops name (Reserve window) h m = made_from ops name (window, h)
-reservation_from ops name _ h m = absurd m
+reservation_from : (ops : History Body) (id : StampValue) (body : Body) → Has ops (id, body) → MakesReservation body → is_some ((view ops).reservation id) ≡ true
+reservation_from ops id (Reserve window) h m = made_from ops id (window, h)
+reservation_from ops id _ h m = absurd m
 
 pub reservations_fewer : (ops more : History Body) → IsLawful ops → IsLawful more → (site : ℕ) → ((e : StampValue × Body) → Has ops e → e.0.site ≡ site → Has more e) → reservations_of (view ops) site ≤ reservations_of (view more) site
-reservations_fewer ops more l m site has = count_fewer MakesReservation (λ o name. is_some ((view o).reservation name)) reservation_found reservation_from ops more l m site (λ k body h makes. has _ h refl)
+reservations_fewer ops more l m site has = count_fewer MakesReservation (λ o id. is_some ((view o).reservation id)) reservation_found reservation_from ops more l m site (λ k body h makes. has _ h refl)
 
 pub reservations_one_more : (ops : History Body) (new : StampValue × Body) → IsLawful ops → IsLawful (ops ++ new ∷ []) → (site : ℕ) → reservations_of (view (ops ++ new ∷ [])) site ≤ reservations_of (view ops) site + 1
-reservations_one_more = count_one_more MakesReservation (λ o name. is_some ((view o).reservation name)) reservation_found reservation_from
+reservations_one_more = count_one_more MakesReservation (λ o id. is_some ((view o).reservation id)) reservation_found reservation_from
 
 pub reservations_kept : (ops : History Body) (new : StampValue × Body) → IsLawful ops → IsLawful (ops ++ new ∷ []) → (MakesReservation new.1 → ⊥) → (site : ℕ) → reservations_of (view (ops ++ new ∷ [])) site ≤ reservations_of (view ops) site
-reservations_kept = count_kept MakesReservation (λ o name. is_some ((view o).reservation name)) reservation_found reservation_from
+reservations_kept = count_kept MakesReservation (λ o id. is_some ((view o).reservation id)) reservation_found reservation_from

@@ -26,20 +26,20 @@ module _ (ops : History Body) (job : StampValue) where
   pub submitted_by : HasSubmit ops job → is_submitted ((view ops).job job) ≡ true
   submitted_by s = submitted_from (of_job job ops) job s.0 s.1 s.2 (filter-Has (is_of_job job) ops (job, Submit s.0 s.1 s.2) s.3 (same_stamp_itself job))
 
-  named : (t name : StampValue) → IsSubmitted ops t name → same_stamp name job ≡ true → HasSubmit ops job
-  named t name s of = (s.0, s.1, s.2, subst (λ (n : StampValue). Has ops (n, Submit s.0 s.1 s.2)) (same_stamp_is name job of) s.3.0)
+  named : (t id : StampValue) → IsSubmitted ops t id → same_stamp id job ≡ true → HasSubmit ops job
+  named t id s of = (s.0, s.1, s.2, subst (λ (n : StampValue). Has ops (n, Submit s.0 s.1 s.2)) (same_stamp_is id job of) s.3.0)
 
   -- the job of an operation of a lawful set was submitted in it
   pub job_submitted : (t : StampValue) (body : Body) → Has ops (t, body) → IsGrounded ops t body → is_of_job job (t, body) ≡ true → HasSubmit ops job
   job_submitted t (Submit owner values held) h g of = (owner, values, held, subst (λ (n : StampValue). Has ops (n, Submit owner values held)) (same_stamp_is t job of) h)
-  job_submitted t (Set name changes removed) h g of = named t name g.0 of
-  job_submitted t (Hold name kinds) h g of = named t name g of
-  job_submitted t (Release name removed) h g of = named t name g.0 of
-  job_submitted t (Delete name) h g of = named t name g of
-  job_submitted t (Grant name site term) h g of = named t name g.0 of
-  job_submitted t (HandBack name term) h g of = named t name g.0 of
-  job_submitted t (Begin name beginning) h g of = named t name g of
-  job_submitted t (Finish name ending) h g of = named t name g.0 of
+  job_submitted t (Set id changes removed) h g of = named t id g.0 of
+  job_submitted t (Hold id kinds) h g of = named t id g of
+  job_submitted t (Release id removed) h g of = named t id g.0 of
+  job_submitted t (Delete id) h g of = named t id g of
+  job_submitted t (Grant id site term) h g of = named t id g.0 of
+  job_submitted t (HandBack id term) h g of = named t id g.0 of
+  job_submitted t (Begin id beginning) h g of = named t id g of
+  job_submitted t (Finish id ending) h g of = named t id g.0 of
   job_submitted t _ h g of = cc
 
   -- a lawful set has no operation of a job that is not submitted in it
@@ -51,19 +51,19 @@ module _ (ops : History Body) (job : StampValue) where
   pub unknown_view : IsLawful ops → is_submitted ((view ops).job job) ≡ false → (view ops).job job ≡ job_view []
   unknown_view l e = ap job_view (unknown_job l e)
 
-module _ (ops : History Body) (name : StampValue) where
+module _ (ops : History Body) (id : StampValue) where
   -- the reservation of an operation of a lawful set was made in it
-  made_by : (t : StampValue) (body : Body) → Has ops (t, body) → IsGrounded ops t body → is_of_reservation name (t, body) ≡ true → HasReserve ops name
-  made_by t (Reserve window) h g of = (window, subst (λ (n : StampValue). Has ops (n, Reserve window)) (same_stamp_is t name of) h)
-  made_by t (Cancel other) h g of = (g.0, subst (λ (n : StampValue). Has ops (n, Reserve g.0)) (same_stamp_is other name of) g.1.0)
+  made_by : (t : StampValue) (body : Body) → Has ops (t, body) → IsGrounded ops t body → is_of_reservation id (t, body) ≡ true → HasReserve ops id
+  made_by t (Reserve window) h g of = (window, subst (λ (n : StampValue). Has ops (n, Reserve window)) (same_stamp_is t id of) h)
+  made_by t (Cancel other) h g of = (g.0, subst (λ (n : StampValue). Has ops (n, Reserve g.0)) (same_stamp_is other id of) g.1.0)
   made_by t _ h g of = cc
 
-  pub reserve_of : IsLawful ops → is_some ((view ops).reservation name) ≡ true → HasReserve ops name
+  pub reserve_of : IsLawful ops → is_some ((view ops).reservation id) ≡ true → HasReserve ops id
   reserve_of l e =
-      let o = some_found (field window_in (of_reservation name ops)) e in
-      let f = field_found window_in (of_reservation name ops) o.0 o.1 in
-      let m = Has-filter (is_of_reservation name) ops (o.0.0, f.0) f.1 in
+      let o = some_found (field window_in (of_reservation id ops)) e in
+      let f = field_found window_in (of_reservation id ops) o.0 o.1 in
+      let m = Has-filter (is_of_reservation id) ops (o.0.0, f.0) f.1 in
       made_by o.0.0 f.0 m.0 (l.grounded (o.0.0, f.0) m.0) m.1
 
-  pub made_from : HasReserve ops name → is_some ((view ops).reservation name) ≡ true
-  made_from r = said_found window_in (Some r.0) (of_reservation name ops) name (Reserve r.0) (filter-Has (is_of_reservation name) ops (name, Reserve r.0) r.1 (same_stamp_itself name)) refl
+  pub made_from : HasReserve ops id → is_some ((view ops).reservation id) ≡ true
+  made_from r = said_found window_in (Some r.0) (of_reservation id ops) id (Reserve r.0) (filter-Has (is_of_reservation id) ops (id, Reserve r.0) r.1 (same_stamp_itself id)) refl

@@ -33,9 +33,9 @@ view_same ops others one same =
     let version = version_of-same ops others same in
     let job : (job : StampValue) → job_view (of_job job ops) ≡ job_view (of_job job others) =
     λ job. job_same (of_job job ops) (of_job job others) (same_filter (is_of_job job) ops others same) (one_each_filter (is_of_job job) ops one) in
-    let reservation : (name : StampValue) → reservation_view (of_reservation name ops) ≡ reservation_view (of_reservation name others) =
-    λ name. field_same window_in (of_reservation name ops) (of_reservation name others) (same_filter (is_of_reservation name) ops others same) (one_each_filter (is_of_reservation name) ops one) in
-    (λ i. record { version = version i; job = λ j. job j i; reservation = λ name. reservation name i })
+    let reservation : (id : StampValue) → reservation_view (of_reservation id ops) ≡ reservation_view (of_reservation id others) =
+    λ id. field_same window_in (of_reservation id ops) (of_reservation id others) (same_filter (is_of_reservation id) ops others same) (one_each_filter (is_of_reservation id) ops one) in
+    (λ i. record { version = version i; job = λ j. job j i; reservation = λ id. reservation id i })
 
 -- the members of a set that pass a test, once one more operation is there
 pushed : (p : StampValue × Body → Bool) (ops : History Body) (e : StampValue × Body) → filter p (ops ++ e ∷ []) ≡ (if p e then filter p ops ++ e ∷ [] else filter p ops)
@@ -74,18 +74,18 @@ module _ (ops : History Body) (e : StampValue × Body) (l : IsLawful ops) (new :
       go true = job_push (of_job job ops) e (one_of (is_of_job job)) (fresh_of (is_of_job job)) (job_history ops l job)
       go false = refl
 
-  reservation_pushed : (name : StampValue) → reservation_view (of_reservation name (ops ++ e ∷ [])) ≡ (if is_of_reservation name e then joined_registers option_window_cmp (reservation_view (of_reservation name ops)) (with_stamp e.0 (window_in e.1)) else reservation_view (of_reservation name ops))
-  reservation_pushed name = ap reservation_view (pushed (is_of_reservation name) ops e) ∙ go (is_of_reservation name e)
+  reservation_pushed : (id : StampValue) → reservation_view (of_reservation id (ops ++ e ∷ [])) ≡ (if is_of_reservation id e then joined_registers option_window_cmp (reservation_view (of_reservation id ops)) (with_stamp e.0 (window_in e.1)) else reservation_view (of_reservation id ops))
+  reservation_pushed id = ap reservation_view (pushed (is_of_reservation id) ops e) ∙ go (is_of_reservation id e)
     where
-      go : (b : Bool) → reservation_view (if b then of_reservation name ops ++ e ∷ [] else of_reservation name ops) ≡ (if b then joined_registers option_window_cmp (reservation_view (of_reservation name ops)) (with_stamp e.0 (window_in e.1)) else reservation_view (of_reservation name ops))
-      go true = field_push option_window_cmp option_window_total window_in (of_reservation name ops) e (one_of (is_of_reservation name))
+      go : (b : Bool) → reservation_view (if b then of_reservation id ops ++ e ∷ [] else of_reservation id ops) ≡ (if b then joined_registers option_window_cmp (reservation_view (of_reservation id ops)) (with_stamp e.0 (window_in e.1)) else reservation_view (of_reservation id ops))
+      go true = field_push option_window_cmp option_window_total window_in (of_reservation id ops) e (one_of (is_of_reservation id))
       go false = refl
 
   pub view_push : view (ops ++ e ∷ []) ≡ add_to_view (view ops) e
   unfolding add_to_view
   view_push =
       let version = version_of-push ops e in
-      (λ i. record { version = version i; job = λ job. job_pushed job i; reservation = λ name. reservation_pushed name i })
+      (λ i. record { version = version i; job = λ job. job_pushed job i; reservation = λ id. reservation_pushed id i })
 
 module _ (ops others : History Body) (kin : AreKin ops others) where
   job_joined : (job : StampValue) → job_view (of_job job (ops ++ others)) ≡ join_jobs (version_of ops) (job_view (of_job job ops)) (version_of others) (job_view (of_job job others))
@@ -95,9 +95,9 @@ module _ (ops others : History Body) (kin : AreKin ops others) where
       (agree_filter (is_of_job job) (version_of ops) (version_of others) ops others (kin_agree ops others kin))
       (job_history ops kin.left job) (job_history others kin.right job)
 
-  reservation_joined : (name : StampValue) → reservation_view (of_reservation name (ops ++ others)) ≡ joined_registers option_window_cmp (reservation_view (of_reservation name ops)) (reservation_view (of_reservation name others))
-  reservation_joined name =
-      let p = is_of_reservation name in
+  reservation_joined : (id : StampValue) → reservation_view (of_reservation id (ops ++ others)) ≡ joined_registers option_window_cmp (reservation_view (of_reservation id ops)) (reservation_view (of_reservation id others))
+  reservation_joined id =
+      let p = is_of_reservation id in
       ap reservation_view (filter-append p ops others)
       ∙ field_union option_window_cmp option_window_total window_in (filter p ops) (filter p others) (subst OneEach (filter-append p ops others) (one_each_filter p (ops ++ others) kin.both.distinct))
 
@@ -105,4 +105,4 @@ module _ (ops others : History Body) (kin : AreKin ops others) where
   unfolding join_views
   view_union =
       let version = version_of-append ops others in
-      (λ i. record { version = version i; job = λ job. job_joined job i; reservation = λ name. reservation_joined name i })
+      (λ i. record { version = version i; job = λ job. job_joined job i; reservation = λ id. reservation_joined id i })

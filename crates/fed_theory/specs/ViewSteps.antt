@@ -16,16 +16,16 @@ unfoldable pub add_to_view : View → StampValue × Body → View
 add_to_view v e = record {
   version = raised v.version e.0;
   job = λ job. if is_of_job job e then add_to_job e.0 e.1 (v.job job) else v.job job;
-  reservation = λ name. if is_of_reservation name e
-      then joined_registers option_window_cmp (v.reservation name) (with_stamp e.0 (window_in e.1))
-      else v.reservation name;
+  reservation = λ id. if is_of_reservation id e
+      then joined_registers option_window_cmp (v.reservation id) (with_stamp e.0 (window_in e.1))
+      else v.reservation id;
 }
 
 unfoldable pub join_views : View → View → View
 join_views v w = record {
   version = joined v.version w.version;
   job = λ job. join_jobs v.version (v.job job) w.version (w.job job);
-  reservation = λ name. joined_registers option_window_cmp (v.reservation name) (w.reservation name);
+  reservation = λ id. joined_registers option_window_cmp (v.reservation id) (w.reservation id);
 }
 
 -- the view with the records of another: each job that the other view knows is joined to it, and every other job stays
@@ -36,5 +36,5 @@ join_records v w = record {
   job = λ job. if is_submitted (w.job job)
       then join_jobs v.version (v.job job) w.version (w.job job)
       else v.job job;
-  reservation = λ name. joined_registers option_window_cmp (v.reservation name) (w.reservation name);
+  reservation = λ id. joined_registers option_window_cmp (v.reservation id) (w.reservation id);
 }

@@ -45,9 +45,9 @@ pub fn untouched_jobs_are_known()
 /// So is a reservation that the other set doesn't have, or whose greatest stamp there is covered by this set's
 /// version.
 pub fn covered_reservations_are_known()
-    ensures { (ops others : History Body) (name : StampValue) → AreKin ops others →
-        IfSome ((view others).reservation name) (λ greatest. covers (version_of ops) greatest.0 ≡ true) →
-        (view (ops ++ others)).reservation name ≡ (view ops).reservation name }
+    ensures { (ops others : History Body) (id : StampValue) → AreKin ops others →
+        IfSome ((view others).reservation id) (λ greatest. covers (version_of ops) greatest.0 ≡ true) →
+        (view (ops ++ others)).reservation id ≡ (view ops).reservation id }
 {}
 
 /// A lawful set stays lawful by one operation more, of a stamp that no operation has and of one of the 16
@@ -65,8 +65,8 @@ pub fn submitted_jobs_have_their_submit()
 
 /// In a lawful set a reservation reads as made exactly where the set has its `Reserve`.
 pub fn made_reservations_have_their_reserve()
-    ensures { (ops : History Body) (name : StampValue) → IsLawful ops →
-        IsSome ((view ops).reservation name) ↔ HasReserve ops name }
+    ensures { (ops : History Body) (id : StampValue) → IsLawful ops →
+        IsSome ((view ops).reservation id) ↔ HasReserve ops id }
 {}
 
 /// In a lawful set no operation is of a job that is not submitted, and nothing is read of it.

@@ -122,12 +122,12 @@ pub record Takes (old new : ReplicaValue) (p : PacketValue) (said : Result Taken
   pub fault : IfErr said (λ e. IsFaultOf p.delta.need old.board.version e)
   pub unchanged : OnErr said (new ≡ old)
 
-pub does_receipt : (old new : ReplicaValue) (place at sender from : ℕ) (p : PacketValue) → p.sender < 16 → (said : Result Taken Absorb) → Takes old new p said
-    → (receipt : Delivered) → IsDeliveredBy said receipt → Does old new place (Take at sender from) (Some p) (outcome_of_delivered receipt)
-does_receipt old new place at sender from p small (Ok told) t receipt is =
+pub does_delivered : (old new : ReplicaValue) (place at sender from : ℕ) (p : PacketValue) → p.sender < 16 → (said : Result Taken Absorb) → Takes old new p said
+    → (delivered : Delivered) → IsDeliveredBy said delivered → Does old new place (Take at sender from) (Some p) (outcome_of_delivered delivered)
+does_delivered old new place at sender from p small (Ok told) t delivered is =
     subst (λ (r : Delivered). Does old new place (Take at sender from) (Some p) (outcome_of_delivered r)) (sym is)
     (does_take old new p told t.grew t.site t.known t.joins small t.hears place at sender from)
-does_receipt old new place at sender from p small (Err (Absorb.Gap lacks)) t receipt is =
+does_delivered old new place at sender from p small (Err (Absorb.Gap lacks)) t delivered is =
     subst (λ (r : Delivered). Does old new place (Take at sender from) (Some p) (outcome_of_delivered r)) (sym is.0)
     (does_gap old new place at sender from p lacks is.1 t.fault t.unchanged)
-does_receipt old new place at sender from p small (Err Absorb.NoMemory) t receipt is = absurd is
+does_delivered old new place at sender from p small (Err Absorb.NoMemory) t delivered is = absurd is

@@ -41,7 +41,7 @@ covers_added s t (Command.HandBack job) body len small = tt
 covers_added s t (Command.Begin job moment) body len small = tt
 covers_added s t (Command.Finish job moment status) body len small = tt
 covers_added s t (Command.Reserve window) body len small = own_raised s.view.version t (omega (arith, len, small))
-covers_added s t (Command.Cancel name) body len small = tt
+covers_added s t (Command.Cancel id) body len small = tt
 
 covers_nothing : (s : State) (next : Result StampValue ClockFull) (command : Command)
     → let a = replies next command None in Covers (after_answer s a).view.version (outcome_of_answer a)
@@ -55,7 +55,7 @@ covers_nothing s next (Command.HandBack job) = tt
 covers_nothing s next (Command.Begin job moment) = tt
 covers_nothing s next (Command.Finish job moment status) = tt
 covers_nothing s next (Command.Reserve window) = tt
-covers_nothing s next (Command.Cancel name) = tt
+covers_nothing s next (Command.Cancel id) = tt
 
 covers_replies : (s : State) (next : Result StampValue ClockFull) (command : Command) (body : Option Body) → length s.view.version ≡ 16
     → let a = replies next command body in NamesSite (outcome_of_answer a) → Covers (after_answer s a).view.version (outcome_of_answer a)
@@ -85,7 +85,7 @@ covers_event s place (Ship site to) packet len small = tt
 covers_event s place (Take site sender at) None len small = tt
 covers_event s place (Take site sender at) (Some p) len small = covers_packet (lacking s p) s p
 
-pub named_delivered : (receipt : Delivered) → NamesSite (outcome_of_delivered receipt)
+pub named_delivered : (delivered : Delivered) → NamesSite (outcome_of_delivered delivered)
 named_delivered (Delivered.Taken taken) = tt
 named_delivered (Delivered.Gap lacks) = tt
 

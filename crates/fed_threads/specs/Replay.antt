@@ -66,6 +66,6 @@ outcome_of_delivered (Delivered.Gap lacks) = Outcome.Gap lacks
 
 -- what `take` says, but for want of memory; a site is one of the 16
 abbrev pub IsDeliveredBy : Result Taken Absorb → Delivered → Type 0
-IsDeliveredBy (Ok taken) receipt = receipt ≡ Delivered.Taken taken
-IsDeliveredBy (Err (Absorb.Gap lacks)) receipt = (receipt ≡ Delivered.Gap lacks) × (lacks < SITES)
-IsDeliveredBy (Err Absorb.NoMemory) receipt = ⊥
+IsDeliveredBy (Ok taken) delivered = delivered ≡ Delivered.Taken taken
+IsDeliveredBy (Err (Absorb.Gap lacks)) delivered = (delivered ≡ Delivered.Gap lacks) × (lacks < SITES)
+IsDeliveredBy (Err Absorb.NoMemory) delivered = ⊥

@@ -64,11 +64,11 @@ IsBehind k site found version NoMemory = ⊥
 -- an identifier that was answered is covered by the version
 abbrev pub Covers : List ℕ → Outcome → Type 0
 Covers version (Outcome.Replied (Reply.Submitted job)) = covers version job ≡ true
-Covers version (Outcome.Replied (Reply.Reserved name)) = covers version name ≡ true
+Covers version (Outcome.Replied (Reply.Reserved id)) = covers version id ≡ true
 Covers version _ = Unit {0}
 
 -- an identifier that was answered is of one of the 16 sites
 abbrev pub NamesSite : Outcome → Type 0
 NamesSite (Outcome.Replied (Reply.Submitted job)) = job.site < SITES
-NamesSite (Outcome.Replied (Reply.Reserved name)) = name.site < SITES
+NamesSite (Outcome.Replied (Reply.Reserved id)) = id.site < SITES
 NamesSite _ = Unit {0}

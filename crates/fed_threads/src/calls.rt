@@ -126,11 +126,11 @@ pub(crate) fn take_in(
     let index = locked.len();
     seat.check(site, index, locked.version())?;
     seat.reserve()?;
-    let receipt = locked.take(site, sender, place, packet)?;
+    let delivered = locked.take(site, sender, place, packet)?;
     let claim = Claim {
         site,
         index,
-        outcome: outcome_of_delivered(&receipt),
+        outcome: outcome_of_delivered(&delivered),
     };
     let asked = Asked::Take {
         site,
@@ -138,5 +138,5 @@ pub(crate) fn take_in(
         place,
     };
     seat.claim(&claim, locked.len(), locked.version(), &asked);
-    Ok(receipt)
+    Ok(delivered)
 }

@@ -19,7 +19,7 @@ use fed_delta::Absorb;
 use fed_lattice::NoMemory;
 use fed_record::{Command, Refusal, Reply, Who};
 use fed_replica::{Replica, Taken};
-use fed_stamp::{SiteId, Version, site_is_of_sixteen, version_is_of_sixteen};
+use fed_stamp::{SiteId, Version, site_is_in_range, version_is_in_range};
 use fed_wire::{Packet, sender_is_of_sixteen};
 use fed_world::Outcome;
 use std::alloc::Global;
@@ -53,10 +53,10 @@ pub(crate) enum Delivered {
 }
 
 /// What came of a packet, as an outcome.
-pub(crate) fn outcome_of_delivered(receipt: &Delivered) -> Outcome
-    ensures { result ≡ outcome_of_delivered receipt.now }
+pub(crate) fn outcome_of_delivered(delivered: &Delivered) -> Outcome
+    ensures { result ≡ outcome_of_delivered delivered.now }
 {
-    match receipt {
+    match delivered {
         Delivered::Taken(taken) => Outcome::Taken(*taken),
         Delivered::Gap(missing) => Outcome::Gap(*missing),
     }
@@ -81,13 +81,13 @@ fn gap(missing: SiteId) -> Delivered
     ensures gap { result ≡ Delivered.Gap missing }
     ensures site { missing < SITES }
 {
-    site_is_of_sixteen(missing);
+    site_is_in_range(missing);
     Delivered::Gap(missing)
 }
 
 /// What came of a packet, but for want of memory.
 fn delivered_of(said: Result<Taken, Absorb>) -> Result<Delivered, NoMemory>
-    ensures ok { IfOk result (λ receipt. IsDeliveredBy said receipt) }
+    ensures ok { IfOk result (λ delivered. IsDeliveredBy said delivered) }
     ensures err { OnErr result (said ≡ Err Absorb.NoMemory) }
 {
     match said {
@@ -104,7 +104,7 @@ fn replies_name_sites(said: &Result<Reply, Refusal>)
     ensures { NamesSite (outcome_of said.now) }
 {
     if let Ok(Reply::Submitted(name) | Reply::Reserved(name)) = said {
-        site_is_of_sixteen(name.site());
+        site_is_in_range(name.site());
     }
 }
 
@@ -154,7 +154,7 @@ impl LockedSite {
         ensures counters { IsVersion result }
     {
         let version = self.replica.board().version();
-        version_is_of_sixteen(&version);
+        version_is_in_range(&version);
         version
     }
 
@@ -218,7 +218,7 @@ impl LockedSite {
     {
         self.journal.reserve(1)?;
         sender_is_of_sixteen(&packet);
-        let receipt = delivered_of(self.replica.take(&packet))?;
+        let delivered = delivered_of(self.replica.take(&packet))?;
         let asked = Asked::Take {
             site,
             sender,
@@ -228,9 +228,9 @@ impl LockedSite {
             &mut self.journal,
             asked,
             Some(packet),
-            outcome_of_delivered(&receipt),
+            outcome_of_delivered(&delivered),
         );
-        Ok(receipt)
+        Ok(delivered)
     }
 
     /// The replica and the journal, taken apart.

@@ -109,7 +109,7 @@ window_covered : (reached : List ℕ) (P : Option Window → Type 0) (r : Reserv
 window_covered reached P None e h = absurd h
 window_covered reached P (Some latest) e h = e
 
--- ---- what stands at each name
+-- ---- what stands at each identifier
 
 at_each : {X : Type 0} (P : StampValue → X → Type 0) (es : List (StampValue × X)) → AllByRecursion (λ e. P e.0 e.1) es → IsAtEach stamp_cmp P es
 at_each P [] h k = tt

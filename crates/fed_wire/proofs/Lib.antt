@@ -1,7 +1,7 @@
 pub mod ReservationLaws
 pub mod PacketLaws
 pub mod BoardLaws
-pub mod NameLaws
+pub mod IdentifierLaws
 pub mod EachLaws
 pub mod ReadLoops
 pub mod BodyLaws

@@ -40,12 +40,12 @@ use Rattle.fed_model.specs.Reservation.{ReservationView}
 use Rattle.fed_lattice.specs.ExactLaws.{same_stamp_itself}
 use Rattle.fed_board.specs.Board.{BoardValue, IsBoard, IsKnownJob, IsKnownReservation, no_operation, board_reads}
 use Rattle.fed_board.specs.CoveredJob.{IsCoveredAt}
-use Rattle.fed_board.specs.Counts.{names_of}
+use Rattle.fed_board.specs.Counts.{ids_of}
 use Rattle.fed_model.specs.Lawful.{IsLawful}
-use Rattle.fed_model.specs.Names.{covered_stamps, jobs_in, reservations_in}
+use Rattle.fed_model.specs.Identifiers.{covered_stamps, jobs_in, reservations_in}
 use Rattle.fed_model.specs.View.{View, view, HasSubmit, HasReserve}
 use Rattle.fed_model.specs.declared.capacities.TheConstants.{MAX_JOBS, MAX_RESERVATIONS}
-use Rattle.fed_board.proofs.CountLaws.{names-push}
+use Rattle.fed_board.proofs.CountLaws.{ids-push}
 use Rattle.fed_theory.proofs.SubmitLaws.{submit_of, reserve_of}
 use Rattle.fed_delta.specs.Cut.{cut, is_changed_job, is_changed_reservation}
 use Rattle.fed_model.specs.Ranges.{IsFrom, IsName, IsPriority, IsAccount, IsSite, IsInRange, IsWindow}
@@ -55,7 +55,7 @@ use Rattle.fed_job_json.specs.Fields.{IsField}
 use Rattle.fed_job_json.specs.Job.{IsJob, IsJobIn}
 use Rattle.fed_job_json.specs.Stamps.{IsVersion}
 use Rattle.fed_model.specs.Limits.{IsWithinLimits}
-use Rattle.fed_board.proofs.CountedNames.{set_jobs_counted, set_reservations_counted}
+use Rattle.fed_board.proofs.CountedIdentifiers.{set_jobs_counted, set_reservations_counted}
 use Rattle.fed_wire.specs.Packet.{PacketValue, IsPacket, job_stands, reservation_stands, covers_window}
 use Rattle.fed_wire.specs.Reservations.{IsReservation}
 use Rattle.fed_wire.proofs.RangeLaws.{owner_ranged, name_ranged, priority_ranged, nodes_ranged, limit_ranged, account_ranged, window_ranged, added_site, set_field, grant_is, version_is, pairs_are, progress_is, of_all}
@@ -128,26 +128,26 @@ module _ (ops : History Body) (lawful : IsLawful ops) (within : IsWithinLimits o
       }
 
 -- ---- one reservation
-module _ (ops : History Body) (lawful : IsLawful ops) (within : IsWithinLimits ops) (name : StampValue) (r : ReservationView) (made : is_some r ≡ true) (e : r ≡ (view ops).reservation name) where
+module _ (ops : History Body) (lawful : IsLawful ops) (within : IsWithinLimits ops) (id : StampValue) (r : ReservationView) (made : is_some r ≡ true) (e : r ≡ (view ops).reservation id) where
   abbrev its : History Body
-  its = of_reservation name ops
+  its = of_reservation id ops
 
   has_its : (o : StampValue × Body) → Has its o → Has ops o
-  has_its o h = (Has-filter (is_of_reservation name) ops o h).0
+  has_its o h = (Has-filter (is_of_reservation id) ops o h).0
 
-  pub reservation_is : IsReservation (name, r)
+  pub reservation_is : IsReservation (id, r)
   reservation_is =
-      let reserve : HasReserve ops name = reserve_of ops name lawful (sym (ap is_some e) ∙ made) in
-      (within.stamps (name, Reserve reserve.0) reserve.1, set_field its ops within has_its window_in (λ w. IfSome w IsWindow) window_ranged r (sym e) made)
+      let reserve : HasReserve ops id = reserve_of ops id lawful (sym (ap is_some e) ∙ made) in
+      (within.stamps (id, Reserve reserve.0) reserve.1, set_field its ops within has_its window_in (λ w. IfSome w IsWindow) window_ranged r (sym e) made)
 
 -- ---- what a cut tells
 cut_job : (v : View) (need : List ℕ) (job : StampValue) → (cut v need).job job ≡ cond (is_changed_job need (v.job job)) (v.job job) (job_view [])
 unfolding cut
 cut_job v need job = refl
 
-cut_reservation : (v : View) (need : List ℕ) (name : StampValue) → (cut v need).reservation name ≡ cond (is_changed_reservation need (v.reservation name)) (v.reservation name) None
+cut_reservation : (v : View) (need : List ℕ) (id : StampValue) → (cut v need).reservation id ≡ cond (is_changed_reservation need (v.reservation id)) (v.reservation id) None
 unfolding cut
-cut_reservation v need name = refl
+cut_reservation v need id = refl
 
 cut_version : (v : View) (need : List ℕ) → (cut v need).version ≡ v.version
 unfolding cut
@@ -159,37 +159,37 @@ job_told v need job j e s = go (is_changed_job need (v.job job)) (e ∙ cut_job 
   go true same = same
   go false same = absurd (let f : false ≡ true = sym (ap is_submitted same) ∙ s in cc)
 
-reservation_told : (v : View) (need : List ℕ) (name : StampValue) (r : ReservationView) → r ≡ (cut v need).reservation name → is_some r ≡ true → r ≡ v.reservation name
-reservation_told v need name r e s = go (is_changed_reservation need (v.reservation name)) (e ∙ cut_reservation v need name) where
-  go : (b : Bool) → r ≡ cond b (v.reservation name) None → r ≡ v.reservation name
+reservation_told : (v : View) (need : List ℕ) (id : StampValue) (r : ReservationView) → r ≡ (cut v need).reservation id → is_some r ≡ true → r ≡ v.reservation id
+reservation_told v need id r e s = go (is_changed_reservation need (v.reservation id)) (e ∙ cut_reservation v need id) where
+  go : (b : Bool) → r ≡ cond b (v.reservation id) None → r ≡ v.reservation id
   go true same = same
   go false same = absurd (let f : false ≡ true = sym (ap is_some same) ∙ s in cc)
 
--- of names that pass a test there are no more than of those that pass a weaker one
-fewer_kept : (p q : StampValue → Bool) → ((s : StampValue) → p s ≡ true → q s ≡ true) → (site : ℕ) (xs : List StampValue) → names_of site (filter p xs) ≤ names_of site (filter q xs)
+-- of identifiers that pass a test there are no more than of those that pass a weaker one
+fewer_kept : (p q : StampValue → Bool) → ((s : StampValue) → p s ≡ true → q s ≡ true) → (site : ℕ) (xs : List StampValue) → ids_of site (filter p xs) ≤ ids_of site (filter q xs)
 fewer_kept p q weaker site [] = omega arith
 fewer_kept p q weaker site (x ∷ xs) = go (p x) (q x) (weaker x) (fewer_kept p q weaker site xs) where
-  go : (b c : Bool) → (b ≡ true → c ≡ true) → names_of site (filter p xs) ≤ names_of site (filter q xs)
-      → names_of site (cond b (x ∷ filter p xs) (filter p xs)) ≤ names_of site (cond c (x ∷ filter q xs) (filter q xs))
+  go : (b c : Bool) → (b ≡ true → c ≡ true) → ids_of site (filter p xs) ≤ ids_of site (filter q xs)
+      → ids_of site (cond b (x ∷ filter p xs) (filter p xs)) ≤ ids_of site (cond c (x ∷ filter q xs) (filter q xs))
   go true true w rest =
-      let f : names_of site (x ∷ filter p xs) ≡ cond (x.site == site) 1 0 + names_of site (filter p xs) = names-push site x (filter p xs) in
-      let g : names_of site (x ∷ filter q xs) ≡ cond (x.site == site) 1 0 + names_of site (filter q xs) = names-push site x (filter q xs) in
+      let f : ids_of site (x ∷ filter p xs) ≡ cond (x.site == site) 1 0 + ids_of site (filter p xs) = ids-push site x (filter p xs) in
+      let g : ids_of site (x ∷ filter q xs) ≡ cond (x.site == site) 1 0 + ids_of site (filter q xs) = ids-push site x (filter q xs) in
       omega (arith, f, g, rest)
   go true false w rest = absurd (let f : false ≡ true = w refl in cc)
   go false true w rest =
-      let g : names_of site (x ∷ filter q xs) ≡ cond (x.site == site) 1 0 + names_of site (filter q xs) = names-push site x (filter q xs) in
+      let g : ids_of site (x ∷ filter q xs) ≡ cond (x.site == site) 1 0 + ids_of site (filter q xs) = ids-push site x (filter q xs) in
       omega (arith, g, rest)
   go false false w rest = rest
 
-jobs_told : (v : View) (need : List ℕ) (site : ℕ) → names_of site (jobs_in (cut v need)) ≤ names_of site (jobs_in v)
-jobs_told v need site = subst (λ w. names_of site (filter (λ job. is_submitted ((cut v need).job job)) (covered_stamps w)) ≤ names_of site (jobs_in v)) (sym (cut_version v need))
+jobs_told : (v : View) (need : List ℕ) (site : ℕ) → ids_of site (jobs_in (cut v need)) ≤ ids_of site (jobs_in v)
+jobs_told v need site = subst (λ w. ids_of site (filter (λ job. is_submitted ((cut v need).job job)) (covered_stamps w)) ≤ ids_of site (jobs_in v)) (sym (cut_version v need))
     (fewer_kept (λ job. is_submitted ((cut v need).job job)) (λ job. is_submitted (v.job job))
     (λ job s. sym (ap is_submitted (job_told v need job ((cut v need).job job) refl s)) ∙ s) site (covered_stamps v.version))
 
-reservations_told : (v : View) (need : List ℕ) (site : ℕ) → names_of site (reservations_in (cut v need)) ≤ names_of site (reservations_in v)
-reservations_told v need site = subst (λ w. names_of site (filter (λ name. is_some ((cut v need).reservation name)) (covered_stamps w)) ≤ names_of site (reservations_in v)) (sym (cut_version v need))
-    (fewer_kept (λ name. is_some ((cut v need).reservation name)) (λ name. is_some (v.reservation name))
-    (λ name s. sym (ap is_some (reservation_told v need name ((cut v need).reservation name) refl s)) ∙ s) site (covered_stamps v.version))
+reservations_told : (v : View) (need : List ℕ) (site : ℕ) → ids_of site (reservations_in (cut v need)) ≤ ids_of site (reservations_in v)
+reservations_told v need site = subst (λ w. ids_of site (filter (λ id. is_some ((cut v need).reservation id)) (covered_stamps w)) ≤ ids_of site (reservations_in v)) (sym (cut_version v need))
+    (fewer_kept (λ id. is_some ((cut v need).reservation id)) (λ id. is_some (v.reservation id))
+    (λ id s. sym (ap is_some (reservation_told v need id ((cut v need).reservation id) refl s)) ∙ s) site (covered_stamps v.version))
 
 -- ---- entries
 each_entry : {X : Type 0} (es : List (StampValue × X)) → IsStrictlySortedBy stamp_cmp (keys_of es) → AllByRecursion (λ (e : StampValue × X). lookup (is_at (stamp_cmp e.0)) es ≡ Some e.1) es
@@ -263,18 +263,18 @@ module _ (p : PacketValue) (made : IsMade p) (ops : History Body) (seen : List �
   reservations_are = weaker (Found changes.reservations) IsReservation changes.reservations
       (λ e f. reservation_is ops lawful within e.0 e.1 (known_reservation e f).made (reservation_view_is e f)) (each_entry changes.reservations made.reservations_ascend)
 
-  few_jobs : (site : ℕ) → names_of site (keys_of changes.jobs) ≤ MAX_JOBS
+  few_jobs : (site : ℕ) → ids_of site (keys_of changes.jobs) ≤ MAX_JOBS
   few_jobs site =
-      let same : names_of site (keys_of changes.jobs) ≡ names_of site (jobs_in (cut (view ops) p.delta.need)) = ap (names_of site) (made.jobs ∙ ap jobs_in told) in
-      let fewer : names_of site (jobs_in (cut (view ops) p.delta.need)) ≤ names_of site (jobs_in (view ops)) = jobs_told (view ops) p.delta.need site in
-      let most : names_of site (jobs_in (view ops)) ≤ MAX_JOBS = subst (λ (n : ℕ). n ≤ MAX_JOBS) (sym (set_jobs_counted ops lawful site)) (within.jobs site) in
+      let same : ids_of site (keys_of changes.jobs) ≡ ids_of site (jobs_in (cut (view ops) p.delta.need)) = ap (ids_of site) (made.jobs ∙ ap jobs_in told) in
+      let fewer : ids_of site (jobs_in (cut (view ops) p.delta.need)) ≤ ids_of site (jobs_in (view ops)) = jobs_told (view ops) p.delta.need site in
+      let most : ids_of site (jobs_in (view ops)) ≤ MAX_JOBS = subst (λ (n : ℕ). n ≤ MAX_JOBS) (sym (set_jobs_counted ops lawful site)) (within.jobs site) in
       omega (arith, same, fewer, most)
 
-  few_reservations : (site : ℕ) → names_of site (keys_of changes.reservations) ≤ MAX_RESERVATIONS
+  few_reservations : (site : ℕ) → ids_of site (keys_of changes.reservations) ≤ MAX_RESERVATIONS
   few_reservations site =
-      let same : names_of site (keys_of changes.reservations) ≡ names_of site (reservations_in (cut (view ops) p.delta.need)) = ap (names_of site) (made.reservations ∙ ap reservations_in told) in
-      let fewer : names_of site (reservations_in (cut (view ops) p.delta.need)) ≤ names_of site (reservations_in (view ops)) = reservations_told (view ops) p.delta.need site in
-      let most : names_of site (reservations_in (view ops)) ≤ MAX_RESERVATIONS = subst (λ (n : ℕ). n ≤ MAX_RESERVATIONS) (sym (set_reservations_counted ops lawful site)) (within.reservations site) in
+      let same : ids_of site (keys_of changes.reservations) ≡ ids_of site (reservations_in (cut (view ops) p.delta.need)) = ap (ids_of site) (made.reservations ∙ ap reservations_in told) in
+      let fewer : ids_of site (reservations_in (cut (view ops) p.delta.need)) ≤ ids_of site (reservations_in (view ops)) = reservations_told (view ops) p.delta.need site in
+      let most : ids_of site (reservations_in (view ops)) ≤ MAX_RESERVATIONS = subst (λ (n : ℕ). n ≤ MAX_RESERVATIONS) (sym (set_reservations_counted ops lawful site)) (within.reservations site) in
       omega (arith, same, fewer, most)
 
   window_covered : (r : ReservationView) → IfSome r (λ latest. covers changes.version latest.0 ≡ true) → covers_window changes.version r ≡ true

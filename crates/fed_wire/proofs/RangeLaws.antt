@@ -52,7 +52,7 @@ owner_ranged (HandBack job term) r = tt
 owner_ranged (Begin job beginning) r = tt
 owner_ranged (Finish job ending) r = tt
 owner_ranged (Reserve window) r = tt
-owner_ranged (Cancel name) r = tt
+owner_ranged (Cancel id) r = tt
 
 pub name_ranged : (body : Body) → IsInRange body → IfSome (name_in body) IsName
 name_ranged (Submit owner values held) r = r.1.name
@@ -78,7 +78,7 @@ priority_ranged (HandBack job term) r = tt
 priority_ranged (Begin job beginning) r = tt
 priority_ranged (Finish job ending) r = tt
 priority_ranged (Reserve window) r = tt
-priority_ranged (Cancel name) r = tt
+priority_ranged (Cancel id) r = tt
 
 pub nodes_ranged : (body : Body) → IsInRange body → IfSome (nodes_in body) (IsFrom 1 MAX_NODES)
 nodes_ranged (Submit owner values held) r = r.1.nodes
@@ -91,7 +91,7 @@ nodes_ranged (HandBack job term) r = tt
 nodes_ranged (Begin job beginning) r = tt
 nodes_ranged (Finish job ending) r = tt
 nodes_ranged (Reserve window) r = tt
-nodes_ranged (Cancel name) r = tt
+nodes_ranged (Cancel id) r = tt
 
 pub limit_ranged : (body : Body) → IsInRange body → IfSome (limit_in body) (IsFrom 1 MAX_LIMIT)
 limit_ranged (Submit owner values held) r = r.1.limit
@@ -104,7 +104,7 @@ limit_ranged (HandBack job term) r = tt
 limit_ranged (Begin job beginning) r = tt
 limit_ranged (Finish job ending) r = tt
 limit_ranged (Reserve window) r = tt
-limit_ranged (Cancel name) r = tt
+limit_ranged (Cancel id) r = tt
 
 pub account_ranged : (body : Body) → IsInRange body → IfSome (account_in body) IsAccount
 account_ranged (Submit owner values held) r = r.1.account
@@ -117,7 +117,7 @@ account_ranged (HandBack job term) r = tt
 account_ranged (Begin job beginning) r = tt
 account_ranged (Finish job ending) r = tt
 account_ranged (Reserve window) r = tt
-account_ranged (Cancel name) r = tt
+account_ranged (Cancel id) r = tt
 
 begin_ranged : (body : Body) → IsInRange body → IfSome (begin_in body) IsBeginning
 begin_ranged (Submit owner values held) r = tt
@@ -130,7 +130,7 @@ begin_ranged (HandBack job term) r = tt
 begin_ranged (Begin job beginning) r = r
 begin_ranged (Finish job ending) r = tt
 begin_ranged (Reserve window) r = tt
-begin_ranged (Cancel name) r = tt
+begin_ranged (Cancel id) r = tt
 
 finish_ranged : (body : Body) → IsInRange body → IfSome (finish_in body) IsEnding
 finish_ranged (Submit owner values held) r = tt
@@ -143,7 +143,7 @@ finish_ranged (HandBack job term) r = tt
 finish_ranged (Begin job beginning) r = tt
 finish_ranged (Finish job ending) r = r
 finish_ranged (Reserve window) r = tt
-finish_ranged (Cancel name) r = tt
+finish_ranged (Cancel id) r = tt
 
 pub window_ranged : (body : Body) → IsInRange body → IfSome (window_in body) (λ w. IfSome w IsWindow)
 window_ranged (Submit owner values held) r = tt
@@ -156,7 +156,7 @@ window_ranged (HandBack job term) r = tt
 window_ranged (Begin job beginning) r = tt
 window_ranged (Finish job ending) r = tt
 window_ranged (Reserve window) r = r
-window_ranged (Cancel name) r = tt
+window_ranged (Cancel id) r = tt
 
 grant_ranged : (t : StampValue) (body : Body) → IsStamp t → IsInRange body → IfSome (grant_in (t, body)) (IsStage Two)
 grant_ranged t (Submit owner values held) s r = tt
@@ -169,7 +169,7 @@ grant_ranged t (HandBack job term) s r = (r, s)
 grant_ranged t (Begin job beginning) s r = tt
 grant_ranged t (Finish job ending) s r = tt
 grant_ranged t (Reserve window) s r = tt
-grant_ranged t (Cancel name) s r = tt
+grant_ranged t (Cancel id) s r = tt
 
 one_of_16 : (site : ℕ) (b : Bool) → (nat_lt site 16 && b) ≡ true → IsSite site
 one_of_16 site b e = let small : site < 16 = ltb-true site 16 (and_parts (nat_lt site 16) b e).0 in (omega arith, omega arith)
@@ -190,7 +190,7 @@ added_site (HandBack job term) site e = cc
 added_site (Begin job beginning) site e = cc
 added_site (Finish job ending) site e = cc
 added_site (Reserve window) site e = cc
-added_site (Cancel name) site e = cc
+added_site (Cancel id) site e = cc
 
 -- what ascends does so by the test of packets
 less : {A : Type 0} (R : A → A → Ordering) (x : A) (ys : List A) → AllByRecursion (λ y. R x y ≡ Less) ys → list_all (λ y. is_lt (R x y)) ys ≡ true
@@ -258,8 +258,8 @@ module _ (all : History Body) (lawful : IsLawful all) (within : IsWithinLimits a
   begun_is : (b : StampValue × Beginning) → field begin_in mine ≡ Some b → IsBegun b
   begun_is b p = let r = field_ranged mine all within of_all begin_in IsBeginning begin_ranged b p in (r.0, r.1.0, r.1.1, r.1.2, r.1.3)
 
-  finish_body : (body : Body) (ending : Ending) → finish_in body ≡ Some ending → (name : StampValue) × (body ≡ Finish name ending)
-  finish_body (Finish name other) ending e = let s : other ≡ ending = cc in (name, ap (Finish name) s)
+  finish_body : (body : Body) (ending : Ending) → finish_in body ≡ Some ending → (id : StampValue) × (body ≡ Finish id ending)
+  finish_body (Finish id other) ending e = let s : other ≡ ending = cc in (id, ap (Finish id) s)
   finish_body _ ending e = cc
 
   -- a job is finished only where it is begun
@@ -267,11 +267,11 @@ module _ (all : History Body) (lawful : IsLawful all) (within : IsWithinLimits a
   progress_is None None p q = tt
   progress_is None (Some f) p q =
       let s = field_found finish_in mine f q in
-      let name = finish_body s.0 f.1 s.2 in
+      let id = finish_body s.0 f.1 s.2 in
       let h = Has-filter (is_of_job job) all (f.0, s.0) s.1 in
-      let same : name.0 ≡ job = same_stamp_is name.0 job (subst (λ (body : Body). is_of_job job (f.0, body) ≡ true) name.1 h.1) in
-      let g = (lawful.grounded (f.0, Finish name.0 f.1) (subst (λ (body : Body). Has all (f.0, body)) name.1 h.0)).1 in
-      let begun : Has mine (g.0, Begin name.0 g.1) = filter-Has (is_of_job job) all (g.0, Begin name.0 g.1) g.2 (subst (λ (j : StampValue). same_stamp name.0 j ≡ true) same (same_stamp_itself name.0)) in
-      absurd (let e : false ≡ true = sym (ap is_some p) ∙ said_found begin_in g.1 mine g.0 (Begin name.0 g.1) begun refl in cc)
+      let same : id.0 ≡ job = same_stamp_is id.0 job (subst (λ (body : Body). is_of_job job (f.0, body) ≡ true) id.1 h.1) in
+      let g = (lawful.grounded (f.0, Finish id.0 f.1) (subst (λ (body : Body). Has all (f.0, body)) id.1 h.0)).1 in
+      let begun : Has mine (g.0, Begin id.0 g.1) = filter-Has (is_of_job job) all (g.0, Begin id.0 g.1) g.2 (subst (λ (j : StampValue). same_stamp id.0 j ≡ true) same (same_stamp_itself id.0)) in
+      absurd (let e : false ≡ true = sym (ap is_some p) ∙ said_found begin_in g.1 mine g.0 (Begin id.0 g.1) begun refl in cc)
   progress_is (Some b) None p q = begun_is b p
   progress_is (Some b) (Some f) p q = (begun_is b p, let r = field_ranged mine all within of_all finish_in IsEnding finish_ranged f q in (r.0, r.1.0, r.1.1))

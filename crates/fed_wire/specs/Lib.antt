@@ -2,7 +2,7 @@
 pub mod Reservations
 pub mod Packet
 pub mod Reading
-pub mod Names
+pub mod Identifiers
 pub mod Faults
 pub mod PacketLaws
 pub mod Printed

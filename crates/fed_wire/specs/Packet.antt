@@ -10,7 +10,7 @@ use Rattle.fed_json.specs.Numbers.{natural_value}
 use Rattle.fed_json.specs.Values.{list_value}
 use Rattle.fed_json.specs.Objects.{Named, object_value}
 use Rattle.fed_model.specs.Reservation.{ReservationView}
-use Rattle.fed_board.specs.Counts.{names_of}
+use Rattle.fed_board.specs.Counts.{ids_of}
 use Rattle.fed_model.specs.declared.capacities.TheConstants.{MAX_JOBS, MAX_RESERVATIONS}
 use Rattle.fed_delta.specs.Delta.{DeltaValue}
 use Rattle.fed_job_json.specs.declared.formats.Format.{Format}
@@ -48,14 +48,14 @@ last_of [] = None
 last_of (x ∷ []) = Some x
 last_of (x ∷ y ∷ ys) = last_of (y ∷ ys)
 
--- the name is above the last one before it
+-- the identifier is above the last one before it
 abbrev pub follows : Option StampValue → StampValue → Bool
 follows None id = true
 follows (Some last) id = is_before last id
 
--- a name may stand after those before it: it is above them, and its origin has room
+-- an identifier may stand after those before it: it is above them, and its origin has room
 abbrev pub may_stand : ℕ → List StampValue → StampValue → Bool
-may_stand room names id = follows (last_of names) id && nat_lt (names_of id.site names) room
+may_stand room ids id = follows (last_of ids) id && nat_lt (ids_of id.site ids) room
 
 abbrev pub job_stands : List ℕ → List Job → Job → Bool
 job_stands reached before j = may_stand MAX_JOBS (keys_of before) j.0 && is_below j.1.touched reached

@@ -1,4 +1,4 @@
--- Reservations as JSON values: a name, and the window beside the stamp of the operation that set it.
+-- Reservations as JSON values: an identifier, and the window beside the stamp of the operation that set it.
 use Rattle.std.specs.Prelude.{ℕ, Bool, nat_lt, List, [], ◌∷◌, codes, if◌then◌else◌, Option, IfSome, Err}
 use Rattle.serde_json.specs.Data.{Data}
 use Rattle.fed_stamp.specs.Stamp.{StampValue}

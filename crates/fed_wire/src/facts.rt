@@ -4,11 +4,11 @@ ghost use Rattle.std.specs.Prelude.{◌<◌};
 ghost use Rattle.fed_stamp.specs.declared.sites.TheConstants.{SITES};
 
 use crate::packets::Packet;
-use fed_stamp::site_is_of_sixteen;
+use fed_stamp::site_is_in_range;
 
 /// The sender of a packet is one of the 16 sites.
 pub fn sender_is_of_sixteen(packet: &Packet)
     ensures { packet.now.sender < SITES }
 {
-    site_is_of_sixteen(packet.sender());
+    site_is_in_range(packet.sender());
 }

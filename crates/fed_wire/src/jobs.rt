@@ -8,7 +8,7 @@ ghost use Rattle.fed_wire.specs.Packet.{job_stands};
 ghost use Rattle.fed_wire.specs.Reading.{each_in, array_in};
 
 use crate::faults::{Part, Place, WireFault};
-use crate::names::Names;
+use crate::identifiers::Identifiers;
 use fed_board::MAX_JOBS;
 use fed_job_json::Format;
 use fed_job_read::read_job;
@@ -27,7 +27,7 @@ fn all_jobs(
 ) -> Result<Table<JobId, JobRecord>, WireFault>
     ensures { Gives (each_in Jobs (job_of format) (job_stands reached.now) [] (map view values.now)) result }
 {
-    let mut names = Names::new();
+    let mut ids = Identifiers::new();
     let mut jobs = Table::bottom(alloc);
     for (index, value) in values.iter().enumerate() {
         let place = Place {
@@ -37,7 +37,7 @@ fn all_jobs(
         match read_job(alloc, value, format)? {
             Ok(job) => {
                 let (id, record) = job;
-                if !names.admit(MAX_JOBS, id) || !record.touched().le(reached) {
+                if !ids.admit(MAX_JOBS, id) || !record.touched().le(reached) {
                     return Err(WireFault::Range { place });
                 }
                 jobs.insert(id, record)?;

@@ -15,7 +15,7 @@ ghost use Rattle.fed_wire.specs.Packet.{IsPacket};
 use crate::facts::sender_is_of_sixteen;
 use crate::packets::Packet;
 use fed_board::{records_are_covered, records_are_in_order};
-use fed_stamp::version_is_of_sixteen;
+use fed_stamp::version_is_in_range;
 
 /// A packet of what a board tells is within limits in format 2, where the board stands for a lawful set of operations
 /// whose values are in range and of whose jobs and reservations no site has named too many. So its text is read as the
@@ -27,8 +27,8 @@ pub fn told_packets_are_within_limits(packet: &Packet)
 {
     sender_is_of_sixteen(packet);
     let delta = packet.delta();
-    version_is_of_sixteen(&delta.need());
-    version_is_of_sixteen(&delta.reached());
+    version_is_in_range(&delta.need());
+    version_is_in_range(&delta.reached());
     let changes = delta.changes();
     records_are_covered(changes);
     records_are_in_order(changes);

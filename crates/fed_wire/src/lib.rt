@@ -11,8 +11,8 @@ pub mod faults;
 pub mod jobs;
 /// Which packets are within limits.
 pub mod laws;
-/// The names of a packet's jobs or reservations, as they are read.
-mod names;
+/// The identifiers of a packet's jobs or reservations, as they are read.
+mod identifiers;
 /// Packets.
 pub mod packets;
 /// The text of a packet, printed job by job.

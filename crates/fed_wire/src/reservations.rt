@@ -14,7 +14,7 @@ ghost use Rattle.fed_wire.specs.Reading.{each_in, array_in};
 ghost use Rattle.fed_wire.specs.Reservations.{times_of, window_of, reservation_of};
 
 use crate::faults::{Part, Place, WireFault};
-use crate::names::Names;
+use crate::identifiers::Identifiers;
 use fed_board::MAX_RESERVATIONS;
 use fed_job_json::{read_site, read_stamp};
 use fed_json::{Flaw, both, elements, has_names, member, natural};
@@ -80,7 +80,7 @@ fn id(value: &Value) -> Result<Stamp, Flaw>
     read_stamp(member(value, "id")?)
 }
 
-/// The name of the reservation, and what is read of it.
+/// The identifier of the reservation, and what is read of it.
 #[tactic(auto, unfolding(crate::specs::Reservations::reservation_of))]
 pub fn reservation(value: &Value) -> Result<(Stamp, Reservation), Flaw>
     ensures { result ≡ reservation_of (view value.now) }
@@ -91,12 +91,12 @@ pub fn reservation(value: &Value) -> Result<(Stamp, Reservation), Flaw>
     both(id(value), latest(value))
 }
 
-// Whether the version covers the name and the greatest stamp.
-fn is_covered(reached: &Version, name: Stamp, reservation: &Reservation) -> bool
+// Whether the version covers the identifier and the greatest stamp.
+fn is_covered(reached: &Version, id: Stamp, reservation: &Reservation) -> bool
     requires { IsSome reservation.now }
-    ensures { result ≡ (covers reached.now name && covers_window reached.now reservation.now) }
+    ensures { result ≡ (covers reached.now id && covers_window reached.now reservation.now) }
 {
-    reached.covers(name) && reached.covers(reservation.stamp())
+    reached.covers(id) && reached.covers(reservation.stamp())
 }
 
 fn all_reservations(
@@ -106,7 +106,7 @@ fn all_reservations(
 ) -> Result<Table<Stamp, Reservation>, WireFault>
     ensures { Gives (each_in TheReservations reservation_of (reservation_stands reached.now) [] (map view values.now)) result }
 {
-    let mut names = Names::new();
+    let mut ids = Identifiers::new();
     let mut reservations = Table::bottom(alloc);
     for (index, value) in values.iter().enumerate() {
         let place = Place {
@@ -116,7 +116,7 @@ fn all_reservations(
         match reservation(value) {
             Ok(entry) => {
                 let (id, reservation) = entry;
-                if !names.admit(MAX_RESERVATIONS, id) || !is_covered(reached, id, &reservation) {
+                if !ids.admit(MAX_RESERVATIONS, id) || !is_covered(reached, id, &reservation) {
                     return Err(WireFault::Range { place });
                 }
                 reservations.insert(id, reservation)?;

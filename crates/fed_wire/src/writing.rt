@@ -26,14 +26,14 @@ fn window(alloc: Global, window: Option<Window>) -> Result<Value, AllocError>
     }
 }
 
-fn reservation(alloc: Global, name: Stamp, reserved: &Reservation) -> Result<Value, AllocError>
+fn reservation(alloc: Global, id: Stamp, reserved: &Reservation) -> Result<Value, AllocError>
     requires { IsSome reserved.now }
-    ensures { IfOk result (λ v. view v ≡ reservation_value (name, reserved.now)) }
+    ensures { IfOk result (λ v. view v ≡ reservation_value (id, reserved.now)) }
 {
     let window = window(alloc, reserved.window())?;
     let latest = json!(in alloc; [window, write_stamp(alloc, reserved.stamp())?])?;
     json!(in alloc; {
-        "id": write_stamp(alloc, name)?,
+        "id": write_stamp(alloc, id)?,
         "window": latest
     })
 }
@@ -42,8 +42,8 @@ fn reservations(alloc: Global, delta: &Delta) -> Result<Value, AllocError>
     ensures { IfOk result (λ v. view v ≡ list_value (map reservation_value delta.now.changes.reservations)) }
 {
     let mut values = Vec::new(alloc);
-    for (name, reserved) in delta.reservations() {
-        values.push(reservation(alloc, *name, reserved)?)?;
+    for (id, reserved) in delta.reservations() {
+        values.push(reservation(alloc, *id, reserved)?)?;
     }
     Ok(Value::Array(values))
 }

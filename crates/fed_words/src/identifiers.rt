@@ -28,7 +28,7 @@ pub fn read_identifier(roster: &Roster, here: SiteId, word: &str) -> Result<JobI
     }
 }
 
-/// The place of the first dot.
+/// The index of the first dot.
 fn dot_in(word: &[u8]) -> Option<usize>
     ensures { result ≡ position is_dot word.now }
 {

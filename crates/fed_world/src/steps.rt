@@ -98,9 +98,9 @@ pub(crate) fn take_at(
     if number == 0 || number > texts.len() as u64 {
         return Ok(Outcome::NoPacket);
     }
-    let place = (number - 1) as usize;
+    let made = (number - 1) as usize;
     // The text is of a packet within limits: that it can't be read is want of memory.
-    let Ok(packet) = read(alloc, texts[place].bytes()) else {
+    let Ok(packet) = read(alloc, texts[made].bytes()) else {
         return Err(NoMemory);
     };
     match replicas[index].take(&packet) {

@@ -117,8 +117,8 @@ impl World {
         if packet == 0 || packet > self.texts.len() as u64 {
             return None;
         }
-        let place = (packet - 1) as usize;
-        Some(self.texts[place].bytes())
+        let index = (packet - 1) as usize;
+        Some(self.texts[index].bytes())
     }
 
     /// Runs one event more. On an error, which a failed allocation alone makes, the world is as before: want of memory is no

@@ -21,12 +21,12 @@ fn name_of(fault: UsageFault) -> &'static str {
     }
 }
 
-/// The place of the word at fault. Words are read from left to right, so it is the last of the first words that have
+/// The index of the word at fault. Words are read from left to right, so it is the last of the first words that have
 /// the same fault.
 fn place_at_fault(alloc: Global, site: &Site, words: &[&str], fault: UsageFault) -> Option<usize> {
-    for place in 0..words.len() {
-        match read_words(alloc, &words[..=place], site.roster(), site.here()) {
-            Err(found) if found == fault => return Some(place),
+    for index in 0..words.len() {
+        match read_words(alloc, &words[..=index], site.roster(), site.here()) {
+            Err(found) if found == fault => return Some(index),
             _ => (),
         }
     }
@@ -36,20 +36,20 @@ fn place_at_fault(alloc: Global, site: &Site, words: &[&str], fault: UsageFault)
 /// The option of a word that takes an argument, with its argument: what stands behind the letter, or the next word.
 fn option_in<'a>(utility: Utility, word: &'a str, next: &'a str) -> Option<(Choice, &'a str)> {
     let letters = word.strip_prefix('-')?;
-    for (place, letter) in letters.char_indices() {
+    for (index, letter) in letters.char_indices() {
         let choice = utility.choice(letter)?;
         if choice.takes_argument() {
-            let behind = letters.get(place.saturating_add(1)..)?;
+            let behind = letters.get(index.saturating_add(1)..)?;
             return Some((choice, if behind.is_empty() { next } else { behind }));
         }
     }
     None
 }
 
-/// The option whose argument is at fault, where the word at this place is the argument or ends in it.
-fn option_at<'a>(utility: Utility, words: &[&'a str], place: usize) -> Option<(Choice, &'a str)> {
-    let word: &'a str = words.get(place)?;
-    let before: &'a str = words.get(place.saturating_sub(1))?;
+/// The option whose argument is at fault, where the word at this index is the argument or ends in it.
+fn option_at<'a>(utility: Utility, words: &[&'a str], index: usize) -> Option<(Choice, &'a str)> {
+    let word: &'a str = words.get(index)?;
+    let before: &'a str = words.get(index.saturating_sub(1))?;
     match option_in(utility, before, word) {
         Some((choice, argument)) if argument == word => Some((choice, argument)),
         _ => option_in(utility, word, ""),
@@ -110,16 +110,16 @@ fn value_text(
     }
 }
 
-/// Why the word at this place of a utility's words asks nothing.
+/// Why the word at this index of a utility's words asks nothing.
 fn word_text(
     alloc: Global,
     site: &Site,
     words: &[&str],
-    place: usize,
+    index: usize,
     fault: UsageFault,
 ) -> Result<String, AllocError> {
     let name = words.first().copied().unwrap_or("");
-    let word = words.get(place).copied().unwrap_or("");
+    let word = words.get(index).copied().unwrap_or("");
     match fault {
         UsageFault::UnknownUtility => {
             format!(in alloc;
@@ -129,7 +129,7 @@ fn word_text(
         UsageFault::UnknownOption => format!(in alloc; "{name} has no option {word}"),
         UsageFault::MissingArgument => format!(in alloc; "{word} lacks its argument"),
         UsageFault::BadValue => {
-            match Utility::named(name).and_then(|utility| option_at(utility, words, place)) {
+            match Utility::named(name).and_then(|utility| option_at(utility, words, index)) {
                 Some((choice, argument)) => value_text(alloc, site, choice, argument),
                 None => format!(in alloc; "{word} has a wrong form or is out of range"),
             }
@@ -153,15 +153,15 @@ pub fn misused_text(
     let Some((_, words)) = words.split_first() else {
         return Ok(None);
     };
-    let place = match fault {
+    let index = match fault {
         UsageFault::MissingArgument | UsageFault::MissingOperand => words.len().checked_sub(1),
         _ => place_at_fault(alloc, site, words, fault),
     };
-    let Some(place) = place else {
+    let Some(index) = index else {
         return Ok(None);
     };
     let number = fault.number();
     let name = name_of(fault);
-    let why = word_text(alloc, site, words, place, fault)?;
+    let why = word_text(alloc, site, words, index, fault)?;
     Ok(Some(format!(in alloc; "usage {number} ({name}): {why}")?))
 }

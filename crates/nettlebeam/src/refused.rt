@@ -272,7 +272,7 @@ fn why_refused(
     }
 }
 
-/// Why the command at this place of a line is refused. `None` where the line has no such command.
+/// Why the command at this index of a line is refused. `None` where the line has no such command.
 pub fn refused_text(
     alloc: Global,
     site: &Site,

@@ -3,5 +3,5 @@ use Rattle.std.specs.Map.{keys_of}
 use Rattle.fed_board.specs.Counts.{AreCounting}
 use Rattle.fed_board.proofs.counts.count_more.Given as goal
 
-abbrev pub invariant-loop-name : goal.invariant-loop-name
-invariant-loop-name g l = (length l.more ≡ 16) × AreCounting l.more (drop l.name-index l.names) (keys_of l.table)
+abbrev pub invariant-loop-id : goal.invariant-loop-id
+invariant-loop-id g l = (length l.more ≡ 16) × AreCounting l.more (drop l.id-index l.ids) (keys_of l.table)

@@ -11,17 +11,17 @@ returns-then-not-is_known_reservation c =
     let first = rest_more deref_pair _ _ _ _ c.in-Some.is c.next.ensures.steps in (
       λ e. cc,
       λ all. absurd (true≢false (sym (c.is_known_reservation.ensures.1
-          (left_not (IsKnownReservation c.args.version.now) c.args.reservations.now _ _ _ _ c.loop-name.invariant first (each_at (IsKnownReservation c.args.version.now) c.args.reservations.now c.iter-name-items.ensures.well_formed.0 all)))
+          (left_not (IsKnownReservation c.args.version.now) c.args.reservations.now _ _ _ _ c.loop-id.invariant first (each_at (IsKnownReservation c.args.version.now) c.args.reservations.now c.iter-id-items.ensures.well_formed.0 all)))
           ∙ c.if-not-is_known_reservation.true)),
     )
 
-pub loop-name-preserved : goal.loop-name-preserved
-loop-name-preserved c =
+pub loop-id-preserved : goal.loop-id-preserved
+loop-id-preserved c =
     let first = rest_more deref_pair _ _ _ _ c.in-Some.is c.next.ensures.steps in
-    left_more (IsKnownReservation c.args.version.now) c.args.reservations.now _ _ _ _ c.loop-name.invariant first (c.is_known_reservation.ensures.0 c.if-not-is_known_reservation.false)
+    left_more (IsKnownReservation c.args.version.now) c.args.reservations.now _ _ _ _ c.loop-id.invariant first (c.is_known_reservation.ensures.0 c.if-not-is_known_reservation.false)
 
 pub returns : goal.returns
 returns c = (
-  λ e. at_each (IsKnownReservation c.args.version.now) c.args.reservations.now (left_none (IsKnownReservation c.args.version.now) c.args.reservations.now _ c.loop-name.invariant c.in-None.ensures.steps.0),
+  λ e. at_each (IsKnownReservation c.args.version.now) c.args.reservations.now (left_none (IsKnownReservation c.args.version.now) c.args.reservations.now _ c.loop-id.invariant c.in-None.ensures.steps.0),
   λ all. refl,
 )

@@ -2,5 +2,5 @@ use Rattle.fed_board.specs.Board.{IsKnownReservation}
 use Rattle.fed_delta.proofs.PartLaws.{IsLeft}
 use Rattle.fed_delta.proofs.parts.are_known_reservations.Given as goal
 
-abbrev pub invariant-loop-name : goal.invariant-loop-name
-invariant-loop-name l = IsLeft (IsKnownReservation l.version) l.reservations l.name-iterator
+abbrev pub invariant-loop-id : goal.invariant-loop-id
+invariant-loop-id l = IsLeft (IsKnownReservation l.version) l.reservations l.id-iterator

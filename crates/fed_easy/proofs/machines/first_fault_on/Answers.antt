@@ -18,7 +18,7 @@ returns-then-count-eq-MAX_RUNNING c =
     let first = rest_more deref_pair _ _ _ _ c.in-Some.is c.next.ensures.steps in
     let entry : running_of c.args.site (job_reads c.in-Some.job.now) ≡ Some c.in-Some-running_job.entry = sym c.running_job.ensures ∙ c.in-Some-running_job.is in
     let more = passed_more (entry_running c.args.site) c.args.board.now.jobs _ _ so_far.0 _ c.in-Some-running_job.entry so_far.1 first entry in
-    let whole = more ∙ sym (running_read c.args.board.now c.jobs-job-items.ensures.ascending c.jobs-job-items.ensures.names c.args.site) in
+    let whole = more ∙ sym (running_read c.args.board.now c.jobs-job-items.ensures.ascending c.jobs-job-items.ensures.ids c.args.site) in
     let left = one_is_left so_far.0 _ _ c.in-Some-running_job.entry whole in
     too_many c.args.nodes (is_count c.args.nodes (omega (arith, c.if-nodes-lt1.false)) (omega (arith, c.if-nodes-gt-MAX_NODES.false))) (running_in c.args.site (board_reads c.args.board.now)) (omega (arith, so_far.2, c.if-count-eq-MAX_RUNNING.true, left))
 
@@ -37,7 +37,7 @@ loop-job-preserved c =
 pub returns-in-Some-bad : goal.returns-in-Some-bad
 returns-in-Some-bad c =
     let so_far = c.loop-job.invariant in
-    let done = running_done c.args.board.now c.jobs-job-items.ensures.ascending c.jobs-job-items.ensures.names c.args.site so_far.0 c.loop-job.job-iterator so_far.1 (rest_all deref_pair _ _ _ c.in-None.is c.next.ensures.steps) in
+    let done = running_done c.args.board.now c.jobs-job-items.ensures.ascending c.jobs-job-items.ensures.ids c.args.site so_far.0 c.loop-job.job-iterator so_far.1 (rest_all deref_pair _ _ _ c.in-None.is c.next.ensures.steps) in
     let few : length so_far.0 ≤ MAX_RUNNING = omega (arith, so_far.2, so_far.3) in
     sym (ap (option_map Entry) (sym so_far.4 ∙ c.in-Some-bad.is))
     ∙ fault_of_few c.args.nodes (is_count c.args.nodes (omega (arith, c.if-nodes-lt1.false)) (omega (arith, c.if-nodes-gt-MAX_NODES.false))) so_far.0 few
@@ -46,7 +46,7 @@ returns-in-Some-bad c =
 pub returns-in-None-bad : goal.returns-in-None-bad
 returns-in-None-bad c =
     let so_far = c.loop-job.invariant in
-    let done = running_done c.args.board.now c.jobs-job-items.ensures.ascending c.jobs-job-items.ensures.names c.args.site so_far.0 c.loop-job.job-iterator so_far.1 (rest_all deref_pair _ _ _ c.in-None.is c.next.ensures.steps) in
+    let done = running_done c.args.board.now c.jobs-job-items.ensures.ascending c.jobs-job-items.ensures.ids c.args.site so_far.0 c.loop-job.job-iterator so_far.1 (rest_all deref_pair _ _ _ c.in-None.is c.next.ensures.steps) in
     let few : length so_far.0 ≤ MAX_RUNNING = omega (arith, so_far.2, so_far.3) in
     sym (ap (option_map Entry) (sym so_far.4 ∙ c.in-None-bad.is))
     ∙ fault_of_few c.args.nodes (is_count c.args.nodes (omega (arith, c.if-nodes-lt1.false)) (omega (arith, c.if-nodes-gt-MAX_NODES.false))) so_far.0 few

@@ -22,7 +22,7 @@ whole : (c : goal.In-None) → c.loop-id.waiting.items ≡ filter_map (entry_wai
 whole c = none_left c.args.site c.args.capacity c.loop-id.waiting.items c.loop-id.id-iterator _ c.loop-id.invariant.waiting (rest_all deref_pair _ _ _ c.in-None.is c.next.ensures.steps)
 
 pub returns-clause-waiting : goal.returns-clause-waiting
-returns-clause-waiting c = waiting_done c.args.board.now c.jobs-id-items.ensures.ascending c.jobs-id-items.ensures.names c.args.site c.args.capacity c.loop-id.waiting.items (whole c)
+returns-clause-waiting c = waiting_done c.args.board.now c.jobs-id-items.ensures.ascending c.jobs-id-items.ensures.ids c.args.site c.args.capacity c.loop-id.waiting.items (whole c)
 
 pub returns-clause-distinct : goal.returns-clause-distinct
 returns-clause-distinct c = distinct_jobs c.args.site c.args.capacity c.args.board.now.jobs c.loop-id.waiting.items c.jobs-id-items.ensures.ascending (whole c)

@@ -6,5 +6,5 @@ use Rattle.fed_looks.proofs.job_lines.all_lines.Goals as goal
 
 pub returns : goal.returns
 returns c =
-    known_done c.args.roster.now c.args.board.now c.jobs-id-items.ensures.ascending c.jobs-id-items.ensures.names (string_bytes c.loop-id.text)
+    known_done c.args.roster.now c.args.board.now c.jobs-id-items.ensures.ascending c.jobs-id-items.ensures.ids (string_bytes c.loop-id.text)
     c.loop-id.id-iterator c.loop-id.invariant (rest_all deref_pair _ _ _ c.in-None.is c.next.ensures.steps)

@@ -6,5 +6,5 @@ use Rattle.fed_looks.proofs.reserved.reservation_lines.Goals as goal
 
 pub returns : goal.returns
 returns c =
-    lines_done c.args.roster.now c.args.board.now c.reservations-name-items.ensures.ascending c.reservations-name-items.ensures.names (string_bytes c.loop-name.text)
-    c.loop-name.name-iterator c.loop-name.invariant (rest_all deref_pair _ _ _ c.in-None.is c.next.ensures.steps)
+    lines_done c.args.roster.now c.args.board.now c.reservations-id-items.ensures.ascending c.reservations-id-items.ensures.ids (string_bytes c.loop-id.text)
+    c.loop-id.id-iterator c.loop-id.invariant (rest_all deref_pair _ _ _ c.in-None.is c.next.ensures.steps)

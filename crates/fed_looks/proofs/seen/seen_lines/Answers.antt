@@ -2,7 +2,7 @@ use Rattle.std.proofs.Common.{◌≡◌, ◌+◌, suc, string_bytes, sym, ◌∙
 use Rattle.fed_replica.specs.State.{state_of}
 use Rattle.fed_qstat.proofs.NamesBelow.{same_site}
 use Rattle.fed_looks.specs.Seen.{seen_line}
-use Rattle.fed_looks.proofs.Sites.{sites_more}
+use Rattle.fed_machine.proofs.Ranges.{sites_more}
 use Rattle.fed_looks.proofs.seen.seen_lines.Goals as goal
 
 pub loop-number-preserved : goal.loop-number-preserved

@@ -1,6 +1,6 @@
 use Rattle.std.proofs.Common.{subst}
 use Rattle.std.specs.List.Sorted.{IsPermutation}
-use Rattle.fed_qstat.proofs.DistinctNames.{once_ascends, once_members}
+use Rattle.fed_qstat.proofs.DistinctIdentifiers.{once_ascends, once_members}
 use Rattle.fed_qstat.proofs.listings.distinct.Goals as goal
 
 pub returns-clause-ascending : goal.returns-clause-ascending

@@ -6,11 +6,11 @@ use Rattle.fed_qstat.specs.Layout.{lines_in}
 use Rattle.fed_qstat.specs.Listing.{listing}
 use Rattle.fed_qstat.proofs.listings.lines_of.Goals as goal
 
-none_named : (names : List StampValue) → true ≡ (length names == 0) → names ≡ []
+none_named : (ids : List StampValue) → true ≡ (length ids == 0) → ids ≡ []
 none_named [] e = refl
-none_named (name ∷ names) e = absurd (omega (arith, eqb-true (length (name ∷ names)) 0 (sym e)))
+none_named (id ∷ ids) e = absurd (omega (arith, eqb-true (length (id ∷ ids)) 0 (sym e)))
 
 pub returns-in_ok-list_all : goal.returns-in_ok-list_all
 returns-in_ok-list_all c =
     c.in_ok-list_all.ensures
-    ∙ ap (listing (lines_in c.args.layout c.args.roster.now) (board_reads c.args.board.now)) (sym (none_named c.args.names.now c.if-is_empty.ensures))
+    ∙ ap (listing (lines_in c.args.layout c.args.roster.now) (board_reads c.args.board.now)) (sym (none_named c.args.ids.now c.if-is_empty.ensures))

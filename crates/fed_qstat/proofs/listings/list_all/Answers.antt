@@ -7,5 +7,5 @@ use Rattle.fed_qstat.proofs.listings.list_all.Goals as goal
 pub returns : goal.returns
 returns c =
     all_written (lines_in c.args.layout c.args.roster.now) c.args.board.now _ c.loop-id.id-iterator
-    (record { board = c.board_is_covered.ensures; ascending = c.jobs-id-items.ensures.ascending; names = c.jobs-id-items.ensures.names })
+    (record { board = c.board_is_covered.ensures; ascending = c.jobs-id-items.ensures.ascending; ids = c.jobs-id-items.ensures.ids })
     c.loop-id.invariant (rest_all deref_pair _ _ _ c.in-None.is c.next.ensures.steps)

@@ -11,7 +11,7 @@ write_right-requires-clause-digits c = length-decimal-le 9 c.args.limit (omega a
 pub write_right-requires-2-clause-digits : goal.write_right-requires-2-clause-digits
 write_right-requires-2-clause-digits c = length-decimal-le 8 c.args.nodes (omega arith) (omega arith) (omega arith)
 
-pub unwrap-requires : goal.unwrap-requires
-unwrap-requires c =
+pub from_utf8_unchecked-requires : goal.from_utf8_unchecked-requires
+from_utf8_unchecked-requires c =
     let row = c.write_right-2.ensures (32 ∷ right_in 9 (decimal c.args.limit) ++ 32 ∷ []) (c.write_right.ensures (32 ∷ []) refl) in
-    numbers_are_text _ c.from_utf8.result c.write_right-2.new.row c.args.nodes c.args.limit (omega arith) (omega arith) row c.from_utf8.ensures.cases
+    numbers_are_text _ c.args.nodes c.args.limit (omega arith) (omega arith) row

@@ -15,7 +15,7 @@ returns-then-not-covers g c = (
 pub loop-pair-preserved : goal.loop-pair-preserved
 loop-pair-preserved g c =
     covered_more c.args.version.now c.args.pairs.now c.loop-pair.pair-index c.pair-item.result c.loop-pair-test.true c.pair-item.is c.loop-pair.invariant
-    (subst (λ n. n < SITES) c.site.ensures c.site_is_of_sixteen.ensures, sym c.covers.ensures ∙ c.if-not-covers.false)
+    (subst (λ n. n < SITES) c.site.ensures c.site_is_in_range.ensures, sym c.covers.ensures ∙ c.if-not-covers.false)
 
 pub returns : goal.returns
 returns g c = (λ _. subst (AreCovered c.args.version.now) (take_all c.loop-pair.pair-index c.args.pairs.now c.loop-pair-test.false) c.loop-pair.invariant, λ _. refl)

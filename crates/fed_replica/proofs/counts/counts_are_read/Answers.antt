@@ -1,4 +1,4 @@
-use Rattle.fed_board.proofs.CountedNames.{jobs_counted, reservations_counted}
+use Rattle.fed_board.proofs.CountedIdentifiers.{jobs_counted, reservations_counted}
 use Rattle.fed_replica.proofs.counts.counts_are_read.Goals as goal
 
 pub returns-clause-jobs : goal.returns-clause-jobs

@@ -1,5 +1,6 @@
-use Rattle.std.proofs.Common.{◌≡◌, ◌∙◌, ap, ◌==◌, true, false, length, ℕ, List, ◌++◌, take, rules, Vec}
+use Rattle.std.proofs.Common.{◌≡◌, ◌∙◌, ◌+◌, ap, ◌==◌, true, false, length, ℕ, List, ◌++◌, take, rules, Vec}
 use Rattle.std.specs.declared.alloc.Global.{Global}
+use Rattle.fed_serve.specs.declared.inputs.TheConstants.{MAX_LINE_BYTES}
 use Rattle.fed_serve.proofs.InputLines.{Takes, takes_none, takes_some}
 use Rattle.fed_serve.proofs.inputs.take_lines.Goals as goal
 use Rattle.fed_serve.proofs.inputs.take_lines.Goals.{then-not-is_empty+in_ok-extend_from_slice, else-not-is_empty}
@@ -8,20 +9,20 @@ takes : (c : goal.After-truncate) → Takes c.args.begun.now.items c.args.chunk.
 takes c =
     let cut = c.split_behind_lines in
     let rest = cut.result.1.now in
-    let left : c.truncate.new.self.items ≡ take 67108866 (c.if-not-is_empty.begun.items ++ rest) = c.truncate.ensures.items ∙ ap (take 67108866) c.in_ok-extend_from_slice-2.ensures.items in
+    let left : c.truncate.new.self.items ≡ take (MAX_LINE_BYTES + 2) (c.if-not-is_empty.begun.items ++ rest) = c.truncate.ensures.items ∙ ap (take (MAX_LINE_BYTES + 2)) c.in_ok-extend_from_slice-2.ensures.items in
     elim c.if-not-is_empty.branch [
       | then-not-is_empty+in_ok-extend_from_slice w ↦
           let some : (length cut.result.0.now == 0) ≡ false = search rules in
           takes_some c.args.begun.now.items c.args.chunk.now cut.result.0.now rest c.if-not-is_empty.taken.items c.truncate.new.self.items
           cut.ensures.cut cut.ensures.whole cut.ensures.begun some
           (ap (λ (v : Vec ℕ Global). v.items) (w.taken-is ∙ w.replace-taken.ensures.value) ∙ w.in_ok-extend_from_slice.ensures.items)
-          (left ∙ ap (λ (v : Vec ℕ Global). take 67108866 (v.items ++ rest)) (w.begun-is ∙ w.replace-taken.ensures.after) ∙ ap (λ (bs : List ℕ). take 67108866 (bs ++ rest)) w.new.ensures.items)
+          (left ∙ ap (λ (v : Vec ℕ Global). take (MAX_LINE_BYTES + 2) (v.items ++ rest)) (w.begun-is ∙ w.replace-taken.ensures.after) ∙ ap (λ (bs : List ℕ). take (MAX_LINE_BYTES + 2) (bs ++ rest)) w.new.ensures.items)
       | else-not-is_empty w ↦
           let empty : (length cut.result.0.now == 0) ≡ true = search rules in
           takes_none c.args.begun.now.items c.args.chunk.now cut.result.0.now rest c.if-not-is_empty.taken.items c.truncate.new.self.items
           cut.ensures.cut c.requires cut.ensures.begun empty
           (ap (λ (v : Vec ℕ Global). v.items) w.taken-is ∙ c.new-taken.ensures.items)
-          (left ∙ ap (λ (v : Vec ℕ Global). take 67108866 (v.items ++ rest)) w.begun-is)
+          (left ∙ ap (λ (v : Vec ℕ Global). take (MAX_LINE_BYTES + 2) (v.items ++ rest)) w.begun-is)
     ]
 
 pub returns-clause-lines : goal.returns-clause-lines

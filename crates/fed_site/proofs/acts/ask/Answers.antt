@@ -15,9 +15,9 @@ returns-in-Ok-clause-done c =
     let old = c.args.replica.now in
     let before : c.version-before.result ≡ old.board.version = c.version-before.ensures.value ∙ ap (λ (b : BoardValue). b.version) c.board.ensures in
     let after : c.version.result ≡ c.act.new.self.board.version = c.version.ensures.value ∙ ap (λ (b : BoardValue). b.version) c.board-in-Ok.ensures in
-    let small : old.site < 16 = subst (λ (k : ℕ). k < 16) (sym c.requires) c.site_is_of_sixteen.ensures in
+    let small : old.site < 16 = subst (λ (k : ℕ). k < 16) (sym c.requires) c.site_is_in_range.ensures in
     let a = acted c.args.roster.now old c.act.new.self c.args.who.now c.args.index c.args.command.now c.act.ensures.site c.act.ensures.heard c.in-Ok.reply
-    (subst IsVersion before c.version_is_of_sixteen.ensures) small
+    (subst IsVersion before c.version_is_in_range.ensures) small
     (subst (λ (r : Result Reply Refusal). IsDone (answer_to (board_reads old.board) old.site c.args.who.now c.args.command.now) (board_reads old.board) r (board_reads c.act.new.self.board)) (sym c.in_ok-reply.ensures.told.0 ∙ c.in-Ok.is) c.act.ensures.done) in
     let ready = c.in_ok-text.ensures ∙ (λ i. next_line c.args.roster.now (board_reads (c.board-2.ensures i)).version (sym c.requires i) c.args.command.now) in
     record {

@@ -13,5 +13,5 @@ returns-in-Ok-clause-done c =
 pub returns-in_ok-text-in-Err-clause-done : goal.returns-in_ok-text-in-Err-clause-done
 returns-in_ok-text-in-Err-clause-done c =
     let fault = subst (λ (e : Absorb). IsFaultOf c.args.packet.now.delta.need c.args.replica.now.board.version e) c.in_ok-missing-in-Err.ensures.lacked c.in-Err.ensures.fault in
-    let d = gap c.args.roster.now c.args.replica.now c.take.new.self c.args.packet.now c.in_ok-missing-in-Err.missing c.site_is_of_sixteen.ensures fault c.in-Err.ensures.unchanged (cow_str_bytes c.undone.result.text) (c.undone.ensures.text ∙ c.in_ok-text-in-Err.ensures) in
+    let d = gap c.args.roster.now c.args.replica.now c.take.new.self c.args.packet.now c.in_ok-missing-in-Err.missing c.site_is_in_range.ensures fault c.in-Err.ensures.unchanged (cow_str_bytes c.undone.result.text) (c.undone.ensures.text ∙ c.in_ok-text-in-Err.ensures) in
     record { after = d.after; said = d.said; keeps = c.undone.ensures.kept ∙ d.keeps; complains = c.undone.ensures.complaint ∙ d.complains }

@@ -9,8 +9,8 @@ use Rattle.fed_threads.proofs.calls.take_in.Goals as goal
 pub returns-clause-ok : goal.returns-clause-ok
 returns-clause-ok c =
     steps c.args.locked.now c.take.new.self (known_by c.args.seat.now) (known_by c.reserve.new.self) (known_by c.claim.new.self)
-    c.args.site c.len-index.result c.version.result c.version-2.result (Take c.args.site c.args.parcel.sender c.args.parcel.place) (Some c.args.parcel.packet) (outcome_of_delivered c.in_ok-receipt.receipt)
-    c.in_ok-receipt.ensures.ok (named_delivered c.in_ok-receipt.receipt) c.len-index.ensures c.version.ensures.value c.version.ensures.counters c.version-2.ensures.value c.in_ok-check.ensures.ok c.reserve.ensures.same
+    c.args.site c.len-index.result c.version.result c.version-2.result (Take c.args.site c.args.parcel.sender c.args.parcel.place) (Some c.args.parcel.packet) (outcome_of_delivered c.in_ok-delivered.delivered)
+    c.in_ok-delivered.ensures.ok (named_delivered c.in_ok-delivered.delivered) c.len-index.ensures c.version.ensures.value c.version.ensures.counters c.version-2.ensures.value c.in_ok-check.ensures.ok c.reserve.ensures.same
     (rw (← c.outcome_of_delivered.ensures) c.claim.ensures)
 
 pub returns-in_err-check-clause-behind : goal.returns-in_err-check-clause-behind
@@ -21,6 +21,6 @@ pub returns-in_err-reserve-clause-behind : goal.returns-in_err-reserve-clause-be
 returns-in_err-reserve-clause-behind c =
     wanting c.args.locked.now (known_by c.args.seat.now) c.args.site c.len-index.result c.version.result c.len-index.ensures c.version.ensures.value c.from_residual-in_err-reserve.result c.in_ok-check.ensures.ok c.from_residual-in_err-reserve.ensures.1
 
-pub returns-in_err-receipt-clause-behind : goal.returns-in_err-receipt-clause-behind
-returns-in_err-receipt-clause-behind c =
-    wanting c.args.locked.now (known_by c.args.seat.now) c.args.site c.len-index.result c.version.result c.len-index.ensures c.version.ensures.value c.from_residual-in_err-receipt.result c.in_ok-check.ensures.ok c.from_residual-in_err-receipt.ensures.1
+pub returns-in_err-delivered-clause-behind : goal.returns-in_err-delivered-clause-behind
+returns-in_err-delivered-clause-behind c =
+    wanting c.args.locked.now (known_by c.args.seat.now) c.args.site c.len-index.result c.version.result c.len-index.ensures c.version.ensures.value c.from_residual-in_err-delivered.result c.in_ok-check.ensures.ok c.from_residual-in_err-delivered.ensures.1

@@ -20,10 +20,10 @@ returns-then-not-admit c n =
     elim c.then-not-admit.branch [
       | then-not-admit-via-then-not-admit w ↦
           crowded Jobs (job_of c.args.format) MAX_JOBS fits c.args.values.now c.loop-index.index c.loop-index.jobs c.index-values-index.result _ c.loop-index-test.true c.index-values-index.is c.loop-index.invariant.read c.loop-index.invariant.many
-          c.in-Ok.job (sym c.in-Ok.is ∙ c.in_ok-job.ensures) (sym (c.admit.ensures.admitted (keys_of c.loop-index.jobs) c.loop-index.invariant.names) ∙ w.if-not-admit.true)
+          c.in-Ok.job (sym c.in-Ok.is ∙ c.in_ok-job.ensures) (sym (c.admit.ensures.admitted (keys_of c.loop-index.jobs) c.loop-index.invariant.ids) ∙ w.if-not-admit.true)
       | then-not-admit-via-else-not-admit+then-not-le w ↦
           unfit Jobs (job_of c.args.format) MAX_JOBS fits c.args.values.now c.loop-index.index c.loop-index.jobs c.index-values-index.result _ c.loop-index-test.true c.index-values-index.is c.loop-index.invariant.read c.loop-index.invariant.many
-          c.in-Ok.job (sym c.in-Ok.is ∙ c.in_ok-job.ensures) (sym (c.admit.ensures.admitted (keys_of c.loop-index.jobs) c.loop-index.invariant.names) ∙ w.if-not-admit.false)
+          c.in-Ok.job (sym c.in-Ok.is ∙ c.in_ok-job.ensures) (sym (c.admit.ensures.admitted (keys_of c.loop-index.jobs) c.loop-index.invariant.ids) ∙ w.if-not-admit.false)
           (ap (λ t. is_below t c.args.reached.now) (sym w.touched.ensures) ∙ sym w.le.ensures ∙ w.if-not-le.true)
     ]
 
@@ -36,7 +36,7 @@ pub loop-index-preserved : goal.loop-index-preserved
 loop-index-preserved c =
     let fits = λ (j : Job). is_below j.1.touched c.args.reached.now in
     let t = more Jobs (job_of c.args.format) MAX_JOBS fits c.args.values.now c.loop-index.index c.loop-index.jobs c.index-values-index.result _ c.loop-index-test.true c.index-values-index.is c.loop-index.invariant.read c.loop-index.invariant.many
-    c.in-Ok.job (sym c.in-Ok.is ∙ c.in_ok-job.ensures) c.admit.new.self c.insert.new.self (sym (c.admit.ensures.admitted (keys_of c.loop-index.jobs) c.loop-index.invariant.names) ∙ c.if-not-admit.false)
+    c.in-Ok.job (sym c.in-Ok.is ∙ c.in_ok-job.ensures) c.admit.new.self c.insert.new.self (sym (c.admit.ensures.admitted (keys_of c.loop-index.jobs) c.loop-index.invariant.ids) ∙ c.if-not-admit.false)
     (ap (λ t. is_below t c.args.reached.now) (sym c.touched.ensures) ∙ sym c.le.ensures ∙ c.if-not-le.false)
-    (c.admit.ensures.kept c.if-not-admit.false (keys_of c.loop-index.jobs) c.loop-index.invariant.names) c.in_ok-insert-in-Ok.ensures.inserted in
-    record { many = t.many; names = t.names; read = t.read }
+    (c.admit.ensures.kept c.if-not-admit.false (keys_of c.loop-index.jobs) c.loop-index.invariant.ids) c.in_ok-insert-in-Ok.ensures.inserted in
+    record { many = t.many; ids = t.ids; read = t.read }

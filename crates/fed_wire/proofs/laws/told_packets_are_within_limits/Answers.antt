@@ -4,7 +4,7 @@ use Rattle.std.proofs.Common.{◌≡◌, ap, subst, ◌∙◌, arith}
 use Rattle.fed_stamp.specs.Version.{IsVersion}
 use Rattle.fed_lattice.specs.Latest.{stamp_cmp}
 use Rattle.fed_board.specs.Board.{BoardValue, IsBoard, board_reads}
-use Rattle.fed_model.specs.Names.{jobs_in, reservations_in}
+use Rattle.fed_model.specs.Identifiers.{jobs_in, reservations_in}
 use Rattle.fed_delta.specs.Delta.{DeltaValue}
 use Rattle.fed_wire.proofs.LimitLaws.{HaveSortedTags, IsMade, sorted_tags, told_within}
 use Rattle.fed_wire.proofs.laws.told_packets_are_within_limits.Goals as goal
@@ -18,8 +18,8 @@ returns c =
     let tags = sorted_tags c.changes-changes.result.now.jobs (λ k d l. let w = order.well_formed k d l in (w.2, w.3)) in
     let made : IsMade p = record {
       sender = omega (arith, c.sender_is_of_sixteen.ensures);
-      need = subst IsVersion (c.need.ensures ∙ ap (λ (d : DeltaValue). d.need) delta) c.version_is_of_sixteen.ensures;
-      reached = subst IsVersion (c.reached.ensures.version ∙ ap (λ (d : DeltaValue). d.changes.version) delta) c.version_is_of_sixteen-2.ensures;
+      need = subst IsVersion (c.need.ensures ∙ ap (λ (d : DeltaValue). d.need) delta) c.version_is_in_range.ensures;
+      reached = subst IsVersion (c.reached.ensures.version ∙ ap (λ (d : DeltaValue). d.changes.version) delta) c.version_is_in_range-2.ensures;
       board = subst IsBoard changes c.records_are_covered.ensures;
       jobs_ascend = subst (λ (b : BoardValue). IsStrictlySortedBy stamp_cmp (keys_of b.jobs)) changes order.jobs_ascend;
       reservations_ascend = subst (λ (b : BoardValue). IsStrictlySortedBy stamp_cmp (keys_of b.reservations)) changes order.reservations_ascend;

@@ -5,10 +5,10 @@ use Rattle.fed_wire.specs.Reservations.{reservation_value}
 use Rattle.fed_wire.proofs.WriteLaws.{rest_holds, pushed_value}
 use Rattle.fed_wire.proofs.writing.reservations.Goals as goal
 
-pub loop-name-preserved : goal.loop-name-preserved
-loop-name-preserved c =
+pub loop-id-preserved : goal.loop-id-preserved
+loop-id-preserved c =
     let first = rest_more deref_pair _ _ _ _ c.in-Some.is c.next.ensures.steps in
     record {
-      left = pushed_value _ _ _ _ first reservation_value c.loop-name.values.items c.push.new.self.items c.in_ok-reservation.field-0 _ c.loop-name.invariant.left c.in_ok-reservation.ensures c.in_ok-push.ensures.items;
-      made = rest_holds _ _ _ _ first IsSome c.loop-name.invariant.made;
+      left = pushed_value _ _ _ _ first reservation_value c.loop-id.values.items c.push.new.self.items c.in_ok-reservation.field-0 _ c.loop-id.invariant.left c.in_ok-reservation.ensures c.in_ok-push.ensures.items;
+      made = rest_holds _ _ _ _ first IsSome c.loop-id.invariant.made;
     }

@@ -4,8 +4,8 @@ use Rattle.serde_json.specs.View.{view}
 use Rattle.fed_wire.specs.Reservations.{reservation_value}
 use Rattle.fed_wire.proofs.writing.reservations.Given as goal
 
-abbrev pub invariant-loop-name : goal.invariant-loop-name
-invariant-loop-name l = record {
-  left : map view l.values.items ++ map reservation_value l.name-iterator ≡ map reservation_value l.delta.changes.reservations;
-  made : All IsSome (values_of l.name-iterator);
+abbrev pub invariant-loop-id : goal.invariant-loop-id
+invariant-loop-id l = record {
+  left : map view l.values.items ++ map reservation_value l.id-iterator ≡ map reservation_value l.delta.changes.reservations;
+  made : All IsSome (values_of l.id-iterator);
 }

@@ -12,7 +12,7 @@ invariant_of-self-2 c =
     let op = c.args.operation.now in
     let seen = subst (λ v. covers v at ≡ true) c.raise.ensures.raised c.raise.ensures.seen in
     let named = subst (λ x. HasNamed x (body_of op)) (sym c.self.view_is) c.requires.named in
-    let keeps = changed_reservation_keeps b at c.args.name op c.self.invariant.0 c.raise.ensures.site seen c.requires.of named in
+    let keeps = changed_reservation_keeps b at c.args.id op c.self.invariant.0 c.raise.ensures.site seen c.requires.of named in
     let version = sym c.raise.ensures.raised in
     let reservations = sym c.in_ok-change_at.ensures.applied in (
       subst IsBoard (λ i. record { version = version i; jobs = b.jobs; reservations = reservations i }) keeps,

@@ -4,7 +4,7 @@ use Rattle.std.specs.List.Sorted.{IsStrictlySortedBy}
 use Rattle.fed_lattice.specs.Latest.{stamp_cmp}
 use Rattle.fed_board.specs.Board.{BoardValue, IsBoard}
 use Rattle.fed_board.proofs.BoardKeeps.{submitted_values}
-use Rattle.fed_board.proofs.ListedNames.{jobs_are, listed_jobs}
+use Rattle.fed_board.proofs.ListedIdentifiers.{jobs_are, listed_jobs}
 use Rattle.fed_board.proofs.boards.Board.jobs.Goals as goal
 
 pub returns-clause-submitted : goal.returns-clause-submitted
@@ -16,7 +16,7 @@ returns-clause-submitted c =
 pub returns-clause-all : goal.returns-clause-all
 returns-clause-all c = listed_jobs c.args.self.now (subst IsBoard c.self.view_is c.self.invariant.0)
 
-pub returns-clause-names : goal.returns-clause-names
-returns-clause-names c =
+pub returns-clause-ids : goal.returns-clause-ids
+returns-clause-ids c =
     let sorted = subst (λ (b : BoardValue). IsStrictlySortedBy stamp_cmp (keys_of b.jobs)) c.self.view_is c.iter.ensures.well_formed.0 in
     jobs_are c.args.self.now (subst IsBoard c.self.view_is c.self.invariant.0) sorted

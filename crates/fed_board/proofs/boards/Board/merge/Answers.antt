@@ -20,8 +20,8 @@ invariant_of-self c =
     let reservations = sym c.in_ok-reservations.ensures.joined in
     let whole = subst IsBoard (λ i. record { version = version i; jobs = jobs i; reservations = reservations i }) keeps in (
       whole,
-      c.count_names-self-inside.ensures,
-      c.count_names-self-inside-2.ensures,
+      c.count_ids-self-inside.ensures,
+      c.count_ids-self-inside-2.ensures,
       listed_after c.forget_all.new.changes (record { version = c.join-self-inside.result; jobs = c.in_ok-jobs.jobs; reservations = c.in_ok-reservations.reservations }) whole c.forget_all.ensures,
     )
 

@@ -1,0 +1,72 @@
+//! The plan of a site.
+ghost use Rattle.std.specs.Prelude.{◌≡◌, ◌≢◌, ◌<◌, IfOk, OnErr, None, length, option_map};
+ghost use Rattle.fed_stamp.specs.Roster.{nodes_at};
+ghost use Rattle.fed_board.specs.Board.{board_reads};
+ghost use Rattle.fed_easy.specs.declared.machines.MachineFault.TheVariants.{NoMemory as OutOfMemory};
+ghost use Rattle.fed_easy.specs.Plan.{plan_reads};
+ghost use Rattle.fed_easy.specs.SitePlan.{site_plan};
+ghost use Rattle.fed_answers.specs.Planned.{plan_in};
+
+use fed_board::Board;
+use fed_easy::{Machine, MachineFault, Plan, PlanFault, machine_of, plan};
+use fed_lattice::NoMemory;
+use fed_record::Moment;
+use fed_stamp::{Roster, SiteId};
+use std::alloc::Global;
+
+/// The nodes of a site of the roster.
+pub fn nodes_of(roster: &Roster, site: SiteId) -> u64
+    requires { site < length roster.now }
+    ensures { result ≡ nodes_at roster.now site }
+{
+    roster.nodes(site).unwrap()
+}
+
+/// The plan of a site's machine.
+fn machine_plan(
+    alloc: Global,
+    board: &Board,
+    site: SiteId,
+    moment: Moment,
+    machine: &Machine,
+) -> Result<Plan, NoMemory>
+    ensures { IfOk result (λ plan. plan_reads plan ≡ site_plan (board_reads board.now) site moment machine.now) }
+{
+    match plan(alloc, board, site, moment.get(), machine) {
+        Ok(plan) => Ok(plan),
+        Err(fault) => {
+            // a moment is in range, so that want of memory is all that is left
+            prove!(matches!(&fault, PlanFault::NoMemory));
+            Err(NoMemory)
+        }
+    }
+}
+
+/// There is no plan, but where memory was refused.
+fn unplanned(fault: MachineFault) -> Result<Option<Plan>, NoMemory>
+    ensures none { IfOk result (λ plan. (plan ≡ None) × (fault ≢ OutOfMemory)) }
+    ensures memory { OnErr result (fault ≡ OutOfMemory) }
+{
+    match fault {
+        MachineFault::NoMemory => Err(NoMemory),
+        _ => Ok(None),
+    }
+}
+
+/// The plan of a site at a moment, with the roster's nodes and what the board says runs there; `None` where no machine may
+/// be so, which no board of a run says. The only error is `NoMemory`.
+pub fn plan_at(
+    alloc: Global,
+    roster: &Roster,
+    board: &Board,
+    site: SiteId,
+    moment: Moment,
+) -> Result<Option<Plan>, NoMemory>
+    requires { site < length roster.now }
+    ensures { IfOk result (λ plan. option_map plan_reads plan ≡ plan_in roster.now (board_reads board.now) site moment) }
+{
+    match machine_of(alloc, board, site, nodes_of(roster, site)) {
+        Ok(machine) => Ok(Some(machine_plan(alloc, board, site, moment, &machine)?)),
+        Err(fault) => unplanned(fault),
+    }
+}

@@ -1,0 +1,6 @@
+//! Examples of sites on a disk, over public calls alone. The crate has tests and nothing else.
+#![tactic(auto)]
+
+/// Homes in memory and on the disk.
+#[cfg(test)]
+mod homes;

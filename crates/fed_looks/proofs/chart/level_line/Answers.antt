@@ -1,8 +1,0 @@
-use Rattle.std.proofs.Common.{append_assoc}
-use Rattle.std.proofs.lemmas.Result.{IfOk-weaker}
-use Rattle.fed_looks.specs.Chart.{level_line}
-use Rattle.fed_looks.proofs.chart.level_line.Goals as goal
-
-pub returns : goal.returns
-unfolding level_line
-returns c = IfOk-weaker c.format.result _ _ (λ s e. rw e (simp append_assoc)) c.format.ensures.ok

@@ -1,6 +1,0 @@
-use Rattle.std.proofs.Common.{◌≡◌, take}
-use Rattle.fed_looks.specs.ChartBars.{level_over}
-use Rattle.fed_looks.proofs.chart_bars.level_over.Given as goal
-
-abbrev pub invariant-loop-bar : goal.invariant-loop-bar
-invariant-loop-bar l = l.level ≡ level_over l.from l.seconds (take l.bar-index l.bars)

@@ -1,6 +1,0 @@
-use Rattle.std.proofs.Common.{◌≡◌, ◌++◌, flat_map, string_bytes}
-use Rattle.fed_looks.specs.Machine.{run_line}
-use Rattle.fed_looks.proofs.machines.run_lines.Given as goal
-
-abbrev pub invariant-loop-run : goal.invariant-loop-run
-invariant-loop-run l = string_bytes l.text ++ flat_map (run_line l.roster) l.run-iterator ≡ flat_map (run_line l.roster) l.runs.keys

@@ -1,7 +1,0 @@
-use Rattle.std.proofs.Common.{◌≡◌, []}
-use Rattle.fed_looks.specs.Machine.{in_order, run_cmp}
-use Rattle.fed_looks.proofs.Entries.{runs_from}
-use Rattle.fed_looks.proofs.machines.runs_at.Given as goal
-
-abbrev pub invariant-loop-id : goal.invariant-loop-id
-invariant-loop-id l = in_order run_cmp l.runs.keys (runs_from l.here l.id-iterator) ≡ in_order run_cmp [] (runs_from l.here l.board.jobs)

@@ -1,0 +1,15 @@
+//! What a site's machine has at a moment and later, in lines and as a picture. Each is a function of what the board reads as.
+#![tactic(auto)]
+
+/// A picture of a site's machine.
+mod chart;
+/// What a chart shows.
+pub mod chart_bars;
+/// How the bars of a chart are drawn.
+mod chart_marks;
+/// What is said of a site's machine.
+mod machines;
+
+pub use chart::chart_svg;
+pub use chart_bars::{Bar, Kind, bars_at};
+pub use machines::machine_lines;

@@ -1,0 +1,181 @@
+//! What is said of a site's machine.
+ghost use Rattle.std.specs.Prelude.{◌≡◌, ◌<◌, ◌++◌, [], IfOk, flat_map, length, map, string_bytes};
+ghost use Rattle.fed_record.specs.JobRecord.{job_reads};
+ghost use Rattle.fed_board.specs.Board.{board_reads};
+ghost use Rattle.fed_machine.specs.Machine.{free_beside, kept_in, kept_line as line_of_kept, kept_of as kept_from, left_by, machine_lines as lines_of_machine, nodes_line as line_of_nodes, run_line as line_of_run, run_of as run_from, runs_in, taken_at, taken_by};
+
+use fed_answers::nodes_of;
+use fed_board::Board;
+use fed_lattice::NoMemory;
+use fed_qstat::identifier_text;
+use fed_record::{JobRecord, Moment, Reservation};
+use fed_stamp::{JobId, Roster, SiteId, Stamp};
+use std::alloc::{AllocError, Global};
+use std::collections::BTreeSet;
+
+/// A job that runs: its end, its identifier and its nodes. In this order jobs stand by their ends, then by their stamps.
+pub(crate) type Run = (u64, JobId, u64);
+
+/// A reservation: its start, its identifier, its end and its nodes.
+pub(crate) type Kept = (u64, Stamp, u64, u64);
+
+/// The job, if the site has begun it and it is not finished.
+fn run_of(here: SiteId, id: JobId, job: &JobRecord) -> Option<Run>
+    ensures { result ≡ run_from here id (job_reads job.now) }
+{
+    let progress = job.progress();
+    if progress.finished.is_some() {
+        return None;
+    }
+    match progress.begun {
+        Some((stamp, beginning)) => {
+            if stamp.site() == here {
+                Some((beginning.end, id, beginning.nodes.get()))
+            } else {
+                None
+            }
+        }
+        None => None,
+    }
+}
+
+/// The reservation, if it stands, is of the site and is not over at the moment.
+fn kept_of(here: SiteId, moment: u64, id: Stamp, reservation: &Reservation) -> Option<Kept>
+    ensures { result ≡ kept_from here moment id reservation.now }
+{
+    if !reservation.is_made() {
+        return None;
+    }
+    let window = reservation.window()?;
+    if window.site == here && moment < window.end {
+        Some((window.start, id, window.end, window.nodes))
+    } else {
+        None
+    }
+}
+
+/// The jobs that run at a site, in the order of their ends.
+pub(crate) fn runs_at(alloc: Global, board: &Board, here: SiteId) -> Result<BTreeSet<Run>, NoMemory>
+    ensures { IfOk result (λ runs. runs.keys ≡ runs_in here (board_reads board.now)) }
+{
+    let mut runs = BTreeSet::new(alloc);
+    for (id, job) in board.jobs() {
+        if let Some(run) = run_of(here, *id, job) {
+            runs.insert(run)?;
+        }
+    }
+    Ok(runs)
+}
+
+/// The reservations of a site that are not over at the moment, in the order of their starts.
+pub(crate) fn kept_at(
+    alloc: Global,
+    board: &Board,
+    here: SiteId,
+    moment: u64,
+) -> Result<BTreeSet<Kept>, NoMemory>
+    ensures { IfOk result (λ kept. kept.keys ≡ kept_in here moment (board_reads board.now)) }
+{
+    let mut all = BTreeSet::new(alloc);
+    for (id, reservation) in board.reservations() {
+        if let Some(kept) = kept_of(here, moment, *id, reservation) {
+            all.insert(kept)?;
+        }
+    }
+    Ok(all)
+}
+
+/// What is left of so many nodes beside the jobs that run.
+fn left_by_runs(nodes: u64, runs: &BTreeSet<Run>) -> u64
+    ensures { result ≡ left_by nodes (map taken_by runs.now.keys) }
+{
+    let mut free = nodes;
+    for run in runs {
+        free = free.saturating_sub(run.2);
+    }
+    free
+}
+
+/// What is left of so many nodes beside the reservations, at a moment before their ends.
+fn left_by_kept(nodes: u64, moment: u64, all: &BTreeSet<Kept>) -> u64
+    ensures { result ≡ left_by nodes (map (taken_at moment) all.now.keys) }
+{
+    let mut free = nodes;
+    for kept in all {
+        if kept.0 <= moment {
+            free = free.saturating_sub(kept.3);
+        }
+    }
+    free
+}
+
+fn nodes_line(alloc: Global, nodes: u64, free: u64) -> Result<String, AllocError>
+    ensures { IfOk result (λ text. string_bytes text ≡ line_of_nodes nodes free) }
+{
+    format!(in alloc; "nodes {nodes}, free {free}\n")
+}
+
+fn run_line(alloc: Global, roster: &Roster, run: Run) -> Result<String, AllocError>
+    ensures { IfOk result (λ text. string_bytes text ≡ line_of_run roster.now run) }
+{
+    let (end, id, nodes) = run;
+    let id = identifier_text(alloc, roster, id)?;
+    format!(in alloc; "run {id} {nodes} {end}\n")
+}
+
+fn kept_line(alloc: Global, roster: &Roster, kept: Kept) -> Result<String, AllocError>
+    ensures { IfOk result (λ text. string_bytes text ≡ line_of_kept roster.now kept) }
+{
+    let (start, id, end, nodes) = kept;
+    let id = identifier_text(alloc, roster, id)?;
+    format!(in alloc; "reserved {id} {start} {end} {nodes}\n")
+}
+
+fn run_lines(alloc: Global, roster: &Roster, runs: &BTreeSet<Run>) -> Result<String, AllocError>
+    ensures { IfOk result (λ text. string_bytes text ≡ flat_map (line_of_run roster.now) runs.now.keys) }
+{
+    let mut text = String::new(alloc);
+    for run in runs {
+        let line = run_line(alloc, roster, *run)?;
+        text.push_str(line.as_str())?;
+    }
+    Ok(text)
+}
+
+fn kept_lines(alloc: Global, roster: &Roster, all: &BTreeSet<Kept>) -> Result<String, AllocError>
+    ensures { IfOk result (λ text. string_bytes text ≡ flat_map (line_of_kept roster.now) all.now.keys) }
+{
+    let mut text = String::new(alloc);
+    for kept in all {
+        let line = kept_line(alloc, roster, *kept)?;
+        text.push_str(line.as_str())?;
+    }
+    Ok(text)
+}
+
+/// What is said of a site's machine at the moment: a line `nodes N, free F`, where F is what neither a job that runs
+/// nor a reservation has at the moment; then a line `run ID NODES END` for each job that runs, in the order of their
+/// ends; then a line `reserved ID START END NODES` for each reservation of the site that stands and isn't over, in the
+/// order of their starts.
+pub fn machine_lines(
+    alloc: Global,
+    roster: &Roster,
+    board: &Board,
+    here: SiteId,
+    moment: Moment,
+) -> Result<String, NoMemory>
+    requires { here < length roster.now }
+    ensures { IfOk result (λ text. string_bytes text ≡ lines_of_machine roster.now (board_reads board.now) here moment) }
+{
+    let second = moment.get();
+    let nodes = nodes_of(roster, here);
+    let runs = runs_at(alloc, board, here)?;
+    let kept = kept_at(alloc, board, here, second)?;
+    let free = left_by_kept(left_by_runs(nodes, &runs), second, &kept);
+    let mut text = nodes_line(alloc, nodes, free)?;
+    let running = run_lines(alloc, roster, &runs)?;
+    text.push_str(running.as_str())?;
+    let reserved = kept_lines(alloc, roster, &kept)?;
+    text.push_str(reserved.as_str())?;
+    Ok(text)
+}

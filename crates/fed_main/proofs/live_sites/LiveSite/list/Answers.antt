@@ -1,0 +1,12 @@
+use Rattle.std.proofs.Common.{◌∙◌}
+use Rattle.fed_board.specs.Board.{board_reads}
+use Rattle.fed_answers.specs.Listed.{listed}
+use Rattle.fed_main.specs.Thread.{Looked}
+use Rattle.fed_main.proofs.Threads.{Answers-one}
+use Rattle.fed_main.proofs.live_sites.LiveSite.list.Goals as goal
+
+pub returns : goal.returns
+returns g c =
+    Answers-one (Looked c.args.self.now.here (λ board. listed c.args.is_full c.args.self.now.sites.now.roster.now board c.args.jobs.now)) _ _ _ _ _ _
+    (record { board = board_reads c.in_ok-board.board; looks = c.in_ok-board.ensures.looks; told = c.as_str.ensures.value ∙ c.in_ok-text.ensures })
+    c.board.ensures.text c.in_ok-add.ensures

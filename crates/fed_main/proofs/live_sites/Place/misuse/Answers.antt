@@ -1,9 +1,0 @@
-use Rattle.std.proofs.Common.{refl, ◌∙◌}
-use Rattle.fed_answers.specs.Outcome.{usage_line}
-use Rattle.fed_main.specs.Thread.{Only}
-use Rattle.fed_main.proofs.Threads.{Answers-one}
-use Rattle.fed_main.proofs.live_sites.Place.misuse.Goals as goal
-
-pub returns : goal.returns
-returns g c =
-    Answers-one (Only (usage_line c.args.fault)) _ _ _ _ _ _ (refl, c.as_str.ensures.value ∙ c.in_ok-answer.ensures) refl c.in_ok-add.ensures

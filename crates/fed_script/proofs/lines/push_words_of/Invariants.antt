@@ -1,6 +1,0 @@
-use Rattle.std.proofs.Common.{map}
-use Rattle.fed_script.proofs.WordCuts.{AreCut}
-use Rattle.fed_script.proofs.lines.push_words_of.Given as goal
-
-abbrev pub invariant-loop-index : goal.invariant-loop-index
-invariant-loop-index l = AreCut l.text (map (λ word. word.now) l.words.items) l.start l.index
