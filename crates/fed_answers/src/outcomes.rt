@@ -4,11 +4,11 @@ ghost use Rattle.std.specs.Cow.{cow_str_bytes};
 ghost use Rattle.fed_model.specs.declared.outcomes.Outcome.TheVariants.{Gap};
 ghost use Rattle.fed_answers.specs.Outcome.{answer_line, outcome_text as text_of_outcome, reply_text as text_of_reply, usage_line as line_of_usage};
 
+use fed_model::Outcome;
 use fed_qstat::{identifier_text, site_text};
 use fed_record::Reply;
 use fed_stamp::{Roster, SiteId};
 use fed_words::UsageFault;
-use fed_world::Outcome;
 use std::alloc::{AllocError, Global};
 use std::borrow::CowStr;
 

@@ -11,9 +11,9 @@ use Rattle.fed_model.specs.declared.taken.Taken.{Taken}
 use Rattle.fed_replica.specs.Replica.{ReplicaValue, heard_from}
 use Rattle.fed_model.specs.declared.outcomes.Outcome.{Outcome}
 use Rattle.fed_theory.proofs.Posts.{none_missing}
-use Rattle.fed_world.proofs.SentLaws.{first_missing}
+use Rattle.fed_theory.proofs.Posts.{first_missing}
 use Rattle.fed_replica.specs.State.{State, lacking, after_packet_unless, state_of}
-use Rattle.fed_world.specs.Outcome.{outcome_of_packet_unless}
+use Rattle.fed_replica.specs.Outcome.{outcome_of_packet_unless}
 use Rattle.fed_answers.specs.Outcome.{answer_line, outcome_text}
 use Rattle.fed_site.specs.Acts.{DoneAs}
 use Rattle.fed_site.specs.declared.complaints.Complaint.{Complaint}

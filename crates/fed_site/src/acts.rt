@@ -14,10 +14,10 @@ use crate::complaints::Complaint;
 use fed_answers::{AnswerText, outcome_line};
 use fed_board::Board;
 use fed_lattice::NoMemory;
+use fed_model::Outcome;
 use fed_record::{Command, Refusal, Reply, Who};
 use fed_replica::Replica;
 use fed_stamp::{Roster, SiteId, site_is_in_range, version_is_in_range};
-use fed_world::Outcome;
 use std::alloc::{AllocError, Global};
 use std::borrow::CowStr;
 

@@ -18,13 +18,13 @@ use crate::complaints::Complaint;
 use fed_answers::{AnswerText, outcome_line};
 use fed_delta::Absorb;
 use fed_lattice::NoMemory;
+use fed_model::Outcome;
 use fed_replica::{Replica, Taken};
 use fed_stamp::{Roster, SiteId, Version, site_is_in_range};
 use fed_wire::{
     Packet, Part, Place, WireFault, read, sender_is_of_sixteen, told_packets_are_within_limits,
     write,
 };
-use fed_world::Outcome;
 use std::alloc::{AllocError, Global};
 use std::borrow::CowStr;
 

@@ -1,9 +1,9 @@
 -- Packets stay under their numbers.
 use Rattle.std.specs.Prelude.{if◌then◌else◌, nat_lt, Option, Some, None, slice_get}
-use Rattle.std.proofs.Common.{◌≡◌, ℕ, zero, suc, ◌+◌, List, [], ◌∷◌, ◌++◌, Bool, true, false, ◌&&◌, length, refl, sym, ap, subst, ◌∙◌, add-one}
-use Rattle.std.proofs.lemmas.Bool.{and_parts, le-ltb}
-use Rattle.fed_stamp.specs.Version.{counter_of, is_below}
-use Rattle.fed_stamp.proofs.LeastIndex.{least_index_none}
+use Rattle.std.proofs.Common.{◌≡◌, ℕ, zero, suc, ◌+◌, ◌<◌, List, [], ◌∷◌, ◌++◌, Bool, true, false, ◌&&◌, length, refl, sym, ap, subst, ◌∙◌, add-one}
+use Rattle.std.proofs.lemmas.Bool.{and_parts, le-ltb, lt-ltb}
+use Rattle.fed_stamp.specs.Version.{counter_of, is_below, IsFirstAbove}
+use Rattle.fed_stamp.proofs.LeastIndex.{least_index_found, least_index_none}
 use Rattle.fed_stamp.proofs.VersionLaws.{each_from_below}
 use Rattle.fed_lattice.specs.VersionOf.{version_of}
 use Rattle.fed_model.specs.declared.taken.Taken.{Taken}
@@ -108,6 +108,11 @@ take_adds n w taker k p t at e = go (nat_lt taker n) (packet w k) at e
 -- a packet is taken where nothing is missing
 pub none_missing : (need version : List ℕ) → is_below need version ≡ true → missing need version ≡ None
 none_missing need version below = sym (least_index_none _ 16 (λ i h. le-ltb (counter_of version i) (counter_of need i) (each_from_below need version below i)))
+
+-- the least site of which more is needed
+pub first_missing : (need version : List ℕ) (site : ℕ) → site < 16 → IsFirstAbove need version site → missing need version ≡ Some site
+first_missing need version site small first =
+    sym (least_index_found _ 16 site small (lt-ltb _ _ first.above) (λ k h. le-ltb (counter_of version k) (counter_of need k) (first.least k h)))
 
 pub take_taken : (n : ℕ) (w : World) (to k : ℕ) (p : Packet) → Posts k p w → nat_lt to n ≡ true → is_below p.need (version_of (w.site to).set) ≡ true → (t : Taken) × ((step n w (Take to k)).outcome ≡ Outcome.Taken t)
 take_taken n w to k p at small below = go (nat_lt to n) small (packet w k) at

@@ -18,12 +18,12 @@ use Rattle.fed_model.specs.Answer.{Answer, Answer.Refuses, Answer.Replies, answe
 use Rattle.fed_replica.specs.Replica.{ReplicaValue, IsDone, heard_from}
 use Rattle.fed_model.specs.declared.outcomes.Outcome.{Outcome}
 use Rattle.fed_theory.proofs.Posts.{none_missing}
-use Rattle.fed_world.proofs.SentLaws.{first_missing}
+use Rattle.fed_theory.proofs.Posts.{first_missing}
 use Rattle.fed_threads.specs.declared.journal.Asked.TheVariants.{Do, Ship, Take}
 use Rattle.fed_threads.specs.declared.locked_sites.Delivered.{Delivered}
 use Rattle.fed_replica.specs.State.{State, IsState, after_answer, lacking, after_packet_unless}
 use Rattle.fed_model.specs.Outcome.{outcome_of_answer, outcome_of}
-use Rattle.fed_world.specs.Outcome.{outcome_of_packet_unless}
+use Rattle.fed_replica.specs.Outcome.{outcome_of_packet_unless}
 use Rattle.fed_threads.specs.Replay.{IsDeliveredBy, outcome_of_delivered}
 use Rattle.fed_threads.proofs.Journals.{Does}
 

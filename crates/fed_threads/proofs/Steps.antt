@@ -22,7 +22,7 @@ use Rattle.fed_threads.specs.declared.locked_sites.Delivered.{Delivered}
 use Rattle.fed_threads.specs.Calls.{Steps}
 use Rattle.fed_replica.specs.State.{State, after_answer, lacking, after_packet_unless}
 use Rattle.fed_model.specs.Outcome.{outcome_of_answer}
-use Rattle.fed_world.specs.Outcome.{outcome_of_packet_unless}
+use Rattle.fed_replica.specs.Outcome.{outcome_of_packet_unless}
 use Rattle.fed_threads.specs.Replay.{outcome_of_delivered, after_event, outcome_at, Kept, replay, Appends}
 use Rattle.fed_threads.specs.Seat.{Known, claimed, version_of, IsUpToDate, Covers, NamesSite}
 use Rattle.fed_threads.proofs.Journals.{event_grows}

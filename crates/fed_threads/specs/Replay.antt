@@ -9,7 +9,7 @@ use Rattle.fed_replica.specs.Replica.{ReplicaValue}
 use Rattle.fed_replica.specs.State.{State, IsState, empty_at, after_answer, lacking, after_packet_unless}
 use Rattle.fed_model.specs.declared.outcomes.Outcome.{Outcome}
 use Rattle.fed_model.specs.Outcome.{outcome_of_answer}
-use Rattle.fed_world.specs.Outcome.{outcome_of_packet_unless}
+use Rattle.fed_replica.specs.Outcome.{outcome_of_packet_unless}
 use Rattle.fed_threads.specs.declared.journal.Asked.{Asked}
 use Rattle.fed_threads.specs.declared.journal.Asked.TheVariants.{Do, Ship, Take}
 use Rattle.fed_threads.specs.declared.journal.Entry.{Entry}

@@ -25,7 +25,7 @@ use Rattle.fed_model.specs.Packet.{Packet, missing, taken, takes_unless}
 use Rattle.fed_replica.specs.State.{State, after_packet_unless, lacking}
 use Rattle.fed_model.specs.declared.outcomes.Outcome.{Outcome}
 use Rattle.fed_world.specs.Kept.{IsTextOf}
-use Rattle.fed_world.specs.Outcome.{outcome_of_packet_unless}
+use Rattle.fed_replica.specs.Outcome.{outcome_of_packet_unless}
 use Rattle.fed_model.specs.Run.{World, receives, takes}
 use Rattle.fed_theory.proofs.Cuts.{cuts_kin}
 use Rattle.fed_theory.proofs.Runs.{IsSent, put_same}

@@ -1,14 +1,13 @@
 -- What the code of a world ships and takes is what is shipped and taken in the run.
 use Rattle.std.specs.Prelude.{cond, slice_get, Option, Some, None, Result, Ok}
 use Rattle.std.proofs.Common.{◌≡◌, ℕ, zero, suc, ◌+◌, ◌<◌, ◌≤◌, ◌==◌, ◌⊎◌, List, [], ◌∷◌, ◌++◌, true, not, length, get_or, set, refl, sym, ap, ap₂, subst, ◌∙◌, inl, inr, arith}
-use Rattle.std.proofs.lemmas.Bool.{cases_lt, lt-ltb, le-ltb}
+use Rattle.std.proofs.lemmas.Bool.{cases_lt}
 use Rattle.std.proofs.lemmas.List.{get_or_past, take-append-le, take_all}
 use Rattle.std.proofs.lemmas.List.Elements.{All-push}
 use Rattle.std.proofs.Math.ListN.{take as list_take, drop}
 use Rattle.serde_json.specs.Written.{compact_text}
 use Rattle.fed_stamp.specs.Indexes.{put}
 use Rattle.fed_stamp.specs.Version.{counter_of, is_below, joined, met, IsFirstAbove}
-use Rattle.fed_stamp.proofs.LeastIndex.{least_index_found}
 use Rattle.fed_stamp.proofs.VersionLaws.{each_from_below}
 use Rattle.fed_lattice.specs.History.{History}
 use Rattle.fed_lattice.specs.VersionOf.{version_of}
@@ -37,7 +36,7 @@ use Rattle.fed_theory.proofs.HeardLaws.{heard_counters, met_below}
 use Rattle.fed_world.proofs.KeptLaws.{IsStep, replica_set}
 use Rattle.fed_theory.proofs.RunSteps.{site_lawful, ship_here, take_here, receives_others}
 use Rattle.fed_theory.proofs.PacketLimits.{site_within}
-use Rattle.fed_theory.proofs.Posts.{none_missing}
+use Rattle.fed_theory.proofs.Posts.{first_missing, none_missing}
 use Rattle.fed_theory.proofs.Promises.{packets_kin}
 use Rattle.fed_theory.proofs.Runs.{packet_Has, put_same, run-push, run_good}
 
@@ -136,11 +135,6 @@ module _ (n : ℕ) (events : List Event) (few : n ≤ 16) where
       (subst (λ s. IsShipped s (Outcome.Packet number) after) (sym (ship_here n w k to small there)) here)
 
 -- ---- packets that are taken
--- the least site of which more is needed
-pub first_missing : (need version : List ℕ) (site : ℕ) → site < 16 → IsFirstAbove need version site → missing need version ≡ Some site
-first_missing need version site small first =
-    sym (least_index_found _ 16 site small (lt-ltb _ _ first.above) (λ k h. le-ltb (counter_of version k) (counter_of need k) (first.least k h)))
-
 module _ (n : ℕ) (events : List Event) (few : n ≤ 16) (rs : List ReplicaValue) (held : AreReplicas n (run n events) rs) where
   abbrev u : World
   u = run n events
