@@ -221,8 +221,8 @@ fn named_lines(
 }
 
 /// All that is known of these jobs, as one compact JSON object a line, with names in place of numbers: jobs that are
-/// gone too, in the order in which they are named, and nothing for an identifier that no job has. Where none is named all jobs are
-/// told, in the order of their stamps.
+/// gone too, in the order in which they are named, and nothing for an identifier that no job has. Where none is named
+/// all jobs are told, in the order of their stamps.
 pub fn jobs_json(
     alloc: Global,
     roster: &Roster,
