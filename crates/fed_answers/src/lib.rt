@@ -1,4 +1,4 @@
-//! The texts that answer the lines of a site: the same in a replay, live, and at a site by itself.
+//! The texts that answer the lines of a site, and the plan of a site: the same in a replay, live, and at a site by itself.
 #![tactic(auto)]
 
 /// The texts of listings.

@@ -1,4 +1,4 @@
--- Jobs as JSON values: a name and a record.
+-- Jobs as JSON values: an identifier and a record.
 use Rattle.std.specs.Prelude.{◌≡◌, ℕ, true, List, [], ◌∷◌, ◌++◌, codes, if◌then◌else◌, Option, Some, None, Err}
 use Rattle.std.specs.Ordering.{nat_cmp}
 use Rattle.serde_json.specs.Data.{Data, boolean, string}

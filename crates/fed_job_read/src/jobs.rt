@@ -108,7 +108,7 @@ fn record(alloc: Global, job: &ReadJob) -> Result<JobRecord, NoMemory>
     )
 }
 
-/// The name and the record of the job.
+/// The identifier and the record of the job.
 pub fn read_job(
     alloc: Global,
     job: &Value,

@@ -277,8 +277,8 @@ fn add_all_kept(bars: &mut Vec<Bar>, moment: u64, all: &BTreeSet<Kept>) -> Resul
 
 /// What a site's machine has from the moment on, beside a plan of that moment: the jobs that run and those that start,
 /// of which those that end later lie below, then the head, then the site's reservations in the order of their starts.
-/// The head and each reservation lie above all before them that they share a second with. So no two bars share a node
-/// and a second.
+/// The head and each reservation lie above all before them that they share a second with. That no two bars share a
+/// node and a second is a clause of `chart_svg`.
 pub fn bars_at(
     alloc: Global,
     board: &Board,

@@ -1,5 +1,5 @@
-//! What a site's machine has at a moment and later, in lines and as a picture. Each is a function of what the board
-//! reads as.
+//! What a site's machine has at a moment and later, in lines and as a picture. Each is a function of the roster, of what
+//! the board reads as, of the site and of the moment.
 #![tactic(auto)]
 
 /// A picture of a site's machine.

@@ -50,7 +50,7 @@ pub(crate) struct Log {
     text: String,
 }
 
-/// A site, by the thread that runs its lines.
+/// A site, as one of its two threads has it.
 #[derive(Drop)]
 struct LiveSite<'a, R, G> {
     rt: &'a R,

@@ -76,7 +76,7 @@ pub const INLINE_WORDS: usize = 8;
 /// The words of a line.
 pub type Words<'a> = SmallVec<&'a str, INLINE_WORDS>;
 
-/// A word of a line that can be read. It is ASCII, and so text.
+/// The text of a word that can be read: it is ASCII.
 fn text_of(word: &[u8]) -> &str
     requires { IsTrue (is_readable word.now) }
     ensures { result.now ≡ word.now }
