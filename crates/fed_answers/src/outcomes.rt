@@ -33,7 +33,7 @@ fn reply_line(alloc: Global, roster: &Roster, reply: Reply) -> Result<AnswerText
         Reply::Done => Ok(CowStr::Borrowed("done\n")),
         Reply::Granted => Ok(CowStr::Borrowed("granted\n")),
         Reply::Yours => Ok(CowStr::Borrowed("yours\n")),
-        Reply::Reserved(name) => ended(identifier_text(alloc, roster, name)?),
+        Reply::Reserved(reservation) => ended(identifier_text(alloc, roster, reservation)?),
     }
 }
 

@@ -16,7 +16,7 @@ use Rattle.fed_lattice.specs.Stamped.{with_stamp}
 use Rattle.fed_lattice.specs.Table.{value_at}
 use Rattle.fed_lattice.proofs.TableValues.{value_at-insert_entry, value_at-joined_tables}
 use Rattle.fed_record.specs.declared.operations.Operation.{Operation}
-use Rattle.fed_model.specs.Body.{Body, Body.Submit, Body.Set, Body.Hold, Body.Release, Body.Delete, Body.Grant, Body.HandBack, Body.Begin, Body.Finish, Body.Reserve, Body.Cancel, job_of, reservation_of, is_named, is_of_job, is_of_reservation}
+use Rattle.fed_model.specs.Body.{Body, Body.Submit, Body.Set, Body.Hold, Body.Release, Body.Delete, Body.Grant, Body.HandBack, Body.Begin, Body.Finish, Body.Reserve, Body.Cancel, job_of, reservation_of, is_this, is_of_job, is_of_reservation}
 use Rattle.fed_model.specs.Field.{window_in}
 use Rattle.fed_record.specs.JobRecord.{JobRecordValue, job_reads}
 use Rattle.fed_theory.specs.JobSteps.{add_to_job, join_jobs}
@@ -77,14 +77,14 @@ module _ (applied : JobRecordValue → StampValue → Operation → JobRecordVal
     changed_job_read id =
         ap job_reads (value_at-insert_entry stamp_cmp stamp_total exact_stamp no_operation id job (applied (old_job job) at op) b.jobs)
         ∙ go (is_eq (stamp_cmp id job)) refl
-        ∙ ap (λ t. added t id) (stamp_at_id id job ∙ ap (is_named id) (sym of))
+        ∙ ap (λ t. added t id) (stamp_at_id id job ∙ ap (is_this id) (sym of))
       where
         go : (t : Bool) → is_eq (stamp_cmp id job) ≡ t → job_reads (cond t (applied (old_job job) at op) (old_job id)) ≡ added t id
         go true e = law (old_job job) at op ∙ ap (λ (n : StampValue). add_to_job at (body_of op) (job_reads (old_job n))) (sym (tells_apart exact_stamp id job e))
         go false e = refl
 
     abbrev unmade : Option StampValue → StampValue → ReservationView
-    unmade r id = if is_named id r then joined_registers option_window_cmp (value_at stamp_cmp None b.reservations id) (with_stamp at (window_in (body_of op))) else value_at stamp_cmp None b.reservations id
+    unmade r id = if is_this id r then joined_registers option_window_cmp (value_at stamp_cmp None b.reservations id) (with_stamp at (window_in (body_of op))) else value_at stamp_cmp None b.reservations id
 
     pub changed_job_reads : board_reads (changed_job applied b at op job) ≡ add_to_view (board_reads b) (at, body_of op)
     unfolding add_to_view
@@ -112,14 +112,14 @@ module _ (b : BoardValue) (at : StampValue) (op : Operation) (id : StampValue) w
     reservation_reads other =
         value_at-insert_entry stamp_cmp stamp_total exact_stamp None other id (set_reservation (old_reservation id)) b.reservations
         ∙ go (is_eq (stamp_cmp other id)) refl
-        ∙ ap (λ t. changed_at t other) (stamp_at_id other id ∙ ap (is_named other) (sym of))
+        ∙ ap (λ t. changed_at t other) (stamp_at_id other id ∙ ap (is_this other) (sym of))
       where
         go : (t : Bool) → is_eq (stamp_cmp other id) ≡ t → cond t (set_reservation (old_reservation id)) (old_reservation other) ≡ changed_at t other
         go true e = ap (λ (n : StampValue). set_reservation (old_reservation n)) (sym (tells_apart exact_stamp other id e))
         go false e = refl
 
     abbrev unnamed : Option StampValue → StampValue → JobView
-    unnamed j job = if is_named job j then add_to_job at (body_of op) (job_reads (value_at stamp_cmp no_operation b.jobs job)) else job_reads (value_at stamp_cmp no_operation b.jobs job)
+    unnamed j job = if is_this job j then add_to_job at (body_of op) (job_reads (value_at stamp_cmp no_operation b.jobs job)) else job_reads (value_at stamp_cmp no_operation b.jobs job)
 
     pub changed_reservation_reads : board_reads (changed_reservation b at op id) ≡ add_to_view (board_reads b) (at, body_of op)
     unfolding add_to_view

@@ -59,7 +59,7 @@ module _ (t : StampValue) (v : List ℕ) (own : covers v t ≡ true) where
   own_grant (Begin job beginning) = tt
   own_grant (Finish job ending) = tt
   own_grant (Reserve window) = tt
-  own_grant (Cancel name) = tt
+  own_grant (Cancel reservation) = tt
 
   own_pair : {E : Type 0} (adds : Body → E → Bool) (removes : Body → E → StampValue → Bool) (b : Body) (element : E) (tag : StampValue) → adds_pair adds removes element tag (t, b) ≡ true → covers v tag ≡ true
   own_pair adds removes b element tag e = subst (λ s. covers v s ≡ true) (same_stamp_is t tag (and_parts (same_stamp t tag) (adds b element) e).0) own

@@ -53,7 +53,7 @@ entry_found (x ∷ es) e sorted (inr h) =
     rw (less_apart x.0 e.0 less (is_eq (stamp_cmp e.0 x.0)) refl) (entry_found es e sorted.1 h)
 
 -- what the identifiers say is what the entries say
-ids_read : {X Y : Type 0} (f : StampValue → Option Y) (g : StampValue × X → Option Y) (es : List (StampValue × X)) → ((e : StampValue × X) → Has es e → f e.0 ≡ g e) → filter_map f (keys_of es) ≡ filter_map g es
+pub ids_read : {X Y : Type 0} (f : StampValue → Option Y) (g : StampValue × X → Option Y) (es : List (StampValue × X)) → ((e : StampValue × X) → Has es e → f e.0 ≡ g e) → filter_map f (keys_of es) ≡ filter_map g es
 ids_read f g [] h = refl
 ids_read f g (e ∷ es) h =
     let first = h e (inl refl) in

@@ -6,7 +6,7 @@ use Rattle.std.proofs.lemmas.Bool.{and_parts, and_from, or_cases, leb-true, leb-
 use Rattle.fed_easy.specs.declared.queues.QueuedJob.{QueuedJob}
 use Rattle.fed_easy.specs.Use.{end_with, first_fit, is_during, shadow, with_job, with_jobs, fits, IsShadow}
 use Rattle.fed_easy.specs.Plan.{PlanValue, front, behind, backfill, ids, plan_behind, queue_plan}
-use Rattle.fed_easy.specs.Extra.{free_at, front_by_free, behind_by_free, ends_by, backfill_by_extra, extra_plan, extra_plan_behind, first_free}
+use Rattle.fed_easy.specs.Extra.{free_at, front_by_free, ends_by, backfill_by_extra, extra_plan, extra_plan_behind, first_free}
 use Rattle.fed_easy.specs.Promises.{IsIdleFrom, IsSized}
 use Rattle.fed_easy.proofs.FirstFit.{shadow_least}
 use Rattle.fed_easy.proofs.Fits.{Fits, fits-true, Fits-fits, same_test}

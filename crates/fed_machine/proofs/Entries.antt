@@ -2,23 +2,15 @@
 use Rattle.std.specs.List.{filter_map}
 use Rattle.std.specs.List.Sorted.{IsStrictlySortedBy}
 use Rattle.std.specs.Map.{keys_of}
-use Rattle.std.proofs.Common.{◌≡◌, ℕ, List, [], ◌∷◌, Option, None, unwrap_or, refl, sym, ap, ◌∙◌, inl, inr}
+use Rattle.std.proofs.Common.{◌≡◌, ℕ, List, [], Option, None, unwrap_or, sym, ap, ◌∙◌}
 use Rattle.fed_stamp.specs.Stamp.{StampValue}
 use Rattle.fed_lattice.specs.Latest.{stamp_cmp}
-use Rattle.fed_lattice.specs.Sets.{Has}
 use Rattle.fed_record.specs.JobRecord.{JobRecordValue, job_reads}
 use Rattle.fed_model.specs.Reservation.{ReservationView}
 use Rattle.fed_board.specs.Board.{BoardValue, no_operation, board_reads}
 use Rattle.fed_model.specs.Identifiers.{jobs_in, reservations_in}
-use Rattle.fed_easy.proofs.BoardEntries.{entry_found}
+use Rattle.fed_easy.proofs.BoardEntries.{entry_found, ids_read}
 use Rattle.fed_machine.specs.Machine.{Kept, Run, in_order, kept_cmp, kept_in, kept_of, run_cmp, run_of, runs_in}
-
-ids_kept : {X Y : Type 0} (f : StampValue → Option Y) (g : StampValue × X → Option Y) (es : List (StampValue × X)) → ((e : StampValue × X) → Has es e → f e.0 ≡ g e) → filter_map f (keys_of es) ≡ filter_map g es
-ids_kept f g [] h = refl
-ids_kept f g (e ∷ es) h =
-    let first = h e (inl refl) in
-    let rest = ids_kept f g es (λ x k. h x (inr k)) in
-    rw (first, rest) refl
 
 abbrev pub runs_from : ℕ → List (StampValue × JobRecordValue) → List Run
 runs_from here es = filter_map (λ e. run_of here e.0 (job_reads e.1)) es
@@ -30,7 +22,7 @@ pub runs_done : (here : ℕ) (b : BoardValue) → IsStrictlySortedBy stamp_cmp (
     → (sorted : List Run) (rest : List (StampValue × JobRecordValue)) → in_order run_cmp sorted (runs_from here rest) ≡ in_order run_cmp [] (runs_from here b.jobs) → rest ≡ [] → sorted ≡ runs_in here (board_reads b)
 runs_done here b ascending ids sorted rest under none =
     ap (λ l. in_order run_cmp sorted (runs_from here l)) (sym none) ∙ under
-    ∙ sym (ap (in_order run_cmp []) (ids_kept (λ job. run_of here job ((board_reads b).job job)) (λ e. run_of here e.0 (job_reads e.1)) b.jobs
+    ∙ sym (ap (in_order run_cmp []) (ids_read (λ job. run_of here job ((board_reads b).job job)) (λ e. run_of here e.0 (job_reads e.1)) b.jobs
     (λ e h. ap (λ (o : Option JobRecordValue). run_of here e.0 (job_reads (unwrap_or o no_operation))) (entry_found b.jobs e ascending h))))
     ∙ ap (λ l. in_order run_cmp [] (filter_map (λ job. run_of here job ((board_reads b).job job)) l)) ids
 
@@ -38,6 +30,6 @@ pub kept_done : (here moment : ℕ) (b : BoardValue) → IsStrictlySortedBy stam
     → (sorted : List Kept) (rest : List (StampValue × ReservationView)) → in_order kept_cmp sorted (kept_from here moment rest) ≡ in_order kept_cmp [] (kept_from here moment b.reservations) → rest ≡ [] → sorted ≡ kept_in here moment (board_reads b)
 kept_done here moment b ascending ids sorted rest under none =
     ap (λ l. in_order kept_cmp sorted (kept_from here moment l)) (sym none) ∙ under
-    ∙ sym (ap (in_order kept_cmp []) (ids_kept (λ id. kept_of here moment id ((board_reads b).reservation id)) (λ e. kept_of here moment e.0 e.1) b.reservations
+    ∙ sym (ap (in_order kept_cmp []) (ids_read (λ id. kept_of here moment id ((board_reads b).reservation id)) (λ e. kept_of here moment e.0 e.1) b.reservations
     (λ e h. ap (λ (o : Option ReservationView). kept_of here moment e.0 (unwrap_or o None)) (entry_found b.reservations e ascending h))))
     ∙ ap (λ l. in_order kept_cmp [] (filter_map (λ id. kept_of here moment id ((board_reads b).reservation id)) l)) ids

@@ -51,7 +51,7 @@ rect_text a = codes "<rect x='" ++ decimal a.x ++ codes "' y='" ++ decimal a.y +
 abbrev pub label_size : Area → ℕ → ℕ
 label_size a letters = min (min (max a.width a.height * 5 / (letters * 3 + 1)) (min a.width a.height)) 14
 
--- by how many degrees a name is turned
+-- by how many degrees a label is turned
 abbrev pub turn : Area → List ℕ
 turn a = if nat_lt a.width a.height then codes "-90" else codes "0"
 
@@ -64,10 +64,10 @@ unfoldable pub turning_text : Area → List ℕ
 turning_text a = codes "rotate(" ++ turn a ++ codes " " ++ decimal (a.x + a.width / 2) ++ codes " "
     ++ decimal (a.y + a.height / 2) ++ codes ")"
 
--- a name in the middle of an area
+-- a label in the middle of an area
 unfoldable pub label_text : List ℕ → Area → List ℕ
-label_text name a = codes "<text " ++ place_text (length name) a ++ codes " transform='" ++ turning_text a ++ codes "'>"
-    ++ name ++ codes "</text>"
+label_text label a = codes "<text " ++ place_text (length label) a ++ codes " transform='" ++ turning_text a ++ codes "'>"
+    ++ label ++ codes "</text>"
 
 -- a bar with its identifier; a browser shows the words at the pointer
 unfoldable pub box_text : List (List ℕ × ℕ) → ℕ → ℕ → ℕ → Bar → List ℕ

@@ -2,7 +2,6 @@
 ghost use Rattle.std.specs.Prelude.{◌≡◌, ◌<◌, ◌++◌, IfOk, flat_map, length, string_bytes};
 ghost use Rattle.std.specs.List.{AllPairs, range_with_len};
 ghost use Rattle.fed_board.specs.Board.{board_reads};
-ghost use Rattle.fed_easy.specs.Plan.{plan_reads};
 ghost use Rattle.fed_machine.specs.Chart.{chart_bars, chart_svg as svg_of_chart, foot_text as text_of_foot, ground_text as text_of_ground, head_text as text_of_head, heading_text as text_of_heading, level_line as level_line_at, nodes_text as text_of_nodes, picture as picture_of, plan_note as note_of_plan, style_text as text_of_style, tick_text as text_of_tick, upward_line as upward_line_at};
 ghost use Rattle.fed_machine.specs.ChartBars.{LiesBelow};
 

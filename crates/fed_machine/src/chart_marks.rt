@@ -1,6 +1,5 @@
 //! How the bars of a chart are drawn.
 ghost use Rattle.std.specs.Prelude.{◌≡◌, ◌+◌, ◌*◌, ◌/◌, ◌<◌, ◌≤◌, IfOk, flat_map, string_bytes};
-ghost use Rattle.std.specs.List.{fold};
 ghost use Rattle.fed_machine.specs.ChartMarks.{across as pixels_across, area_of as area_of_bar, box_text as text_of_box, class as class_of, label_size as size_of_label, label_text as text_of_label, levels_in, place_text as text_of_place, rect_text as text_of_rect, rise as pixels_up, row_text as text_of_row, span_in, turn as turn_of, turning_text as text_of_turning, words as words_of};
 
 use crate::chart_bars::{Bar, Kind, end, top};
@@ -103,12 +102,12 @@ fn class(kind: Kind) -> &'static str
 fn words(alloc: Global, roster: &Roster, moment: u64, bar: &Bar) -> Result<String, AllocError>
     ensures { IfOk result (λ text. string_bytes text ≡ words_of roster.now moment bar.now) }
 {
-    let name = identifier_text(alloc, roster, bar.id)?;
+    let id = identifier_text(alloc, roster, bar.id)?;
     let kind = class(bar.kind);
     let nodes = bar.nodes;
     let start = moment as u128 + bar.from as u128;
     let end = moment as u128 + bar.from as u128 + bar.seconds as u128;
-    format!(in alloc; "{name}: {kind}, nodes {nodes}, from {start} to {end}")
+    format!(in alloc; "{id}: {kind}, nodes {nodes}, from {start} to {end}")
 }
 
 fn rect_text(alloc: Global, area: Area) -> Result<String, AllocError>
@@ -123,7 +122,7 @@ fn rect_text(alloc: Global, area: Area) -> Result<String, AllocError>
     format!(in alloc; "<rect x='{x}' y='{y}' width='{width}' height='{height}'/>")
 }
 
-/// The size of the letters of a name of so many, of which each is 0.6 of it wide: the name fits into the area, along
+/// The size of the letters of a label of so many, of which each is 0.6 of it wide: the label fits into the area, along
 /// its longer side.
 fn label_size(area: Area, letters: usize) -> u128
     ensures { result ≡ size_of_label area letters }
@@ -133,7 +132,7 @@ fn label_size(area: Area, letters: usize) -> u128
     (long * 5 / (letters as u128 * 3 + 1)).min(short).min(14)
 }
 
-/// By how many degrees a name is turned: it is upright where the area is higher than wide.
+/// By how many degrees a label is turned: it is upright where the area is higher than wide.
 fn turn(area: Area) -> &'static str
     ensures { result.now ≡ turn_of area }
 {
@@ -150,7 +149,7 @@ fn place_text(alloc: Global, area: Area, letters: usize) -> Result<String, Alloc
     format!(in alloc; "x='{x}' y='{y}' font-size='{size}'")
 }
 
-/// How a name is turned about the middle of an area.
+/// How a label is turned about the middle of an area.
 fn turning_text(alloc: Global, area: Area) -> Result<String, AllocError>
     ensures { IfOk result (λ text. string_bytes text ≡ text_of_turning area) }
 {
@@ -160,13 +159,13 @@ fn turning_text(alloc: Global, area: Area) -> Result<String, AllocError>
     format!(in alloc; "rotate({turn} {x} {y})")
 }
 
-/// A name in the middle of an area.
-fn label_text(alloc: Global, name: &str, area: Area) -> Result<String, AllocError>
-    ensures { IfOk result (λ text. string_bytes text ≡ text_of_label name.now area) }
+/// A label in the middle of an area.
+fn label_text(alloc: Global, label: &str, area: Area) -> Result<String, AllocError>
+    ensures { IfOk result (λ text. string_bytes text ≡ text_of_label label.now area) }
 {
-    let place = place_text(alloc, area, name.len())?;
+    let place = place_text(alloc, area, label.len())?;
     let turning = turning_text(alloc, area)?;
-    format!(in alloc; "<text {place} transform='{turning}'>{name}</text>")
+    format!(in alloc; "<text {place} transform='{turning}'>{label}</text>")
 }
 
 /// A bar with its identifier in it; a browser shows the words at the pointer. An identifier has letters, digits, hyphens
@@ -187,8 +186,8 @@ fn box_text(
     let title = words(alloc, roster, moment, bar)?;
     let area = area_of(span, levels, bar);
     let rect = rect_text(alloc, area)?;
-    let name = identifier_text(alloc, roster, bar.id)?;
-    let label = label_text(alloc, name.as_str(), area)?;
+    let id = identifier_text(alloc, roster, bar.id)?;
+    let label = label_text(alloc, id.as_str(), area)?;
     format!(in alloc; "<g class='{class}'><title>{title}</title>{rect}{label}</g>\n")
 }
 

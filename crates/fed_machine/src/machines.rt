@@ -2,7 +2,7 @@
 ghost use Rattle.std.specs.Prelude.{◌≡◌, ◌<◌, ◌++◌, [], IfOk, flat_map, length, map, string_bytes};
 ghost use Rattle.fed_record.specs.JobRecord.{job_reads};
 ghost use Rattle.fed_board.specs.Board.{board_reads};
-ghost use Rattle.fed_machine.specs.Machine.{free_beside, kept_in, kept_line as line_of_kept, kept_of as kept_from, left_by, machine_lines as lines_of_machine, nodes_line as line_of_nodes, run_line as line_of_run, run_of as run_from, runs_in, taken_at, taken_by};
+ghost use Rattle.fed_machine.specs.Machine.{kept_in, kept_line as line_of_kept, kept_of as kept_from, left_by, machine_lines as lines_of_machine, nodes_line as line_of_nodes, run_line as line_of_run, run_of as run_from, runs_in, taken_at, taken_by};
 
 use fed_answers::nodes_of;
 use fed_board::Board;

@@ -7,7 +7,7 @@ use Rattle.std.proofs.lemmas.List.{drop_more, map-append, take_all, take_more}
 use Rattle.std.proofs.lemmas.List.Elements.{filter-append}
 use Rattle.std.proofs.lemmas.List.Folds.{concat-append}
 use Rattle.fed_threads.specs.Seat.{Known, starts}
-use Rattle.fed_main.specs.Thread.{Answers, Each, LogValue, Only, Then}
+use Rattle.fed_main.specs.Thread.{Answers, Each, LogValue}
 
 -- an answer behind those that were given
 Each-more : {A : Type 0} (Says : A → Known → Known → List ℕ → Type 0) (xs : List A) (x : A) (a b c : Known) (s t : List ℕ) → Each Says xs a b s → Says x b c t → Each Says (xs ++ x ∷ []) a c (s ++ t)

@@ -111,9 +111,9 @@ impl<'a, R: Wait, G: Gate> LiveSite<'a, R, G> {
     /// The site with this number, or `None` where the roster has no such site.
     fn new(rt: &'a R, sites: &'a Sites<'a, G>, number: u8) -> Option<LiveSite<'a, R, G>>
         ensures none { IsNone result → length sites.now.roster.now ≤ number }
-        ensures here { IfSome result (λ p. p.here ≡ number) }
-        ensures inside { IfSome result (λ p. p.here < length sites.now.roster.now) }
-        ensures sites { IfSome result (λ p. p.sites.now.roster.now ≡ sites.now.roster.now) }
+        ensures here { IfSome result (λ site. site.here ≡ number) }
+        ensures inside { IfSome result (λ site. site.here < length sites.now.roster.now) }
+        ensures sites { IfSome result (λ site. site.sites.now.roster.now ≡ sites.now.roster.now) }
     {
         if usize::from(number) >= sites.roster.len() {
             return None;

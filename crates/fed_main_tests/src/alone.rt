@@ -85,8 +85,8 @@ impl Sites {
     /// The line, with the packet's text in place of its number.
     fn with_packet(&self, alloc: Global, line: &[u8]) -> Result<Vec<u8>, NoMemory> {
         let mut own = Vec::new(alloc);
-        let place = number_behind(line, b"take ").and_then(|number| number.checked_sub(1));
-        match place.and_then(|place| self.packets.get(place)) {
+        let index = number_behind(line, b"take ").and_then(|number| number.checked_sub(1));
+        match index.and_then(|index| self.packets.get(index)) {
             Some(packet) => {
                 own.extend_from_slice(b"take ")?;
                 own.extend_from_slice(packet)?;
@@ -145,7 +145,7 @@ impl Sites {
     }
 }
 
-/// The place of a site in the roster that the first line names, by the name at the line's front, and what stands behind it.
+/// The index of a site in the roster that the first line names, by the name at the line's front, and what stands behind it.
 fn asked<'a>(
     alloc: Global,
     first: &[u8],

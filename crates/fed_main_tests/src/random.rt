@@ -53,8 +53,8 @@ impl Numbers {
 
     /// One of these words.
     fn pick(&mut self, words: &[&'static str]) -> &'static str {
-        let place = self.below(words.len());
-        words.get(place).copied().unwrap_or("")
+        let index = self.below(words.len());
+        words.get(index).copied().unwrap_or("")
     }
 }
 

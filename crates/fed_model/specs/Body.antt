@@ -25,7 +25,7 @@ pub data Body : Type 0 where
   Reserve : (window : Window) → Body
   Cancel : (reservation : StampValue) → Body
 
--- the job that the operation is of: a job is named by the stamp of its Submit
+-- the job that the operation is of: a job is known by the stamp of its Submit
 abbrev pub job_of : StampValue → Body → Option StampValue
 job_of t (Submit owner values held) = Some t
 job_of t (Set job changes removed) = Some job
@@ -39,21 +39,21 @@ job_of t (Finish job ending) = Some job
 job_of t (Reserve window) = None
 job_of t (Cancel reservation) = None
 
--- the reservation that the operation is of: a reservation is named by the stamp of its Reserve
+-- the reservation that the operation is of: a reservation is known by the stamp of its Reserve
 abbrev pub reservation_of : StampValue → Body → Option StampValue
 reservation_of t (Reserve window) = Some t
 reservation_of t (Cancel reservation) = Some reservation
 reservation_of t _ = None
 
-abbrev pub is_named : StampValue → Option StampValue → Bool
-is_named id None = false
-is_named id (Some t) = same_stamp t id
+abbrev pub is_this : StampValue → Option StampValue → Bool
+is_this id None = false
+is_this id (Some t) = same_stamp t id
 
 abbrev pub is_of_job : StampValue → StampValue × Body → Bool
-is_of_job job e = is_named job (job_of e.0 e.1)
+is_of_job job e = is_this job (job_of e.0 e.1)
 
 abbrev pub is_of_reservation : StampValue → StampValue × Body → Bool
-is_of_reservation id e = is_named id (reservation_of e.0 e.1)
+is_of_reservation id e = is_this id (reservation_of e.0 e.1)
 
 -- the operations of one job
 abbrev pub of_job : StampValue → History Body → History Body

@@ -107,7 +107,7 @@ fn read_record(alloc: Global, record: &JobRecord) -> Result<JobView, Fail> {
     })
 }
 
-/// Whether the record that goes with the name, and the one that is found by it, read as the set does.
+/// Whether the record that goes with the identifier, and the one that is found by it, read as the set does.
 fn is_job_read(
     alloc: Global,
     board: &Board,
@@ -123,16 +123,16 @@ fn is_job_read(
     }
 }
 
-/// Whether the board has the jobs of the set, in the order of their names, and reads each as the set does.
+/// Whether the board has the jobs of the set, in the order of their identifiers, and reads each as the set does.
 fn are_jobs_read(alloc: Global, board: &Board, operations: &Operations) -> Result<bool, Fail> {
-    let mut names: Vec<Stamp> = Vec::new(alloc);
-    for (name, record) in board.jobs() {
-        if !is_job_read(alloc, board, operations, *name, record)? {
+    let mut ids: Vec<Stamp> = Vec::new(alloc);
+    for (id, record) in board.jobs() {
+        if !is_job_read(alloc, board, operations, *id, record)? {
             return Ok(false);
         }
-        names.extend_from_slice(&[*name])?;
+        ids.extend_from_slice(&[*id])?;
     }
-    Ok(names == jobs(alloc, operations)?)
+    Ok(ids == jobs(alloc, operations)?)
 }
 
 /// What is read of a reservation that is made.
@@ -143,23 +143,23 @@ fn read_reservation(reservation: Option<&Reservation>) -> Option<(Stamp, Option<
     }
 }
 
-/// Whether the board has the reservations of the set, in the order of their names, and reads each as the set does.
+/// Whether the board has the reservations of the set, in the order of their identifiers, and reads each as the set does.
 fn are_reservations_read(
     alloc: Global,
     board: &Board,
     operations: &Operations,
 ) -> Result<bool, Fail> {
-    let mut names: Vec<Stamp> = Vec::new(alloc);
-    for (name, reservation) in board.reservations() {
-        let view = reservation_view(operations, *name);
+    let mut ids: Vec<Stamp> = Vec::new(alloc);
+    for (id, reservation) in board.reservations() {
+        let view = reservation_view(operations, *id);
         if read_reservation(Some(reservation)) != view
-            || read_reservation(board.reservation(*name)) != view
+            || read_reservation(board.reservation(*id)) != view
         {
             return Ok(false);
         }
-        names.extend_from_slice(&[*name])?;
+        ids.extend_from_slice(&[*id])?;
     }
-    Ok(names == reservations(alloc, operations)?)
+    Ok(ids == reservations(alloc, operations)?)
 }
 
 /// Whether the board reads as the set does.

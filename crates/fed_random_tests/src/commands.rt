@@ -122,7 +122,7 @@ fn random_asker(numbers: &mut Numbers, place: Place) -> Option<SiteId> {
     }
 }
 
-/// A command that works on a job by its name alone.
+/// A command that works on a job by its identifier alone.
 fn random_work(numbers: &mut Numbers, place: Place) -> Option<Command> {
     let job = place.job;
     match numbers.below(10) {

@@ -18,21 +18,21 @@ fn any_site(numbers: &mut Numbers, count: u8) -> Option<SiteId> {
     }
 }
 
-/// A name that may be of anything or of nothing.
+/// An identifier that may be of anything or of nothing.
 fn invented(numbers: &mut Numbers, count: u8) -> Option<Stamp> {
     let site = random_site(numbers, count)?;
     let counter = numbers.pick(&[1, 2, 3, 5, 8, 13, 21, 34])?;
     Stamp::new(counter, site)
 }
 
-/// One of the last few names, or now and then an invented one.
-fn random_name(numbers: &mut Numbers, names: &[Stamp], count: u8) -> Option<Stamp> {
-    if numbers.chance(5) || names.is_empty() {
+/// One of the last few identifiers, or now and then an invented one.
+fn random_id(numbers: &mut Numbers, ids: &[Stamp], count: u8) -> Option<Stamp> {
+    if numbers.chance(5) || ids.is_empty() {
         return invented(numbers, count);
     }
-    let back = numbers.below(names.len().min(6));
-    let place = names.len().saturating_sub(back.saturating_add(1));
-    names.get(place).copied()
+    let back = numbers.below(ids.len().min(6));
+    let index = ids.len().saturating_sub(back.saturating_add(1));
+    ids.get(index).copied()
 }
 
 /// A site at which a command on the job is given: mostly the job's own, or the one that it is granted to.
@@ -63,13 +63,13 @@ fn random_place(
     let site = plain.site(knows).ok_or("what it knows")?;
     let jobs = jobs(alloc, &site.operations)?;
     let reservations = reservations(alloc, &site.operations)?;
-    let job = random_name(numbers, &jobs, count).ok_or("a job")?;
+    let job = random_id(numbers, &jobs, count).ok_or("a job")?;
     let here = random_here(numbers, &site.operations, job, count).ok_or("a place")?;
     let stages = match plain.site(here) {
         Some(asked) => read_stages(&asked.operations, job),
         None => read_stages(&site.operations, job),
     };
-    let reservation = random_name(numbers, &reservations, count).ok_or("a reservation")?;
+    let reservation = random_id(numbers, &reservations, count).ok_or("a reservation")?;
     Ok(Place {
         count,
         here,

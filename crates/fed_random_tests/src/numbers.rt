@@ -29,7 +29,7 @@ impl Numbers {
 
     /// One of these values.
     pub fn pick<T: Copy>(&mut self, values: &[T]) -> Option<T> {
-        let place = self.below(values.len());
-        values.get(place).copied()
+        let index = self.below(values.len());
+        values.get(index).copied()
     }
 }

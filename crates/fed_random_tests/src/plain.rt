@@ -111,8 +111,8 @@ impl PlainWorld {
 
     /// The packet with the number, which counts from 1, if it was made.
     pub fn packet(&self, number: u64) -> Option<&PlainPacket> {
-        let place = number.checked_sub(1)?;
-        self.packets.get(place as usize)
+        let index = number.checked_sub(1)?;
+        self.packets.get(index as usize)
     }
 
     fn act(&mut self, here: SiteId, who: &Who, command: &Command) -> Result<Outcome, Fail> {
@@ -140,8 +140,8 @@ impl PlainWorld {
         let Some(site) = self.sites.get_mut(here.get() as usize) else {
             return Ok(Outcome::NoSite);
         };
-        let place = number.wrapping_sub(1);
-        match self.packets.get(place as usize) {
+        let index = number.wrapping_sub(1);
+        match self.packets.get(index as usize) {
             Some(packet) => site.take(packet),
             None => Ok(Outcome::NoPacket),
         }

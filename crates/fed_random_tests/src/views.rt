@@ -371,7 +371,7 @@ pub fn reservations(alloc: Global, operations: &Operations) -> Result<Vec<Stamp>
 fn window(operation: &Operation, reservation: Stamp) -> Option<Option<Window>> {
     match operation.body {
         Body::Reserve { window } if operation.stamp == reservation => Some(Some(window)),
-        Body::Cancel { reservation: name } if name == reservation => Some(None),
+        Body::Cancel { reservation: id } if id == reservation => Some(None),
         _ => None,
     }
 }

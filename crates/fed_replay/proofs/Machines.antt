@@ -1,6 +1,6 @@
 -- The machine of a site in a run has no fault, so that its plan is said.
 use Rattle.std.specs.Prelude.{is_none, option_map, if◌then◌else◌}
-use Rattle.std.proofs.Common.{◌≡◌, ℕ, ◌<◌, Bool, List, [], length, Option, Some, None, sym, ap, subst, ◌∙◌}
+use Rattle.std.proofs.Common.{◌≡◌, ℕ, ◌<◌, Bool, List, [], length, Some, None, sym, ap, subst, ◌∙◌}
 use Rattle.fed_stamp.specs.Roster.{IsRoster, nodes_at}
 use Rattle.fed_lattice.specs.History.{History}
 use Rattle.fed_model.specs.Body.{Body}

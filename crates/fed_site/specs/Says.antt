@@ -63,7 +63,7 @@ adds (Refuses refusal) = false
 adds (Replies reply None) = false
 adds (Replies reply (Some new)) = true
 
--- why the command at a place of the line is not done
+-- why the command with this index in the line is not done
 abbrev pub refused_at : ℕ → Answer → Option Complaint
 refused_at index (Refuses refusal) = Some (Complaint.Refused index refusal)
 refused_at index (Replies reply new) = None
@@ -91,11 +91,11 @@ module _ (roster : List (List ℕ × ℕ)) where
     complaint = refused_at index answer;
   }
 
-  -- the command at a place of the line
+  -- the command with this index in the line
   abbrev pub after_command : State → Who → ℕ → Command → Done
   after_command s who index command = does s index (answer_to s.view s.site who command)
 
-  -- the commands from a place of the line on
+  -- the commands from this index in the line on
   abbrev pub after_commands : State → Who → ℕ → List Command → Done
   after_commands s who index [] = only s []
   after_commands s who index (command ∷ commands) =

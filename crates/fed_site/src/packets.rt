@@ -22,8 +22,7 @@ use fed_model::Outcome;
 use fed_replica::{Replica, Taken};
 use fed_stamp::{Roster, SiteId, Version, site_is_in_range};
 use fed_wire::{
-    Packet, Part, Place, WireFault, read, sender_is_of_sixteen, told_packets_are_within_limits,
-    write,
+    Packet, Part, Place, WireFault, read, sender_is_in_range, told_packets_are_within_limits, write,
 };
 use std::alloc::{AllocError, Global};
 use std::borrow::CowStr;
@@ -142,7 +141,7 @@ fn take_known(
     ensures site { replica.new.site ≡ replica.old.site }
     ensures unchanged { OnErr result (replica.new ≡ replica.old) }
 {
-    sender_is_of_sixteen(packet);
+    sender_is_in_range(packet);
     match replica.take(packet) {
         Ok(taken) => Ok(Done {
             text: taken_line(taken),

@@ -87,7 +87,7 @@ impl Word {
     }
 
     // The bytes of the name, which are compared without being read as text.
-    pub(crate) fn as_bytes(&self) -> &[u8]
+    fn as_bytes(&self) -> &[u8]
         ensures same { result.now ≡ self.now }
         ensures name { IsTrue (has_form_of_name result.now) }
     {

@@ -121,7 +121,7 @@ module _ (ops : History Body) (ranged : AreInRange ops) (here : ℕ) (who : Who)
       subst IsInRange (some_same (Begin job (beginning ((view ops).job job) moment)) new e) (t, nodes, (omega arith, omega arith), omega arith)
   effect_ranged (Command.Finish job moment status) new t r a e = subst IsInRange (some_same _ new e) t
   effect_ranged (Command.Reserve window) new t r a e = subst IsInRange (some_same (Reserve window) new e) (window_ranged window t r.1.0)
-  effect_ranged (Command.Cancel name) new t r a e = subst IsInRange (some_same _ new e) tt
+  effect_ranged (Command.Cancel reservation) new t r a e = subst IsInRange (some_same _ new e) tt
 
 pub answer_ranged : (ops : History Body) → IsLawful ops → AreInRange ops → (here : ℕ) (who : Who) (command : Command) → IsRanged who command → (said : Reply) (new : StampValue × Body) → answer ops here who command ≡ Replies said (Some new) → IsInRange new.1
 unfolding answer_to

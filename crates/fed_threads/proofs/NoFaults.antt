@@ -1,5 +1,5 @@
 -- Journals that are settled meet no fault but want of memory.
-use Rattle.std.proofs.Common.{◌≡◌, ◌<◌, ◌≤◌, ◌+◌, ℕ, zero, suc, List, [], ◌∷◌, length, slice_index, take, sym, subst, arith, refl}
+use Rattle.std.proofs.Common.{◌≡◌, ◌<◌, ◌≤◌, ◌+◌, ℕ, zero, suc, List, [], ◌∷◌, length, slice_index, take, subst, arith, refl}
 use Rattle.fed_model.specs.declared.events.Event.{Event}
 use Rattle.fed_threads.specs.declared.fault.CloseFault.{CloseFault}
 use Rattle.fed_threads.specs.declared.fault.CloseFault.TheVariants.{Strange, Twice, Unclaimed, NoOrder, Differs, NoMemory}

@@ -20,7 +20,7 @@ use fed_lattice::NoMemory;
 use fed_record::{Command, Refusal, Reply, Who};
 use fed_replica::{Replica, Taken};
 use fed_stamp::{SiteId, Version, site_is_in_range, version_is_in_range};
-use fed_wire::{Packet, sender_is_of_sixteen};
+use fed_wire::{Packet, sender_is_in_range};
 use fed_world::Outcome;
 use std::alloc::Global;
 use std::marker::Model;
@@ -103,8 +103,8 @@ fn delivered_of(said: Result<Taken, Absorb>) -> Result<Delivered, NoMemory>
 fn replies_name_sites(said: &Result<Reply, Refusal>)
     ensures { NamesSite (outcome_of said.now) }
 {
-    if let Ok(Reply::Submitted(name) | Reply::Reserved(name)) = said {
-        site_is_in_range(name.site());
+    if let Ok(Reply::Submitted(id) | Reply::Reserved(id)) = said {
+        site_is_in_range(id.site());
     }
 }
 
@@ -217,7 +217,7 @@ impl LockedSite {
         ensures err { OnErr result (self.new ≡ self.old) }
     {
         self.journal.reserve(1)?;
-        sender_is_of_sixteen(&packet);
+        sender_is_in_range(&packet);
         let delivered = delivered_of(self.replica.take(&packet))?;
         let asked = Asked::Take {
             site,

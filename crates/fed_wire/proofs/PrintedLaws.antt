@@ -5,7 +5,7 @@ use Rattle.std.proofs.lemmas.Str.{IsUtf8-append, IsUtf8-nil}
 use Rattle.json.specs.Token.{Token}
 use Rattle.json.specs.Json as json
 use Rattle.json.specs.Lex.{tokens}
-use Rattle.json.specs.Tree.{json_tokens, HasNumbers, ItemsHaveNumbers}
+use Rattle.json.specs.Tree.{json_tokens}
 use Rattle.json.specs.Tree as tree
 use Rattle.json.proofs.Numbered.{ArePrintableOrBad-tokens, value-HasNumbers}
 use Rattle.json.proofs.Printed.Tokens.{tokens-print}

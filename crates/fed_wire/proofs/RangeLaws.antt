@@ -65,7 +65,7 @@ name_ranged (HandBack job term) r = tt
 name_ranged (Begin job beginning) r = tt
 name_ranged (Finish job ending) r = tt
 name_ranged (Reserve window) r = tt
-name_ranged (Cancel name) r = tt
+name_ranged (Cancel reservation) r = tt
 
 pub priority_ranged : (body : Body) → IsInRange body → IfSome (priority_in body) IsPriority
 priority_ranged (Submit owner values held) r = r.1.priority

@@ -9,7 +9,7 @@ use Rattle.fed_model.specs.declared.windows.Window.{Window}
 use Rattle.fed_json.specs.declared.flaws.Flaw.TheVariants.{Shape}
 use Rattle.fed_json.specs.Reading.{Reading, ◌>>=◌, mapped, both, where_true}
 use Rattle.fed_json.specs.Numbers.{natural_value, natural_in}
-use Rattle.fed_model.specs.Ranges.{IsFrom, IsStamp, IsSite, IsWindow}
+use Rattle.fed_model.specs.Ranges.{IsStamp, IsWindow}
 use Rattle.fed_json.specs.Values.{list_value, elements_of, or_null, null_or}
 use Rattle.fed_json.specs.Objects.{Named, object_value, has_names, member_of}
 use Rattle.fed_job_json.specs.Stamps.{stamp_value, stamp_of, site_of}

@@ -7,7 +7,7 @@ use crate::packets::Packet;
 use fed_stamp::site_is_in_range;
 
 /// The sender of a packet is one of the 16 sites.
-pub fn sender_is_of_sixteen(packet: &Packet)
+pub fn sender_is_in_range(packet: &Packet)
     ensures { packet.now.sender < SITES }
 {
     site_is_in_range(packet.sender());

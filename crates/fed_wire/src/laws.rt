@@ -12,7 +12,7 @@ ghost use Rattle.fed_job_json.specs.declared.formats.Format.TheVariants.{Two};
 ghost use Rattle.fed_model.specs.Limits.{IsWithinLimits};
 ghost use Rattle.fed_wire.specs.Packet.{IsPacket};
 
-use crate::facts::sender_is_of_sixteen;
+use crate::facts::sender_is_in_range;
 use crate::packets::Packet;
 use fed_board::{records_are_covered, records_are_in_order};
 use fed_stamp::version_is_in_range;
@@ -25,7 +25,7 @@ pub fn told_packets_are_within_limits(packet: &Packet)
         packet.now.delta.need ≡ met seen (version_of ops) →
         board_reads packet.now.delta.changes ≡ cut (view ops) packet.now.delta.need → IsPacket Two packet.now }
 {
-    sender_is_of_sixteen(packet);
+    sender_is_in_range(packet);
     let delta = packet.delta();
     version_is_in_range(&delta.need());
     version_is_in_range(&delta.reached());

@@ -26,7 +26,7 @@ pub mod texts;
 /// Packets without their jobs, written as JSON values.
 mod writing;
 
-pub use facts::sender_is_of_sixteen;
+pub use facts::sender_is_in_range;
 pub use faults::{Part, Place, WireFault};
 pub use laws::told_packets_are_within_limits;
 pub use packets::Packet;

@@ -18,7 +18,7 @@ use fed_record::JobRecord;
 use fed_stamp::{JobId, SITES};
 use std::alloc::{AllocError, Global};
 
-// The place of the first job in the text, behind `{"format":2,"jobs":[`.
+// The index of the first byte of the first job in the text, behind `{"format":2,"jobs":[`.
 const JOBS_AT: usize = 20;
 
 fn frame_text(alloc: Global, packet: &Packet) -> Result<Vec<u8>, AllocError>

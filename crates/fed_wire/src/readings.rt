@@ -22,7 +22,7 @@ fn first_bad_of(values: &[Value]) -> usize
     values.len()
 }
 
-/// The place of the first element that isn't a counter.
+/// The index of the first element that isn't a counter.
 fn first_bad(value: &Value) -> usize
     ensures { result ≡ first_bad_in (view value.now) }
 {

@@ -64,8 +64,8 @@ fn site(name: &str, malformed: u8) -> Result<SiteId, u8> {
     if Word::new(name).is_none() || name.contains('_') || name.contains('.') {
         return Err(malformed);
     }
-    let place = SITES.iter().position(|known| *known == name);
-    place.and_then(|k| SiteId::new(k as u8)).ok_or(6)
+    let index = SITES.iter().position(|known| *known == name);
+    index.and_then(|k| SiteId::new(k as u8)).ok_or(6)
 }
 
 /// Sites whose names are joined by `+`.
@@ -74,8 +74,8 @@ fn sites(value: &str) -> Result<SiteSet, u8> {
     for name in value.split('+') {
         let site = site(name, 4)?;
         let mut sites = found.unwrap_or([site; 3]);
-        if let Some(place) = sites.get_mut(site.get() as usize) {
-            *place = site;
+        if let Some(slot) = sites.get_mut(site.get() as usize) {
+            *slot = site;
         }
         found = Some(sites);
     }

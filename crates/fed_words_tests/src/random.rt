@@ -125,8 +125,8 @@ impl Numbers {
     }
 
     fn pick<'a>(&mut self, words: &[&'a str]) -> &'a str {
-        let place = self.below(words.len());
-        words.get(place).copied().unwrap_or("")
+        let index = self.below(words.len());
+        words.get(index).copied().unwrap_or("")
     }
 
     /// Words of which most begin as those that are read without a fault.

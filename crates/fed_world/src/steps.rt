@@ -98,9 +98,9 @@ pub(crate) fn take_at(
     if number == 0 || number > texts.len() as u64 {
         return Ok(Outcome::NoPacket);
     }
-    let made = (number - 1) as usize;
+    let packet_index = (number - 1) as usize;
     // The text is of a packet within limits: that it can't be read is want of memory.
-    let Ok(packet) = read(alloc, texts[made].bytes()) else {
+    let Ok(packet) = read(alloc, texts[packet_index].bytes()) else {
         return Err(NoMemory);
     };
     match replicas[index].take(&packet) {

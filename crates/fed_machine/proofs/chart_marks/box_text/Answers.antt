@@ -12,8 +12,8 @@ returns c =
     let area : c.area_of-area.result ≡ area_of c.args.span c.args.levels c.args.bar.now = c.area_of-area.ensures in
     let rect : string_bytes c.in_ok-rect.rect ≡ rect_text (area_of c.args.span c.args.levels c.args.bar.now) =
     c.in_ok-rect.ensures ∙ ap rect_text area in
-    let name : c.as_str.result.now ≡ identifier_text c.args.roster.now c.args.bar.now.id =
-    c.as_str.ensures.value ∙ c.in_ok-name.ensures in
+    let id : c.as_str.result.now ≡ identifier_text c.args.roster.now c.args.bar.now.id =
+    c.as_str.ensures.value ∙ c.in_ok-id.ensures in
     let label : string_bytes c.in_ok-label.label ≡ label_text (identifier_text c.args.roster.now c.args.bar.now.id) (area_of c.args.span c.args.levels c.args.bar.now) =
-    c.in_ok-label.ensures ∙ ap₂ label_text name area in
+    c.in_ok-label.ensures ∙ ap₂ label_text id area in
     IfOk-weaker c.format.result _ _ (λ s e. rw e (rw (kind, said, rect, label) (simp append_assoc))) c.format.ensures.ok

@@ -5,15 +5,15 @@ use Rattle.fed_qstat.specs.Identifier.{identifier_text}
 use Rattle.fed_machine.specs.ChartMarks.{class, words}
 use Rattle.fed_machine.proofs.chart_marks.words.Goals as goal
 
-grouped : (name kind nodes start end : List ℕ) → name ++ (codes ": " ++ (kind ++ (codes ", nodes " ++ (nodes ++ (codes ", from " ++ (start ++ (codes " to " ++ end)))))))
-    ≡ name ++ codes ": " ++ kind ++ codes ", nodes " ++ nodes ++ codes ", from " ++ start ++ codes " to " ++ end
-grouped name kind nodes start end = simp append_assoc
+grouped : (id kind nodes start end : List ℕ) → id ++ (codes ": " ++ (kind ++ (codes ", nodes " ++ (nodes ++ (codes ", from " ++ (start ++ (codes " to " ++ end)))))))
+    ≡ id ++ codes ": " ++ kind ++ codes ", nodes " ++ nodes ++ codes ", from " ++ start ++ codes " to " ++ end
+grouped id kind nodes start end = simp append_assoc
 
 pub returns : goal.returns
 unfolding words
 returns c =
-    let name : string_bytes c.in_ok-name.name ≡ identifier_text c.args.roster.now c.args.bar.now.id = c.in_ok-name.ensures in
+    let id : string_bytes c.in_ok-id.id ≡ identifier_text c.args.roster.now c.args.bar.now.id = c.in_ok-id.ensures in
     let kind : c.class-kind.result.now ≡ class c.args.bar.now.kind = c.class-kind.ensures in
     let start : ℕ = c.args.moment + c.args.bar.now.from in
     let whole = grouped (identifier_text c.args.roster.now c.args.bar.now.id) (class c.args.bar.now.kind) (decimal c.args.bar.now.nodes) (decimal start) (decimal (start + c.args.bar.now.seconds)) in
-    IfOk-weaker c.format.result _ _ (λ s e. rw e (rw (name, kind) whole)) c.format.ensures.ok
+    IfOk-weaker c.format.result _ _ (λ s e. rw e (rw (id, kind) whole)) c.format.ensures.ok

@@ -8,7 +8,7 @@ use Rattle.fed_site.proofs.packets.take_known.Goals as goal
 pub returns-in-Ok-clause-done : goal.returns-in-Ok-clause-done
 returns-in-Ok-clause-done c =
     taken c.args.roster.now c.args.replica.now c.take.new.self c.args.packet.now c.in-Ok.taken c.in-Ok.ensures.grew c.take.ensures.site c.in-Ok.ensures.known c.in-Ok.ensures.joined
-    c.sender_is_of_sixteen.ensures c.in-Ok.ensures.heard (cow_str_bytes c.taken_line.result) c.taken_line.ensures
+    c.sender_is_in_range.ensures c.in-Ok.ensures.heard (cow_str_bytes c.taken_line.result) c.taken_line.ensures
 
 pub returns-in_ok-text-in-Err-clause-done : goal.returns-in_ok-text-in-Err-clause-done
 returns-in_ok-text-in-Err-clause-done c =

@@ -1,5 +1,3 @@
-use Rattle.std.proofs.Common.{refl}
-use Rattle.fed_threads.specs.declared.fault.CloseFault.TheVariants.{NoMemory}
 use Rattle.fed_threads.proofs.CallFaults.{only_memory}
 use Rattle.fed_threads.proofs.NoFaults.{no_fault}
 use Rattle.fed_threads.proofs.settling.settle.Goals as goal

@@ -17,7 +17,7 @@ returns c =
     let order = c.records_are_in_order.ensures in
     let tags = sorted_tags c.changes-changes.result.now.jobs (λ k d l. let w = order.well_formed k d l in (w.2, w.3)) in
     let made : IsMade p = record {
-      sender = omega (arith, c.sender_is_of_sixteen.ensures);
+      sender = omega (arith, c.sender_is_in_range.ensures);
       need = subst IsVersion (c.need.ensures ∙ ap (λ (d : DeltaValue). d.need) delta) c.version_is_in_range.ensures;
       reached = subst IsVersion (c.reached.ensures.version ∙ ap (λ (d : DeltaValue). d.changes.version) delta) c.version_is_in_range-2.ensures;
       board = subst IsBoard changes c.records_are_covered.ensures;

@@ -20,8 +20,8 @@ returns-in-Ok-take-clause-done c = λ n events few held all.
     let small : c.get-index.result < n = omega (arith, held.count) in
     let there : c.args.number - 1 < length c.args.texts.now = omega arith in
     let numbered : c.args.number ≡ suc (c.args.number - 1) = omega arith in
-    let p = text_at (run n events).packets c.args.texts.now (c.args.number - 1) c.index-texts-made.result all there in
-    let text : IsTextOf p.0 c.index-texts-made.result = subst (IsTextOf p.0) (sym c.index-texts-made.is) p.2 in
+    let p = text_at (run n events).packets c.args.texts.now (c.args.number - 1) c.index-texts-packet_index.result all there in
+    let text : IsTextOf p.0 c.index-texts-packet_index.result = subst (IsTextOf p.0) (sym c.index-texts-packet_index.is) p.2 in
     let sent : IsSentOf p.0 c.in-Ok.packet = read_sent p.0 _ text c.read.result c.in-Ok.packet c.in-Ok.is (c.read.ensures.only Two text.sent text.limits (ap text_value c.bytes.ensures ∙ text.again)) in
     taken_done n events few c.args.replicas.now held c.args.site c.get-index.result c.get-index.ensures.same small c.args.number p.0 c.in-Ok.packet
     (ap (packet (run n events)) numbered ∙ p.1) sent
@@ -33,8 +33,8 @@ returns-in-Gap-clause-done c = λ n events few held all.
     let small : c.get-index.result < n = omega (arith, held.count) in
     let there : c.args.number - 1 < length c.args.texts.now = omega arith in
     let numbered : c.args.number ≡ suc (c.args.number - 1) = omega arith in
-    let p = text_at (run n events).packets c.args.texts.now (c.args.number - 1) c.index-texts-made.result all there in
-    let text : IsTextOf p.0 c.index-texts-made.result = subst (IsTextOf p.0) (sym c.index-texts-made.is) p.2 in
+    let p = text_at (run n events).packets c.args.texts.now (c.args.number - 1) c.index-texts-packet_index.result all there in
+    let text : IsTextOf p.0 c.index-texts-packet_index.result = subst (IsTextOf p.0) (sym c.index-texts-packet_index.is) p.2 in
     let sent : IsSentOf p.0 c.in-Ok.packet = read_sent p.0 _ text c.read.result c.in-Ok.packet c.in-Ok.is (c.read.ensures.only Two text.sent text.limits (ap text_value c.bytes.ensures ∙ text.again)) in
     gap_done n events few c.args.replicas.now held c.args.site c.get-index.result c.get-index.ensures.same small c.args.number p.0 c.in-Ok.packet
     (ap (packet (run n events)) numbered ∙ p.1) sent

@@ -1,5 +1,5 @@
 use Rattle.std.specs.Cow.{cow_str_bytes}
-use Rattle.std.proofs.Common.{◌≡◌, sym, ◌<◌, length, subst}
+use Rattle.std.proofs.Common.{◌≡◌, ◌<◌}
 use Rattle.std.proofs.lemmas.Result.{IfOk-weaker}
 use Rattle.fed_board.specs.Board.{board_reads}
 use Rattle.fed_answers.specs.Planned.{plan_text, planned}

@@ -19,7 +19,7 @@ invariant_of-self-2 c =
     } in
     replayed_more c.self.inside.replica c.take.new.self c.self.inside.journal.items c.keep.new.journal.items (Take c.args.site c.args.sender c.args.place) (Some c.args.packet) c.outcome_of_delivered.result c.self.invariant
     (subst (Does c.self.inside.replica c.take.new.self (length c.self.inside.journal.items) (Take c.args.site c.args.sender c.args.place) (Some c.args.packet)) (sym c.outcome_of_delivered.ensures)
-    (does_delivered c.self.inside.replica c.take.new.self (length c.self.inside.journal.items) c.args.site c.args.sender c.args.place c.args.packet c.sender_is_of_sixteen.ensures c.take.result t c.in_ok-delivered.delivered c.in_ok-delivered.ensures.ok))
+    (does_delivered c.self.inside.replica c.take.new.self (length c.self.inside.journal.items) c.args.site c.args.sender c.args.place c.args.packet c.sender_is_in_range.ensures c.take.result t c.in_ok-delivered.delivered c.in_ok-delivered.ensures.ok))
     (c.keep.ensures ∙ ap (λ (xs : List Entry). xs ++ record { asked = Take c.args.site c.args.sender c.args.place; packet = Some c.args.packet; outcome = c.outcome_of_delivered.result } ∷ []) c.in_ok-reserve.ensures.items)
 
 pub returns-clause-ok : goal.returns-clause-ok
@@ -36,5 +36,5 @@ returns-clause-ok c =
     rw (← c.self.view_is, ← c.outcome_of_delivered.ensures)
     (appends c.self.inside.replica c.take.new.self c.self.inside.journal.items c.keep.new.journal.items (Take c.args.site c.args.sender c.args.place) (Some c.args.packet) c.outcome_of_delivered.result c.self.invariant
     (subst (Does c.self.inside.replica c.take.new.self (length c.self.inside.journal.items) (Take c.args.site c.args.sender c.args.place) (Some c.args.packet)) (sym c.outcome_of_delivered.ensures)
-    (does_delivered c.self.inside.replica c.take.new.self (length c.self.inside.journal.items) c.args.site c.args.sender c.args.place c.args.packet c.sender_is_of_sixteen.ensures c.take.result t c.in_ok-delivered.delivered c.in_ok-delivered.ensures.ok))
+    (does_delivered c.self.inside.replica c.take.new.self (length c.self.inside.journal.items) c.args.site c.args.sender c.args.place c.args.packet c.sender_is_in_range.ensures c.take.result t c.in_ok-delivered.delivered c.in_ok-delivered.ensures.ok))
     (c.keep.ensures ∙ ap (λ (xs : List Entry). xs ++ record { asked = Take c.args.site c.args.sender c.args.place; packet = Some c.args.packet; outcome = c.outcome_of_delivered.result } ∷ []) c.in_ok-reserve.ensures.items))
