@@ -4,6 +4,7 @@ pub mod GrantLaws
 pub mod ProgressLaws
 pub mod PairLaws
 pub mod JobLaws
+pub mod MemberLaws
 pub mod PartLaws
 pub mod VersionReads
 pub mod JobReads

@@ -6,4 +6,5 @@ pub mod Progress
 pub mod Pairs
 pub mod Covers
 pub mod Job
+pub mod Members
 pub mod Parts

@@ -1,16 +1,17 @@
 //! The fields of a job read from JSON values.
-ghost use Rattle.std.specs.Prelude.{◌≡◌, codes, Some};
+ghost use Rattle.std.specs.Prelude.{◌≡◌, Some};
 ghost use Rattle.serde_json.specs.View.{view};
 ghost use Rattle.fed_json.specs.Reading.{mapped};
-ghost use Rattle.fed_json.specs.Objects.{member_of};
 ghost use Rattle.fed_job_json.specs.Fields.{field_of, name_of, priority_of, nodes_of, limit_of, account_in};
-ghost use Rattle.fed_job_json.specs.Job.{account_of, names_of, numbers_of, fields_of};
+ghost use Rattle.fed_job_json.specs.Job.{account_of, fields_of};
+ghost use Rattle.fed_job_json.specs.Members.{members_value};
 ghost use Rattle.fed_job_json.specs.Parts.{fields_value};
 
 use crate::formats::Format;
+use crate::members::JobMembers;
 use crate::parts::FieldParts;
 use crate::stamps::read_stamp;
-use fed_json::{Flaw, both, elements, integer, member, natural, text};
+use fed_json::{Flaw, both, elements, integer, natural, text};
 use fed_record::{Account, Limit, MAX_LIMIT, MAX_PRIORITY, MIN_PRIORITY, Nodes, Priority};
 use fed_stamp::{MAX_NODES, Stamp, Word};
 use serde_json::Value;
@@ -111,54 +112,25 @@ fn account_field(value: &Value) -> Result<(Stamp, Account), Flaw>
 }
 
 // The account; in format 1 the empty one that the submission set.
-fn account_member(job: &Value, format: Format) -> Result<(Stamp, Account), Flaw>
-    ensures { mapped (λ f. Some f) result ≡ account_of format (view job.now) }
+#[tactic(auto, using(crate::proofs::MemberLaws::account_of_one, crate::proofs::MemberLaws::account_of_two))]
+fn account_member(members: &JobMembers<'_>, format: Format) -> Result<(Stamp, Account), Flaw>
+    ensures { mapped (λ f. Some f) result ≡ account_of format (members_value members.now) }
 {
     match format {
-        Format::One => Ok((read_stamp(member(job, "id")?)?, Account::EMPTY)),
-        Format::Two => account_field(member(job, "account")?),
+        Format::One => Ok((read_stamp(members.id)?, Account::EMPTY)),
+        Format::Two => account_field(members.account.ok_or(Flaw::Shape)?),
     }
 }
 
-fn owner_member(job: &Value) -> Result<(Stamp, Word), Flaw>
-    ensures { mapped (λ f. Some f) result ≡ member_of (codes "owner") (field_of name_of) (view job.now) }
+/// The fields, each beside its stamp; `Shape` where one has another form or the account of format 2 is missing, else
+/// `Range` where a value is out of its range.
+pub fn fields(members: &JobMembers<'_>, format: Format) -> Result<FieldParts, Flaw>
+    ensures { mapped fields_value result ≡ fields_of format (members_value members.now) }
 {
-    name_field(member(job, "owner")?)
-}
-
-fn name_member(job: &Value) -> Result<(Stamp, Word), Flaw>
-    ensures { mapped (λ f. Some f) result ≡ member_of (codes "name") (field_of name_of) (view job.now) }
-{
-    name_field(member(job, "name")?)
-}
-
-fn priority_member(job: &Value) -> Result<(Stamp, Priority), Flaw>
-    ensures { mapped (λ f. Some f) result ≡ member_of (codes "priority") (field_of priority_of) (view job.now) }
-{
-    priority_field(member(job, "priority")?)
-}
-
-fn nodes_member(job: &Value) -> Result<(Stamp, Nodes), Flaw>
-    ensures { mapped (λ f. Some f) result ≡ member_of (codes "nodes") (field_of nodes_of) (view job.now) }
-{
-    nodes_field(member(job, "nodes")?)
-}
-
-fn limit_member(job: &Value) -> Result<(Stamp, Limit), Flaw>
-    ensures { mapped (λ f. Some f) result ≡ member_of (codes "limit") (field_of limit_of) (view job.now) }
-{
-    limit_field(member(job, "limit")?)
-}
-
-/// The fields, each beside its stamp; `Shape` where a member is missing or has another form, else `Range` where a value
-/// is out of its range.
-pub fn fields(job: &Value, format: Format) -> Result<FieldParts, Flaw>
-    ensures { mapped fields_value result ≡ fields_of format (view job.now) }
-{
-    let names = both(owner_member(job), name_member(job));
-    let numbers = both(nodes_member(job), limit_member(job));
-    let others = both(numbers, account_member(job, format));
-    match both(names, both(priority_member(job), others)) {
+    let names = both(name_field(members.owner), name_field(members.name));
+    let numbers = both(nodes_field(members.nodes), limit_field(members.limit));
+    let others = both(numbers, account_member(members, format));
+    match both(names, both(priority_field(members.priority), others)) {
         Ok(read) => {
             let (names, (priority, (numbers, account))) = read;
             Ok(FieldParts {

@@ -9,6 +9,8 @@ pub mod formats;
 pub mod grants;
 /// The live pairs of a job.
 pub mod live_pairs;
+/// The members of a job's object.
+pub mod members;
 /// What was read of a job, part by part.
 pub mod parts;
 /// The Begin and the Finish of a job.
@@ -17,5 +19,6 @@ pub mod progress;
 pub mod stamps;
 
 pub use formats::Format;
+pub use members::{JobMembers, job_members};
 pub use parts::{FieldParts, ReadJob, StageParts};
 pub use stamps::{read_site, read_stamp, read_version};

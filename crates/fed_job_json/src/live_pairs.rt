@@ -1,17 +1,16 @@
 //! The live pairs of a job read from JSON values.
-ghost use Rattle.std.specs.Prelude.{◌≡◌, codes, IfOk, map};
+ghost use Rattle.std.specs.Prelude.{◌≡◌, IfOk, map};
 ghost use Rattle.std.specs.Ordering.{nat_cmp};
 ghost use Rattle.serde_json.specs.View.{view};
 ghost use Rattle.fed_tags.specs.Tags.{pair_cmp};
 ghost use Rattle.fed_model.specs.Hold.{kind_cmp};
 ghost use Rattle.fed_json.specs.Reading.{mapped};
 ghost use Rattle.fed_json.specs.Values.{pair_of, all_of};
-ghost use Rattle.fed_json.specs.Objects.{member_of};
 ghost use Rattle.fed_job_json.specs.Stamps.{site_of, stamp_of};
 ghost use Rattle.fed_job_json.specs.Pairs.{kind_of, holds_of, sites_of, ascends};
 
 use crate::stamps::{read_site, read_stamp};
-use fed_json::{Flaw, both, elements, is_word, member};
+use fed_json::{Flaw, both, elements, is_word};
 use fed_lattice::NoMemory;
 use fed_record::HoldKind;
 use fed_stamp::{SiteId, Stamp};
@@ -57,7 +56,7 @@ fn all_holds(
 ) -> Result<Result<Vec<(HoldKind, Stamp)>, Flaw>, NoMemory>
     ensures { IfOk result (λ r. mapped (λ v. v.items) r ≡ all_of (pair_of kind_of stamp_of) (map view values.now)) }
 {
-    let mut holds = Vec::new(alloc);
+    let mut holds = Vec::with_capacity(alloc, values.len())?;
     let mut in_range = true;
     for value in values {
         match hold(value) {
@@ -79,7 +78,7 @@ fn all_sites(
 ) -> Result<Result<Vec<(SiteId, Stamp)>, Flaw>, NoMemory>
     ensures { IfOk result (λ r. mapped (λ v. v.items) r ≡ all_of (pair_of site_of stamp_of) (map view values.now)) }
 {
-    let mut sites = Vec::new(alloc);
+    let mut sites = Vec::with_capacity(alloc, values.len())?;
     let mut in_range = true;
     for value in values {
         match site(value) {
@@ -95,7 +94,8 @@ fn all_sites(
     }
 }
 
-fn holds(alloc: Global, value: &Value) -> Result<Result<Vec<(HoldKind, Stamp)>, Flaw>, NoMemory>
+/// The live pairs of a job's holds.
+pub fn holds(alloc: Global, value: &Value) -> Result<Result<Vec<(HoldKind, Stamp)>, Flaw>, NoMemory>
     ensures { IfOk result (λ r. mapped (λ v. v.items) r ≡ holds_of (view value.now)) }
 {
     let values = match elements(value) {
@@ -113,7 +113,8 @@ fn holds(alloc: Global, value: &Value) -> Result<Result<Vec<(HoldKind, Stamp)>, 
     }
 }
 
-fn sites(alloc: Global, value: &Value) -> Result<Result<Vec<(SiteId, Stamp)>, Flaw>, NoMemory>
+/// The live pairs of a job's sites.
+pub fn sites(alloc: Global, value: &Value) -> Result<Result<Vec<(SiteId, Stamp)>, Flaw>, NoMemory>
     ensures { IfOk result (λ r. mapped (λ v. v.items) r ≡ sites_of (view value.now)) }
 {
     let values = match elements(value) {
@@ -128,31 +129,5 @@ fn sites(alloc: Global, value: &Value) -> Result<Result<Vec<(SiteId, Stamp)>, Fl
         Ok(Ok(sites))
     } else {
         Ok(Err(Flaw::Range))
-    }
-}
-
-/// The live pairs of a job's holds.
-pub fn hold_member(
-    alloc: Global,
-    job: &Value,
-) -> Result<Result<Vec<(HoldKind, Stamp)>, Flaw>, NoMemory>
-    ensures { IfOk result (λ r. mapped (λ v. v.items) r ≡ member_of (codes "holds") holds_of (view job.now)) }
-{
-    match member(job, "holds") {
-        Ok(value) => holds(alloc, value),
-        Err(flaw) => Ok(Err(flaw)),
-    }
-}
-
-/// The live pairs of a job's sites.
-pub fn site_member(
-    alloc: Global,
-    job: &Value,
-) -> Result<Result<Vec<(SiteId, Stamp)>, Flaw>, NoMemory>
-    ensures { IfOk result (λ r. mapped (λ v. v.items) r ≡ member_of (codes "sites") sites_of (view job.now)) }
-{
-    match member(job, "sites") {
-        Ok(value) => sites(alloc, value),
-        Err(flaw) => Ok(Err(flaw)),
     }
 }

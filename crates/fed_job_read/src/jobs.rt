@@ -1,70 +1,40 @@
 //! Jobs read from JSON values.
-ghost use Rattle.std.specs.Prelude.{◌≡◌, codes, map, true, [], IfOk};
+ghost use Rattle.std.specs.Prelude.{◌≡◌, true, IfOk};
 ghost use Rattle.std.specs.Ordering.{nat_cmp};
 ghost use Rattle.serde_json.specs.View.{view};
 ghost use Rattle.fed_model.specs.Hold.{kind_cmp};
-ghost use Rattle.fed_json.specs.Reading.{mapped};
-ghost use Rattle.fed_json.specs.Objects.{member_of, has_names as has_just_names};
-ghost use Rattle.fed_job_json.specs.Stamps.{stamp_of, version_of};
 ghost use Rattle.fed_model.specs.Ranges.{IsSite};
+ghost use Rattle.fed_json.specs.Reading.{mapped};
 ghost use Rattle.fed_job_json.specs.Pairs.{ArePairs};
 ghost use Rattle.fed_job_json.specs.Covers.{covers_job};
-ghost use Rattle.fed_job_json.specs.Job.{job_names, parts_of, job_of};
+ghost use Rattle.fed_job_json.specs.Job.{parts_of, job_of};
+ghost use Rattle.fed_job_json.specs.Members.{members_value};
 ghost use Rattle.fed_job_json.specs.Parts.{job_from};
 
 use crate::covers::is_covered;
 use crate::stages::stages;
 use fed_job_json::fields::fields;
-use fed_job_json::live_pairs::{hold_member, site_member};
-use fed_job_json::{Format, ReadJob, read_stamp, read_version};
-use fed_json::{Flaw, both, has_names, member};
+use fed_job_json::live_pairs::{holds, sites};
+use fed_job_json::{Format, JobMembers, ReadJob, job_members, read_stamp, read_version};
+use fed_json::{Flaw, both};
 use fed_lattice::NoMemory;
 use fed_record::{JobParts, JobRecord};
-use fed_stamp::{JobId, Stamp, Version};
+use fed_stamp::JobId;
 use serde_json::Value;
 use std::alloc::Global;
 
-fn id_member(job: &Value) -> Result<Stamp, Flaw>
-    ensures { result ≡ member_of (codes "id") stamp_of (view job.now) }
-{
-    read_stamp(member(job, "id")?)
-}
-
-fn touched_member(job: &Value) -> Result<Version, Flaw>
-    ensures { result ≡ member_of (codes "touched") version_of (view job.now) }
-{
-    read_version(member(job, "touched")?)
-}
-
-fn has_job_names(job: &Value, format: Format) -> bool
-    ensures { result ≡ has_just_names (job_names format) (view job.now) }
-{
-    match format {
-        Format::One => has_names(
-            job,
-            &[
-                "deleted", "grant", "holds", "id", "limit", "name", "nodes", "owner", "priority",
-                "progress", "sites", "touched",
-            ],
-        ),
-        Format::Two => has_names(
-            job,
-            &[
-                "account", "deleted", "grant", "holds", "id", "limit", "name", "nodes", "owner",
-                "priority", "progress", "sites", "touched",
-            ],
-        ),
-    }
-}
-
 // All parts of the job, each in range.
-fn parts(alloc: Global, job: &Value, format: Format) -> Result<Result<ReadJob, Flaw>, NoMemory>
-    ensures { IfOk result (λ r. mapped job_from r ≡ parts_of format (view job.now)) }
+fn parts(
+    alloc: Global,
+    members: &JobMembers<'_>,
+    format: Format,
+) -> Result<Result<ReadJob, Flaw>, NoMemory>
+    ensures { IfOk result (λ r. mapped job_from r ≡ parts_of format (members_value members.now)) }
 {
-    let pairs = both(hold_member(alloc, job)?, site_member(alloc, job)?);
-    let stages = both(stages(job, format), touched_member(job));
-    let others = both(fields(job, format), both(pairs, stages));
-    match both(id_member(job), others) {
+    let pairs = both(holds(alloc, members.holds)?, sites(alloc, members.sites)?);
+    let stages = both(stages(members, format), read_version(members.touched));
+    let others = both(fields(members, format), both(pairs, stages));
+    match both(read_stamp(members.id), others) {
         Ok(read) => {
             let (id, (fields, ((holds, sites), (stages, touched)))) = read;
             Ok(Ok(ReadJob {
@@ -116,10 +86,10 @@ pub fn read_job(
 ) -> Result<Result<(JobId, JobRecord), Flaw>, NoMemory>
     ensures { IfOk result (λ r. r ≡ job_of format (view job.now)) }
 {
-    if !has_job_names(job, format) {
+    let Some(members) = job_members(job, format) else {
         return Ok(Err(Flaw::Shape));
-    }
-    let read = match parts(alloc, job, format)? {
+    };
+    let read = match parts(alloc, &members, format)? {
         Ok(read) => read,
         Err(flaw) => return Ok(Err(flaw)),
     };

@@ -79,7 +79,8 @@ names_in ms = map (λ m. m.0) ms
 same_text : (xs : List ℕ) → slice_cmp nat_cmp xs xs ≡ Equal
 same_text xs = tied_itself nat_list_cmp_total xs
 
-other : (o : Ordering) (a b : Option Data) → not (is_eq o) ≡ true → match_ordering o a b a ≡ a
+-- a member of another name is passed over
+pub other : (o : Ordering) (a b : Option Data) → not (is_eq o) ≡ true → match_ordering o a b a ≡ a
 other Less a b e = refl
 other Equal a b e = absurd cc
 other Greater a b e = refl

@@ -13,4 +13,4 @@ pub mod objects;
 pub use arrays::{elements, is_word, text, truth};
 pub use flaws::{Flaw, both};
 pub use numbers::{integer, natural};
-pub use objects::{has_names, member};
+pub use objects::{has_names, member, read_members};

@@ -9,7 +9,7 @@ use Rattle.fed_job_json.proofs.live_pairs.all_holds.Goals.{in-Ok+in_ok-push-in-O
 use Rattle.fed_job_json.proofs.live_pairs.all_holds.Goals as goal
 
 pub loop-value-init : goal.loop-value-init
-loop-value-init c = rw c.new-holds.ensures.items (after_none _)
+loop-value-init c = rw c.in_ok-holds.ensures.items (after_none _)
 
 pub returns-in-Err-Shape : goal.returns-in-Err-Shape
 returns-in-Err-Shape c =

@@ -1,25 +1,36 @@
 use Rattle.std.proofs.Common.{Ok, sym, ap, ◌∙◌}
 use Rattle.serde_json.specs.View.{view}
 use Rattle.fed_json.specs.Reading.{mapped}
+use Rattle.fed_job_json.specs.Job.{parts_of}
 use Rattle.fed_job_json.specs.Parts.{job_from}
 use Rattle.fed_job_json.proofs.JobLaws.{parts_part}
 use Rattle.fed_job_json.proofs.JobReads.{misnamed, unread, uncovered, covered}
 use Rattle.fed_job_read.proofs.jobs.read_job.Goals as goal
 
-pub returns-then-not-has_job_names : goal.returns-then-not-has_job_names
-returns-then-not-has_job_names c = misnamed c.args.format (view c.args.job.now) (cc)
+pub returns-in_default : goal.returns-in_default
+returns-in_default c = misnamed c.args.format (view c.args.job.now) (sym c.in_default.ensures.named)
 
 pub returns-in-Err : goal.returns-in-Err
-returns-in-Err c = unread c.args.format (view c.args.job.now) c.in-Err.flaw (cc) (sym (ap (mapped job_from) c.in-Err.is) ∙ c.in_ok-read.ensures)
+returns-in-Err c =
+    let read = sym (ap (mapped job_from) c.in-Err.is) ∙ c.in_ok-read.ensures ∙ ap (parts_of c.args.format) c.in-Some.ensures.members in
+    unread c.args.format (view c.args.job.now) c.in-Err.flaw (sym c.in-Some.ensures.named) read
 
 pub returns-then-not-is_covered : goal.returns-then-not-is_covered
-returns-then-not-is_covered c = uncovered c.args.format (view c.args.job.now) (job_from c.in-Ok.read) (cc) (sym (ap (mapped job_from) c.in-Ok.is) ∙ c.in_ok-read.ensures) (cc)
+returns-then-not-is_covered c =
+    let read = sym (ap (mapped job_from) c.in-Ok.is) ∙ c.in_ok-read.ensures ∙ ap (parts_of c.args.format) c.in-Some.ensures.members in
+    uncovered c.args.format (view c.args.job.now) (job_from c.in-Ok.read) (sym c.in-Some.ensures.named) read (cc)
 
 pub record-requires-clause-holds : goal.record-requires-clause-holds
-record-requires-clause-holds c = ((parts_part c.args.format).takes (view c.args.job.now) (job_from c.in-Ok.read) (sym c.in_ok-read.ensures ∙ ap (mapped job_from) c.in-Ok.is)).1.1.1.0.0
+record-requires-clause-holds c =
+    let read = sym (ap (mapped job_from) c.in-Ok.is) ∙ c.in_ok-read.ensures ∙ ap (parts_of c.args.format) c.in-Some.ensures.members in
+    ((parts_part c.args.format).takes (view c.args.job.now) (job_from c.in-Ok.read) (sym read)).1.1.1.0.0
 
 pub record-requires-clause-sites : goal.record-requires-clause-sites
-record-requires-clause-sites c = ((parts_part c.args.format).takes (view c.args.job.now) (job_from c.in-Ok.read) (sym c.in_ok-read.ensures ∙ ap (mapped job_from) c.in-Ok.is)).1.1.1.0.1
+record-requires-clause-sites c =
+    let read = sym (ap (mapped job_from) c.in-Ok.is) ∙ c.in_ok-read.ensures ∙ ap (parts_of c.args.format) c.in-Some.ensures.members in
+    ((parts_part c.args.format).takes (view c.args.job.now) (job_from c.in-Ok.read) (sym read)).1.1.1.0.1
 
 pub returns : goal.returns
-returns c = ap (λ r. Ok (c.in-Ok.read.id, r)) c.in_ok-record.ensures ∙ covered c.args.format (view c.args.job.now) (job_from c.in-Ok.read) (cc) (sym (ap (mapped job_from) c.in-Ok.is) ∙ c.in_ok-read.ensures) (cc)
+returns c =
+    let read = sym (ap (mapped job_from) c.in-Ok.is) ∙ c.in_ok-read.ensures ∙ ap (parts_of c.args.format) c.in-Some.ensures.members in
+    ap (λ r. Ok (c.in-Ok.read.id, r)) c.in_ok-record.ensures ∙ covered c.args.format (view c.args.job.now) (job_from c.in-Ok.read) (sym c.in-Some.ensures.named) read (cc)

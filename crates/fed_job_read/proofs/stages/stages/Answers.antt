@@ -1,18 +1,31 @@
 use Rattle.std.proofs.Common.{◌≡◌, ap, sym, ◌∙◌, refl}
-use Rattle.serde_json.specs.View.{view}
+use Rattle.std.specs.Prelude.{codes}
 use Rattle.fed_json.specs.Reading.{mapped, both}
+use Rattle.fed_json.specs.Values.{truth_of}
+use Rattle.fed_job_json.specs.Grants.{grant_of}
+use Rattle.fed_job_json.specs.Progress.{progress_of}
+use Rattle.fed_job_json.specs.Members.{members_value}
 use Rattle.fed_job_json.specs.Parts.{stages_value}
+use Rattle.fed_job_json.proofs.MemberLaws.{found}
 use Rattle.fed_job_json.proofs.PartLaws.{stages_read}
 use Rattle.fed_job_read.proofs.stages.stages.Goals as goal
 
 pub returns-in-Ok : goal.returns-in-Ok
 returns-in-Ok c =
-    let read = stages_read c.args.format (view c.args.job.now) c.deleted_member.result c.grant_member.result c.progress_member.result c.deleted_member.ensures c.grant_member.ensures c.progress_member.ensures in
-    let whole : both c.deleted_member.result (both c.grant_member.result c.progress_member.result) ≡ c.both.result = rw (c.both.ensures, c.both-others.ensures) refl in
+    let m = c.args.members.now in
+    let read = stages_read c.args.format (members_value m) c.truth.result c.grant.result c.progress.result
+    (c.truth.ensures ∙ found m (codes "deleted") m.deleted truth_of refl refl)
+    (c.grant.ensures ∙ found m (codes "grant") m.grant (grant_of c.args.format) refl refl)
+    (c.progress.ensures ∙ found m (codes "progress") m.progress progress_of refl refl) in
+    let whole : both c.truth.result (both c.grant.result c.progress.result) ≡ c.both.result = rw (c.both.ensures, c.both-others.ensures) refl in
     sym (ap (mapped (λ q. stages_value (record { deleted = q.0; grant = q.1.0; progress = q.1.1 }))) (whole ∙ c.in-Ok.is)) ∙ read
 
 pub returns-in-Err : goal.returns-in-Err
 returns-in-Err c =
-    let read = stages_read c.args.format (view c.args.job.now) c.deleted_member.result c.grant_member.result c.progress_member.result c.deleted_member.ensures c.grant_member.ensures c.progress_member.ensures in
-    let whole : both c.deleted_member.result (both c.grant_member.result c.progress_member.result) ≡ c.both.result = rw (c.both.ensures, c.both-others.ensures) refl in
+    let m = c.args.members.now in
+    let read = stages_read c.args.format (members_value m) c.truth.result c.grant.result c.progress.result
+    (c.truth.ensures ∙ found m (codes "deleted") m.deleted truth_of refl refl)
+    (c.grant.ensures ∙ found m (codes "grant") m.grant (grant_of c.args.format) refl refl)
+    (c.progress.ensures ∙ found m (codes "progress") m.progress progress_of refl refl) in
+    let whole : both c.truth.result (both c.grant.result c.progress.result) ≡ c.both.result = rw (c.both.ensures, c.both-others.ensures) refl in
     sym (ap (mapped (λ q. stages_value (record { deleted = q.0; grant = q.1.0; progress = q.1.1 }))) (whole ∙ c.in-Err.is)) ∙ read
