@@ -30,8 +30,8 @@ pub fn has_names(value: &Value, names: &[&str]) -> bool
     wanted.is_empty()
 }
 
-/// Whether it is an object with exactly these names, which ascend. If so, `members` then has the values of its members,
-/// in the order of their names.
+/// Whether it is an object with exactly these names, which ascend. If so, `members`, which must be as long as `names`,
+/// then has the values of its members, in the order of their names. If not, some of `members` may have been set.
 pub fn read_members<'a>(value: &'a Value, names: &[&str], members: &mut [&'a Value]) -> bool
     requires { length members.old ≡ length names.now }
     ensures named { result ≡ has_just_names (map (λ n. n.now) names.now) (view value.now) }
