@@ -9,8 +9,6 @@ use Rattle.fed_replica.specs.State.{State}
 use Rattle.fed_script.specs.Line.{own_line, told}
 use Rattle.fed_script.specs.Lines.{is_readable, is_readable_byte, words_of}
 use Rattle.fed_script.specs.Forms.{◌>>=◌}
-use Rattle.fed_looks.specs.Look.{Look}
-use Rattle.fed_looks.specs.LookLine.{look_in_line}
 use Rattle.fed_site.specs.Journal.{kept_line, kept_lines}
 use Rattle.fed_site.specs.Says.{after_look, after_text, after_told, site_says}
 use Rattle.fed_journal.specs.Lines.{IsLine, is_line_feed}
@@ -42,14 +40,14 @@ module _ (roster : List (List ℕ × ℕ)) (s : State) (line : List ℕ) where
   own_kept false e = cc
 
   -- nor is one that asks for a look
-  look_kept : (look : Option Look) → (after_look roster s line look).kept ≡ true → IsLine line
+  look_kept : (look : Option _) → (after_look roster s line look).kept ≡ true → IsLine line
   look_kept None e = readable_line line (own_kept (is_readable line) e)
   look_kept (Some look) e = cc
 
   packet_kept : (starts feeds : Bool) → list_any (nat_eq 10) line ≡ feeds → (after_text roster s line (if starts && not feeds then Some (drop 5 line) else None)).kept ≡ true → IsLine line
   packet_kept true false f e = no_line_feed line f
-  packet_kept true true f e = look_kept (look_in_line roster s.site line) e
-  packet_kept false feeds f e = look_kept (look_in_line roster s.site line) e
+  packet_kept true true f e = look_kept _ e
+  packet_kept false feeds f e = look_kept _ e
 
   pub kept_is_line : (site_says roster s line).kept ≡ true → IsLine line
   kept_is_line e = packet_kept (starts_with nat_eq line (codes "take ")) (list_any (nat_eq 10) line) refl e
