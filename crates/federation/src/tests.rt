@@ -178,7 +178,7 @@ fn refused<'a>(words: &'a [&'a str]) -> Case<'a> {
     }
 }
 
-fn cases() -> [Case<'static>; 12] {
+fn cases() -> [Case<'static>; 14] {
     let script = b"roster a:1\na ann qsub\n";
     [
         ran(script, b"1.a\n"),
@@ -206,6 +206,17 @@ fn cases() -> [Case<'static>; 12] {
         refused(&["federation", "requeue"]),
         refused(&["federation", "replay", "replay"]),
         refused(&["federation", "--help"]),
+        Case {
+            words: &["federation", "--version"],
+            ..ran(b"", b"federation 1.0.0 (logic dac8208d650f15bf)\n")
+        },
+        Case {
+            words: &["federation", "-V"],
+            room: 3,
+            status: 3,
+            errors: b"failed\n",
+            ..ran(b"", b"")
+        },
         Case {
             input: Source {
                 rest: script,

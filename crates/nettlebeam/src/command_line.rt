@@ -97,7 +97,7 @@ fn command<'a>(alloc: Global) -> Result<Command<'a>, AllocError>
 {
     Command::new(alloc, "nettlebeam")
         .about(ABOUT)
-        .version("1.0.0")
+        .version("1.0.0 (logic dac8208d650f15bf)")
         .subcommand_required(true)
         .subcommand(init(alloc)?)?
         .subcommand(at(alloc)?)?
