@@ -9,6 +9,10 @@ use Rattle.fed_site.specs.Journal.{SaidAs, after_lines, kept_line, kept_lines}
 use Rattle.fed_site.specs.Says.{IsReply, Said, site_says}
 use Rattle.fed_site.specs.Site.{SiteValue}
 use Rattle.fed_site.specs.declared.site.Answered.{Answered}
+use Rattle.std.specs.List.{All}
+use Rattle.std.proofs.lemmas.List.Elements.{All-nil, All-push, All-same}
+use Rattle.fed_reasons.specs.Told.{IsTold, answers_in}
+use Rattle.fed_reasons.specs.declared.tellings.Told.{Told}
 use Rattle.fed_home.specs.Replay.{AreReplies}
 
 -- of all these lines a site has answered those before the rest, so, and has these to keep
@@ -85,3 +89,13 @@ all_replies old now all answers kept run = subst (λ (xs : List Answered). AreRe
 
 pub all_kept : (old now : SiteValue) (all : List (List ℕ)) (answers : List Answered) (kept : List (List ℕ)) → IsRun old now all [] answers kept → kept ≡ kept_lines old.roster (state_of old.replica) all
 all_kept old now all answers kept run = sym (append-nil kept) ∙ run.keeps
+
+-- ---- words
+pub answer_more : (answers new : List Told) (told : Told) (answer : Answered) → new ≡ answers ++ told ∷ [] → told.answer ≡ answer → answers_in new ≡ answers_in answers ++ answer ∷ []
+answer_more answers new told answer e same = ap answers_in e ∙ map-append (λ (t : Told). t.answer) answers (told ∷ []) ∙ ap (λ (a : Answered). answers_in answers ++ a ∷ []) same
+
+pub told_none : (asked : Bool) (answers : List Told) → answers ≡ [] → All (IsTold asked) answers
+told_none asked answers e = All-same (IsTold asked) answers [] e (All-nil (IsTold asked))
+
+pub told_more : (asked : Bool) (answers new : List Told) (told : Told) → All (IsTold asked) answers → IsTold asked told → new ≡ answers ++ told ∷ [] → All (IsTold asked) new
+told_more asked answers new told all one e = All-same (IsTold asked) new (answers ++ told ∷ []) e (All-push (IsTold asked) answers told all one)

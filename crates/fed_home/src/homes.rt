@@ -1,6 +1,8 @@
 //! Sites on a disk. Whatever a site says rests on entries that the disk has had before.
 ghost use Rattle.std.specs.Prelude.{◌≡◌, ◌++◌, ◌∷◌, [], List, ℕ, Ok, length, map, IfErr, IfOk, MatchResult, OnOk};
+ghost use Rattle.std.specs.List.{All};
 ghost use Rattle.fed_site.specs.Journal.{after_lines, kept_lines};
+ghost use Rattle.fed_reasons.specs.Told.{IsTold, answers_in};
 ghost use Rattle.fed_journal.specs.Device.{LeavesJust, LeavesOnly};
 ghost use Rattle.fed_journal.specs.Journal.{IsBeforeOrAfter, IsRead, IsSettled, device_of, entries_in};
 ghost use Rattle.fed_journal.specs.Lines.{Stands, at_rest, recovered, texts_of};
@@ -12,7 +14,8 @@ use crate::faults::HomeFault;
 use crate::headers::read_header;
 use crate::runs::{answer_lines, replay};
 use fed_journal::{Device, Journal};
-use fed_site::{Answered, Site};
+use fed_reasons::Told;
+use fed_site::Site;
 use std::alloc::Global;
 
 /// A site and its journal. It is read by `open`, and answers lines once `repair` has brought its file to rest.
@@ -152,13 +155,15 @@ impl<D: Device + Drop> Home<D> {
     }
 
     /// Answers lines, one after another. Those that changed what the site holds are one group of the journal, which the disk
-    /// has before an answer is given. After an `Err`, which is `Full`, `Failed` or `NoMemory`, no line was answered, the file
-    /// may have the group or not, and the home has to be opened again.
-    pub fn answer(&mut self, lines: &[&[u8]]) -> Result<Vec<Answered>, HomeFault>
+    /// has before an answer is given. Words that are asked for are of the site as the line left it. After an `Err`, which is
+    /// `Full`, `Failed` or `NoMemory`, no line was answered, the file may have the group or not, and the home has to be opened
+    /// again.
+    pub fn answer(&mut self, lines: &[&[u8]], asked: bool) -> Result<Vec<Told>, HomeFault>
         requires { IsOpen D.seen D.may_leave self.old }
         ensures open { IfOk result (λ answers. IsOpen D.seen D.may_leave self.new) }
         ensures answers { IfOk result (λ answers.
-            AreReplies (site_of self.old).roster (state_in self.old) (map (λ line. line.now) lines.now) answers.items) }
+            AreReplies (site_of self.old).roster (state_in self.old) (map (λ line. line.now) lines.now) (answers_in answers.items)) }
+        ensures words { IfOk result (λ answers. All (IsTold asked) answers.items) }
         ensures kept { IfOk result (λ answers. recovered (D.seen (home_device self.new)) ≡
             Ok (entries_in (D.seen (home_device self.old)) ++ kept_lines (site_of self.old).roster (state_in self.old) (map (λ line. line.now) lines.now))) }
         ensures roster { IfOk result (λ answers. (site_of self.new).roster ≡ (site_of self.old).roster) }
@@ -173,7 +178,7 @@ impl<D: Device + Drop> Home<D> {
             (length (at_rest (entries_in (D.seen (home_device self.old))
             ++ kept_lines (site_of self.old).roster (state_in self.old) (map (λ line. line.now) lines.now))))) }
     {
-        let run = answer_lines(self.alloc, &mut self.site, lines)?;
+        let run = answer_lines(self.alloc, &mut self.site, lines, asked)?;
         self.journal.append(&run.kept)?;
         Ok(run.answers)
     }

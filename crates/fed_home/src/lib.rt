@@ -13,6 +13,7 @@ pub mod laws;
 pub mod runs;
 
 pub use faults::HomeFault;
+pub use fed_reasons::Told;
 pub use headers::{Header, read_header};
 pub use homes::{Home, Unopened};
 pub use runs::replay;

@@ -1,7 +1,9 @@
 //! What entries and lines come to at a site.
 ghost use Rattle.std.specs.Prelude.{◌≡◌, Some, IfErr, IfOk, map};
+ghost use Rattle.std.specs.List.{All};
 ghost use Rattle.fed_replica.specs.State.{state_of};
 ghost use Rattle.fed_site.specs.Journal.{after_lines, kept_lines};
+ghost use Rattle.fed_reasons.specs.Told.{IsTold, answers_in};
 ghost use Rattle.fed_journal.specs.Lines.{texts_of};
 ghost use Rattle.fed_home.specs.Fault.{StopsReplay};
 ghost use Rattle.fed_home.specs.Replay.{AreReplies, replay as replay_of, replayed_of};
@@ -9,7 +11,8 @@ ghost use Rattle.fed_home.specs.Replay.{AreReplies, replay as replay_of, replaye
 use crate::faults::HomeFault;
 use crate::headers::read_header;
 use fed_lattice::NoMemory;
-use fed_site::{Answered, Site};
+use fed_reasons::Told;
+use fed_site::Site;
 use std::alloc::{AllocError, Global};
 
 /// The texts of entries.
@@ -41,24 +44,27 @@ pub fn replay(alloc: Global, entries: &[Vec<u8>]) -> Result<Site, HomeFault>
     }
 }
 
-/// The answers to lines, and those of the lines that are to be kept.
+/// What is told of lines, and those of the lines that are to be kept.
 #[derive(Drop)]
 pub(crate) struct Run<'a> {
-    pub(crate) answers: Vec<Answered>,
+    pub(crate) answers: Vec<Told>,
     pub(crate) kept: Vec<&'a [u8]>,
 }
 
-/// Answers lines one after another. Where memory is refused, the site may have done some of them.
+/// Answers lines one after another, with words beside the answers where these are asked for. Where memory is refused, the
+/// site may have done some of them.
 pub(crate) fn answer_lines<'a>(
     alloc: Global,
     site: &mut Site,
     lines: &[&'a [u8]],
+    asked: bool,
 ) -> Result<Run<'a>, NoMemory>
     ensures roster { IfOk result (λ run. site.new.roster ≡ site.old.roster) }
     ensures after { IfOk result (λ run. state_of site.new.replica ≡
         after_lines site.old.roster (state_of site.old.replica) (map (λ line. line.now) lines.now)) }
     ensures answers { IfOk result (λ run.
-        AreReplies site.old.roster (state_of site.old.replica) (map (λ line. line.now) lines.now) run.answers.items) }
+        AreReplies site.old.roster (state_of site.old.replica) (map (λ line. line.now) lines.now) (answers_in run.answers.items)) }
+    ensures words { IfOk result (λ run. All (IsTold asked) run.answers.items) }
     ensures kept { IfOk result (λ run. map (λ line. line.now) run.kept.items ≡
         kept_lines site.old.roster (state_of site.old.replica) (map (λ line. line.now) lines.now)) }
 {
@@ -69,7 +75,8 @@ pub(crate) fn answer_lines<'a>(
         if answered.is_kept() {
             kept.push(*line)?;
         }
-        answers.push(answered)?;
+        let told = Told::new(alloc, site, line, answered, asked)?;
+        answers.push(told)?;
     }
     Ok(Run { answers, kept })
 }

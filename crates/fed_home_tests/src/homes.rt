@@ -4,7 +4,7 @@ ghost use Rattle.fed_journal.specs.Device.{LeavesJust};
 ghost use Rattle.fed_journal.specs.Memory.{memory_may_leave, memory_seen};
 ghost use Rattle.fed_home.specs.Home.{IsOpen};
 
-use fed_home::{Home, HomeFault, read_header};
+use fed_home::{Home, HomeFault, Told, read_header};
 use fed_journal::{FileDevice, Journal, JournalFault, Memory, Tear};
 use fed_script::BoxedRoster;
 use fed_site::{Answered, Site};
@@ -76,13 +76,13 @@ fn made(alloc: Global) -> Result<Vec<u8>, HomeFault> {
 fn answer_groups(home: &mut Home<Memory>) -> usize
     requires { IsOpen memory_seen memory_may_leave home.old }
 {
-    if home.answer(&FIRST).is_err() {
+    if home.answer(&FIRST, false).is_err() {
         return 0;
     }
-    if home.answer(&SECOND).is_err() {
+    if home.answer(&SECOND, false).is_err() {
         return 1;
     }
-    if home.answer(&THIRD).is_err() {
+    if home.answer(&THIRD, false).is_err() {
         return 2;
     }
     3
@@ -121,10 +121,10 @@ fn listed(alloc: Global, groups: usize) -> Result<Answered, Fail> {
 /// Whether the home of a file lists what so many groups leave.
 fn lists_groups(alloc: Global, file: &[u8], groups: usize) -> Result<bool, Fail> {
     let mut home = opened(alloc, file)?;
-    let answers = home.answer(&[b"ann qstat -f"])?;
+    let answers = home.answer(&[b"ann qstat -f"], false)?;
     let wanted = listed(alloc, groups)?;
     match answers.first() {
-        Some(answer) => Ok(answers.len() == 1 && answer.bytes() == wanted.bytes()),
+        Some(told) => Ok(answers.len() == 1 && told.answer.bytes() == wanted.bytes()),
         None => Ok(false),
     }
 }
@@ -153,20 +153,20 @@ fn a_home_is_made_and_answers(rt: HostRuntime) -> Result<(), Fail> {
     let alloc = rt.alloc();
     let file = made(alloc)?;
     let mut home = opened(alloc, &file)?;
-    let answers = home.answer(&[b"ann qsub"])?;
+    let answers = home.answer(&[b"ann qsub"], false)?;
     assert!(rt;
         answers.len() == 1
             && answers
                 .iter()
-                .all(|answer| answer.bytes() == b"1.argonne\n".as_slice())
+                .all(|told| told.answer.bytes() == b"1.argonne\n".as_slice())
     );
     let disk = home.into_device().into_disk();
     let mut again = opened(alloc, &disk)?;
-    let refused = again.answer(&[b"ann qalter -p 5 9"])?;
+    let refused = again.answer(&[b"ann qalter -p 5 9"], false)?;
     assert!(rt;
         refused
             .iter()
-            .all(|answer| answer.bytes() == b"refused 1\n".as_slice())
+            .all(|told| told.answer.bytes() == b"refused 1\n".as_slice())
     );
     assert!(rt; again.site().roster().len() == 2);
     assert!(rt; again.into_device().into_disk() == disk);
@@ -284,14 +284,14 @@ fn faults_say_the_cause(rt: HostRuntime) -> Result<(), Fail> {
 }
 
 /// Opens a home on the disk, and answers the first and second group.
-fn answer_in_file(rt: &HostRuntime, directory: &str) -> Result<Vec<Answered>, Fail> {
+fn answer_in_file(rt: &HostRuntime, directory: &str) -> Result<Vec<Told>, Fail> {
     let device = FileDevice::open(rt, directory, "journal")?;
     match Home::open(rt.alloc(), device) {
         Err(unopened) => Err(Fail::from(unopened.fault)),
         Ok((mut home, _)) => {
             home.repair()?;
-            home.answer(&FIRST)?;
-            Ok(home.answer(&SECOND)?)
+            home.answer(&FIRST, false)?;
+            Ok(home.answer(&SECOND, false)?)
         }
     }
 }

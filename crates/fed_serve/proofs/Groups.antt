@@ -3,11 +3,16 @@ use Rattle.std.specs.Prelude.{IfErr, IfSome, IsErrAnd, OnOk, Some, None, Option,
 use Rattle.std.specs.Io.KnownBytes.{Appends, Consumes, IsAtEnd, Keeps}
 use Rattle.std.proofs.Common.{◌≡◌, inl, inr, ℕ, List, [], ◌∷◌, ◌++◌, take, refl, sym, ap, subst, ◌∙◌, append_assoc, append-nil}
 use Rattle.std.proofs.lemmas.Grind.{flat_map-append}
+use Rattle.std.proofs.lemmas.List.{map-append}
+use Rattle.std.proofs.lemmas.List.Elements.{All-append, All-nil}
+use Rattle.std.specs.Prelude.{Bool}
+use Rattle.std.specs.List.{All}
 use Rattle.fed_replica.specs.State.{State}
-use Rattle.fed_site.specs.Answered.{bytes_of}
 use Rattle.fed_site.specs.Journal.{after_lines, kept_line, kept_lines}
 use Rattle.fed_site.specs.Says.{site_says}
 use Rattle.fed_site.specs.declared.site.Answered.{Answered}
+use Rattle.fed_reasons.specs.Told.{IsTold, answers_in}
+use Rattle.fed_reasons.specs.declared.tellings.Told.{Told}
 use Rattle.fed_journal.specs.Device.{LeavesOnly}
 use Rattle.fed_journal.specs.Journal.{IsBeforeOrAfter, entries_in, entries_of}
 use Rattle.fed_journal.specs.Lines.{Reading, recovered}
@@ -19,7 +24,8 @@ use Rattle.fed_home.specs.declared.homes.Home.{Home}
 use Rattle.fed_home.proofs.Replays.{after_both}
 use Rattle.fed_serve.specs.Inputs.{HasNoLineFeed, lines_in}
 use Rattle.fed_serve.proofs.InputLines.{Takes}
-use Rattle.fed_serve.specs.Served.{HasAnswered, HasServed, KeepsSome, ServesAs, WritesNothing, answered_text}
+use Rattle.fed_serve.specs.Served.{HasAnswered, HasServed, KeepsSome, ServesAs, WritesNothing}
+use Rattle.fed_serve.specs.Written.{told_bytes, told_text}
 use Rattle.fed_serve.specs.declared.faults.ServeFault.{ServeFault}
 use Rattle.fed_serve.specs.declared.faults.ServeFault.TheVariants as serve
 
@@ -79,40 +85,43 @@ module _ (roster : List (List ℕ × ℕ)) where
   replies_both s (line ∷ first) second [] ys a b = absurd a
   replies_both s (line ∷ first) second (x ∷ xs) ys a b = (a.0, a.1, a.2, replies_both (site_says roster s line).after first second xs ys a.3 b)
 
-  pub answered_none : (s : State) (known : Option (List ℕ)) → HasAnswered roster s [] known known
-  answered_none s known = ([], tt, appends_none known)
+-- ---- answers after answers, with words or without
+module _ (asked : Bool) (roster : List (List ℕ × ℕ)) where
+  pub answered_none : (s : State) (known : Option (List ℕ)) → HasAnswered asked roster s [] known known
+  answered_none s known = ([], tt, All-nil (IsTold asked), appends_none known)
 
-  pub answered_both : (s : State) (first second : List (List ℕ)) (a b c : Option (List ℕ)) → HasAnswered roster s first a b → HasAnswered roster (after_lines roster s first) second b c → HasAnswered roster s (first ++ second) a c
+  pub answered_both : (s : State) (first second : List (List ℕ)) (a b c : Option (List ℕ)) → HasAnswered asked roster s first a b → HasAnswered asked roster (after_lines roster s first) second b c → HasAnswered asked roster s (first ++ second) a c
   answered_both s first second a b c one two = (
     one.0 ++ two.0,
-    replies_both s first second one.0 two.0 one.1 two.1,
-    subst (Appends a c) (sym (flat_map-append (λ answer. bytes_of answer ++ 10 ∷ []) one.0 two.0)) (appends_more a b c (answered_text one.0) (answered_text two.0) one.2 two.2),
+    subst (AreReplies roster s (first ++ second)) (sym (map-append (λ (told : Told). told.answer) one.0 two.0)) (replies_both roster s first second (answers_in one.0) (answers_in two.0) one.1 two.1),
+    All-append (IsTold asked) one.0 two.0 one.2 two.2,
+    subst (Appends a c) (sym (flat_map-append told_bytes one.0 two.0)) (appends_more a b c (told_text one.0) (told_text two.0) one.3 two.3),
   )
 
-  pub answered_kept : (s : State) (given : List (List ℕ)) (a b c : Option (List ℕ)) → HasAnswered roster s given a b → Keeps b c → HasAnswered roster s given a c
-  answered_kept s given a b c one same = (one.0, one.1, appends_kept a b c (answered_text one.0) one.2 same)
+  pub answered_kept : (s : State) (given : List (List ℕ)) (a b c : Option (List ℕ)) → HasAnswered asked roster s given a b → Keeps b c → HasAnswered asked roster s given a c
+  answered_kept s given a b c one same = (one.0, one.1, one.2, appends_kept a b c (told_text one.0) one.3 same)
 
 -- ---- the entries of an open site
 some_entries : (r : Reading) (x : Replayed) → replay (entries_of r) ≡ Some x → r ≡ Ok (entries_of r)
 some_entries (Ok entries) x e = refl
 some_entries (Err line) x e = cc
 
-module _ {D : Type 0} (seen : D → List ℕ) (may_leave : D → List ℕ → Type 0) where
+module _ {D : Type 0} (asked : Bool) (seen : D → List ℕ) (may_leave : D → List ℕ → Type 0) where
   -- the entries of an open site
   open_entries : (home : Home D) → IsOpen seen may_leave home → recovered (seen (home_device home)) ≡ Ok (entries_in (seen (home_device home)))
   open_entries home opened = some_entries (recovered (seen (home_device home))) (replayed_of (site_of home)) opened.replayed
 
-  served_none : (home : Home D) (known : Option (List ℕ)) → IsOpen seen may_leave home → HasServed seen may_leave home home [] known known
+  served_none : (home : Home D) (known : Option (List ℕ)) → IsOpen seen may_leave home → HasServed asked seen may_leave home home [] known known
   served_none home known opened = record {
     is_open = opened;
     roster = refl;
     left = refl;
     kept = open_entries home opened ∙ ap Ok (sym (append-nil (entries_in (seen (home_device home)))));
-    answered = answered_none (site_of home).roster (state_in home) known;
+    answered = answered_none asked (site_of home).roster (state_in home) known;
   }
 
-  served_both : (old mid new : Home D) (first second : List (List ℕ)) (a b c : Option (List ℕ)) → HasServed seen may_leave old mid first a b → HasServed seen may_leave mid new second b c
-      → HasServed seen may_leave old new (first ++ second) a c
+  served_both : (old mid new : Home D) (first second : List (List ℕ)) (a b c : Option (List ℕ)) → HasServed asked seen may_leave old mid first a b → HasServed asked seen may_leave mid new second b c
+      → HasServed asked seen may_leave old new (first ++ second) a c
   served_both old mid new first second a b c one two =
       let r = (site_of old).roster in
       let s = state_in old in
@@ -123,8 +132,8 @@ module _ {D : Type 0} (seen : D → List ℕ) (may_leave : D → List ℕ → Ty
         left = two.left ∙ (λ i. after_lines (one.roster i) (one.left i) second) ∙ sym (after_both r s first second);
         kept = two.kept ∙ (λ i. Ok (entries_of (one.kept i) ++ kept_lines (one.roster i) (one.left i) second))
             ∙ ap Ok (append_assoc e (kept_lines r s first) (kept_lines r (after_lines r s first) second) ∙ ap (λ ls. e ++ ls) (sym (kept_both r s first second)));
-        answered = answered_both r s first second a b c one.answered
-            (subst (λ (t : State). HasAnswered r t second b c) one.left (subst (λ (q : List (List ℕ × ℕ)). HasAnswered q (state_in mid) second b c) one.roster two.answered));
+        answered = answered_both asked r s first second a b c one.answered
+            (subst (λ (t : State). HasAnswered asked r t second b c) one.left (subst (λ (q : List (List ℕ × ℕ)). HasAnswered asked q (state_in mid) second b c) one.roster two.answered));
       }
 
   -- ---- crashes
@@ -151,7 +160,7 @@ module _ {D : Type 0} (seen : D → List ℕ) (may_leave : D → List ℕ → Ty
     leaves_none home all opened only = still moment left_since (home_device home) _
         (λ c left. ([], all, refl, ap recovered (opened.settled.read.durable c (only c left)) ∙ open_entries home opened ∙ ap Ok (sym (append-nil (entries_in (seen (home_device home)))))))
 
-    leaves_more : (old mid new : Home D) (all first group rest : List (List ℕ)) (a b : Option (List ℕ)) → HasServed seen may_leave old mid first a b → all ≡ first ++ (group ++ rest)
+    leaves_more : (old mid new : Home D) (all first group rest : List (List ℕ)) (a b : Option (List ℕ)) → HasServed asked seen may_leave old mid first a b → all ≡ first ++ (group ++ rest)
         → Leaves old mid all → LeavesGroup mid new group → Leaves old new all
     leaves_more old mid new all first group rest a b one is run more =
         let r = (site_of old).roster in
@@ -172,7 +181,7 @@ module _ {D : Type 0} (seen : D → List ℕ) (may_leave : D → List ℕ → Ty
 
     pub record IsServing (old now : Home D) (had has : Option (List ℕ)) (begun : List ℕ) (before after : Option (List ℕ)) : Type 0 where
       pub given : List (List ℕ)
-      pub served : HasServed seen may_leave old now given before after
+      pub served : HasServed asked seen may_leave old now given before after
       pub come : HasCome had has given begun
       pub leaves : IfSome had (λ input. Leaves old now (lines_in input))
       pub none : HasNoLineFeed begun
@@ -227,7 +236,7 @@ module _ {D : Type 0} (seen : D → List ℕ) (may_leave : D → List ℕ → Ty
     come_more (Some input) (Some xs) (Some ys) given begun chunk taken left takes come consumed =
         taken_lines input given begun chunk taken left xs ys takes come consumed ∙ sym (append_assoc given (lines_in taken) (lines_in (left ++ ys)))
 
-    leaves_chunk : (old mid new : Home D) (had has now : Option (List ℕ)) (given : List (List ℕ)) (begun chunk taken left : List ℕ) (a b : Option (List ℕ)) → HasServed seen may_leave old mid given a b
+    leaves_chunk : (old mid new : Home D) (had has now : Option (List ℕ)) (given : List (List ℕ)) (begun chunk taken left : List ℕ) (a b : Option (List ℕ)) → HasServed asked seen may_leave old mid given a b
         → Takes begun chunk taken left → HasCome had has given begun → Consumes has now chunk → IfSome had (λ input. Leaves old mid (lines_in input)) → LeavesGroup mid new (lines_in taken) → IfSome had (λ input. Leaves old new (lines_in input))
     leaves_chunk old mid new None has now given begun chunk taken left a b one takes come consumed run more = tt
     leaves_chunk old mid new (Some input) None now given begun chunk taken left a b one takes come consumed run more = absurd come
@@ -241,7 +250,7 @@ module _ {D : Type 0} (seen : D → List ℕ) (may_leave : D → List ℕ → Ty
         leaves_chunk old mid new had has now run.given begun chunk taken left a b run.served takes run.come consumed run.leaves more
 
     pub serving_more : (old mid new : Home D) (had has now : Option (List ℕ)) (begun chunk taken left : List ℕ) (a b c : Option (List ℕ)) → IsServing old mid had has begun a b → Takes begun chunk taken left → Consumes has now chunk
-        → HasServed seen may_leave mid new (lines_in taken) b c → LeavesGroup mid new (lines_in taken) → IsServing old new had now left a c
+        → HasServed asked seen may_leave mid new (lines_in taken) b c → LeavesGroup mid new (lines_in taken) → IsServing old new had now left a c
     serving_more old mid new had has now begun chunk taken left a b c run takes consumed two more = record {
       given = run.given ++ lines_in taken;
       served = served_both old mid new run.given (lines_in taken) a b c run.served two;
@@ -275,26 +284,26 @@ module _ {D : Type 0} (seen : D → List ℕ) (may_leave : D → List ℕ → Ty
     first_lines (Some input) (Some more) given begun come = (lines_in (begun ++ more), come)
 
     stopped : (old mid new : Home D) (had has : Option (List ℕ)) (begun : List ℕ) (a b c : Option (List ℕ)) → IsServing old mid had has begun a b → Keeps b c
-        → IfSome had (λ input. (first : List (List ℕ)) × (rest : List (List ℕ)) × (lines_in input ≡ first ++ rest) × HasAnswered (site_of old).roster (state_in old) first a c)
+        → IfSome had (λ input. (first : List (List ℕ)) × (rest : List (List ℕ)) × (lines_in input ≡ first ++ rest) × HasAnswered asked (site_of old).roster (state_in old) first a c)
     stopped old mid new had has begun a b c run same =
         if_some_so had _ _ (first_lines had has run.given begun run.come)
-        (λ input rest. (run.given, rest.0, rest.1, answered_kept (site_of old).roster (state_in old) run.given a b c run.served.answered same))
+        (λ input rest. (run.given, rest.0, rest.1, answered_kept asked (site_of old).roster (state_in old) run.given a b c run.served.answered same))
 
     pub serving_fault : (old mid new : Home D) (had has : Option (List ℕ)) (begun : List ℕ) (a b c : Option (List ℕ)) (fault : ServeFault) → IsServing old mid had has begun a b → WritesNothing b c fault
-        → IfSome had (λ input. ServesAs seen may_leave old new (lines_in input) a c (Err fault))
+        → IfSome had (λ input. ServesAs asked seen may_leave old new (lines_in input) a c (Err fault))
     serving_fault old mid new had has begun a b c (serve.Home fault) run nothing = stopped old mid new had has begun a b c run nothing
     serving_fault old mid new had has begun a b c (serve.Read error) run nothing = stopped old mid new had has begun a b c run nothing
     serving_fault old mid new had has begun a b c (serve.Write error) run nothing = if_some had _ (λ input. tt)
 
     -- what is left where memory is refused, or the input can't be read
     pub serving_memory : (old mid new : Home D) (had has : Option (List ℕ)) (begun : List ℕ) (a b : Option (List ℕ)) (r : Result (Unit {0}) ServeFault) → IsServing old mid had has begun a b
-        → IsErrAnd r (λ fault. fault ≡ serve.Home home.NoMemory) → IfSome had (λ input. ServesAs seen may_leave old new (lines_in input) a b r)
+        → IsErrAnd r (λ fault. fault ≡ serve.Home home.NoMemory) → IfSome had (λ input. ServesAs asked seen may_leave old new (lines_in input) a b r)
     serving_memory old mid new had has begun a b (Ok done) run e = absurd e
     serving_memory old mid new had has begun a b (Err fault) run e = serving_fault old mid new had has begun a b b fault run (subst (WritesNothing b b) (sym e) (keeps_same b))
 
     pub serving_ends : (old mid new : Home D) (had has now : Option (List ℕ)) (begun : List ℕ) (a b c : Option (List ℕ)) (r : Result (Unit {0}) ServeFault) → IsServing old mid had has begun a b → Consumes has now [] → IsAtEnd now
-        → OnOk r (HasServed seen may_leave mid new (lines_in begun) b c) → IfErr r (WritesNothing b c) → IfSome had (λ input. ServesAs seen may_leave old new (lines_in input) a c r)
+        → OnOk r (HasServed asked seen may_leave mid new (lines_in begun) b c) → IfErr r (WritesNothing b c) → IfSome had (λ input. ServesAs asked seen may_leave old new (lines_in input) a c r)
     serving_ends old mid new had has now begun a b c (Ok done) run consumed ended two nothing =
         if_some_so had _ _ (come_end had has now run.given begun run.come consumed ended)
-        (λ input is. subst (λ (ls : List (List ℕ)). HasServed seen may_leave old new ls a c) (sym is) (served_both old mid new run.given (lines_in begun) a b c run.served two))
+        (λ input is. subst (λ (ls : List (List ℕ)). HasServed asked seen may_leave old new ls a c) (sym is) (served_both old mid new run.given (lines_in begun) a b c run.served two))
     serving_ends old mid new had has now begun a b c (Err fault) run consumed ended two nothing = serving_fault old mid new had has begun a b c fault run nothing

@@ -3,3 +3,4 @@ pub mod Fault
 pub mod Inputs
 pub mod Served
 pub mod Words
+pub mod Written

@@ -5,10 +5,14 @@
 pub mod faults;
 /// The lines of an input.
 mod inputs;
+/// Laws of what is written.
+pub mod laws;
 /// Lines whose words are given apart.
 pub mod lines;
 /// Answering an input.
 pub mod serving;
+/// What is written to lines.
+mod written;
 
 pub use faults::ServeFault;
 pub use inputs::{MAX_LINE_BYTES, heard};

@@ -6,15 +6,15 @@ ghost use Rattle.fed_journal.specs.Device.{LeavesOnly};
 ghost use Rattle.fed_journal.specs.Journal.{IsBeforeOrAfter, entries_in};
 ghost use Rattle.fed_site.specs.Journal.{kept_lines};
 ghost use Rattle.fed_home.specs.Home.{IsOpen, state_in, home_device, site_of};
-ghost use Rattle.fed_serve.specs.Served.{HasServed, KeepsSome, ServesAs, StopsServing, WritesNothing, answered_text};
+ghost use Rattle.fed_serve.specs.Served.{HasServed, KeepsSome, ServesAs, StopsServing, WritesNothing};
 ghost use Rattle.fed_serve.specs.Inputs.{lines_in};
 
 use crate::faults::ServeFault;
 use crate::inputs::{heard_lines, take_lines};
+use crate::written::answers_text;
 use fed_home::Home;
 use fed_journal::Device;
-use fed_site::Answered;
-use std::alloc::{AllocError, Global};
+use std::alloc::Global;
 use std::io::{ErrorKind, Read, Write};
 
 /// The bytes that are asked for at once. The lines among those that come are one group.
@@ -43,27 +43,16 @@ fn read_chunk<R: Read>(reader: &mut R, chunk: &mut [u8]) -> Result<usize, ServeF
     Err(ServeFault::Read(ErrorKind::Interrupted.into()))
 }
 
-/// The text of answers, an empty line behind each.
-fn answers_text(alloc: Global, answers: &[Answered]) -> Result<Vec<u8>, AllocError>
-    ensures { IfOk result (λ text. text.items ≡ answered_text answers.now) }
-{
-    let mut text = Vec::new(alloc);
-    for answer in answers {
-        text.extend_from_slice(answer.bytes())?;
-        text.push(b'\n')?;
-    }
-    Ok(text)
-}
-
 /// Answers the lines of a text as one group.
 fn answer_text<D: Device + Drop, W: Write>(
     alloc: Global,
     home: &mut Home<D>,
     text: &[u8],
     writer: &mut W,
+    asked: bool,
 ) -> Result<(), ServeFault>
     requires { IsOpen D.seen D.may_leave home.old }
-    ensures served { OnOk result (HasServed D.seen D.may_leave home.old home.new (lines_in text.now) (W.contents writer.old) (W.contents writer.new)) }
+    ensures served { OnOk result (HasServed asked D.seen D.may_leave home.old home.new (lines_in text.now) (W.contents writer.old) (W.contents writer.new)) }
     ensures nothing { IfErr result (WritesNothing (W.contents writer.old) (W.contents writer.new)) }
     ensures any_moment { LeavesOnly D.moment D.left_since (home_device home.old) (home_device home.new)
         (IsBeforeOrAfter (entries_in (D.seen (home_device home.old)))
@@ -71,7 +60,7 @@ fn answer_text<D: Device + Drop, W: Write>(
     ensures fault { IfErr result (StopsServing (D.errors (home_device home.new))) }
 {
     let lines = heard_lines(alloc, text)?;
-    let answers = home.answer(&lines)?;
+    let answers = home.answer(&lines, asked)?;
     let said = answers_text(alloc, &answers)?;
     if let Err(error) = writer.write_all(&said) {
         return Err(ServeFault::Write(error));
@@ -82,18 +71,20 @@ fn answer_text<D: Device + Drop, W: Write>(
     }
 }
 
-/// Answers each line of an input, until it ends: the text that the site says to it, and an empty line. The lines that
-/// come together are one group, which the disk has before one of them is answered. Errors: `Home` with `NoMemory`, `Full`
+/// Answers each line of an input, until it ends: the text that the site says to it; where words are asked for and the user
+/// is told something of the line, a line of `# ` and these words; and an empty line. The lines that come together are one
+/// group, which the disk has before one of them is answered. Errors: `Home` with `NoMemory`, `Full`
 /// or `Failed`, `Read` and `Write`. Then the answers to some first lines were written, whole groups, unless a write failed.
 pub fn serve<D: Device + Drop, R: Read, W: Write>(
     alloc: Global,
     home: &mut Home<D>,
     reader: &mut R,
     writer: &mut W,
+    asked: bool,
 ) -> Result<(), ServeFault>
     requires { IsOpen D.seen D.may_leave home.old }
     ensures served { IfSome (R.remaining reader.old) (λ input.
-        ServesAs D.seen D.may_leave home.old home.new (lines_in input) (W.contents writer.old) (W.contents writer.new) result) }
+        ServesAs asked D.seen D.may_leave home.old home.new (lines_in input) (W.contents writer.old) (W.contents writer.new) result) }
 
     // A crash at any moment of the call leaves the entries from before it and, behind them, what some first lines keep.
     ensures any_moment { IfSome (R.remaining reader.old) (λ input.
@@ -105,12 +96,12 @@ pub fn serve<D: Device + Drop, R: Read, W: Write>(
     let mut begun = Vec::new(alloc);
     for _ in 0..u64::MAX {
         let count = match read_chunk(reader, &mut chunk) {
-            Ok(0) => return answer_text(alloc, home, &begun, writer),
+            Ok(0) => return answer_text(alloc, home, &begun, writer, asked),
             Ok(count) => count,
             Err(fault) => return Err(fault),
         };
         let lines = take_lines(alloc, &mut begun, &chunk[..count])?;
-        if let Err(fault) = answer_text(alloc, home, &lines, writer) {
+        if let Err(fault) = answer_text(alloc, home, &lines, writer, asked) {
             return Err(fault);
         }
     }

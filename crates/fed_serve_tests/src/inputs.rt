@@ -22,6 +22,28 @@ const INPUT: &[u8] = b"ann qsub\n\n# a comment\r\nann qstat\nequal a b\n\x07\nan
 const OUTPUT: &[u8] =
     b"1.argonne\n\n\n\n1.argonne          STDIN            ann              Q      0        1      3600 -\n\nusage 1\n\ncannot be read\n\nrefused 1\n\n";
 
+/// Each line is answered by what `at` answers, and told what `at` tells, of the site as the line left it.
+const ASKED: &[u8] =
+    b"ann qsub -l nodes=6\nbob qsub -l nodes=6\nann qalter -p 5 2\nbob qdel 1 9\n# a comment\n\x07\nann qsub -N a -l\n\
+    grant 1 argonne\nann qhold 1\nbegin 1 0\nbegin 1 0\ngrant 2 argonne\nbegin 2 0\nfinish 1 5 0\nfinish 1 5 0\nann qhold 9.fermi\ntake {}\n";
+
+const TOLD: &[u8] = b"1.argonne\n\n2.argonne\n\n\
+    refused 2\n# refused 2 (NotPermitted): ann may not alter 2.argonne, whose owner is bob\n\n\
+    refused 2\nrefused 1\n# refused 2 (NotPermitted): bob may not delete 1.argonne, whose owner is ann\n\n\
+    \n\
+    cannot be read\n# cannot be read: the line has no form that this site knows\n\n\
+    usage 3\n# usage 3 (MissingArgument): -l lacks its argument\n\n\
+    granted\n\n\
+    refused 4\n# refused 4 (Granted): 1.argonne is granted to argonne\n\n\
+    done\n\n\
+    refused 10\n# refused 10 (Begun): 1.argonne has begun at argonne\n\n\
+    granted\n\n\
+    done\n# 2.argonne has begun, and argonne is beyond its nodes: running jobs and reservations use 12 of 8\n\n\
+    done\n\n\
+    refused 3\n# refused 3 (Gone): 1.argonne is finished, with status 0\n\n\
+    usage 6\n# usage 6 (UnknownSite): 9.fermi names a site that the roster has not\n\n\
+    unread 3 whole 0\n# unread 3 whole 0: a part of the packet is missing or has a wrong form\n\n";
+
 /// A file in memory, which does so many calls and stops at the next.
 fn stopping(alloc: Global, file: &[u8], calls: usize) -> Result<Memory, HomeFault>
     ensures { IfOk result (λ device. LeavesJust (memory_seen device) (memory_may_leave device)) }
@@ -100,23 +122,46 @@ impl Write for Room {
 }
 
 /// What is written to an input that comes in pieces, and what the disk then has.
-fn served(alloc: Global, input: &[u8], most: usize) -> Result<(Vec<u8>, Vec<u8>), ServeFault> {
+fn served(
+    alloc: Global,
+    input: &[u8],
+    most: usize,
+    asked: bool,
+) -> Result<(Vec<u8>, Vec<u8>), ServeFault> {
     let mut home = opened(alloc, MADE, usize::MAX)?;
     let mut output = Vec::new(alloc);
-    serve(alloc, &mut home, &mut in_pieces(input, most), &mut output)?;
+    serve(
+        alloc,
+        &mut home,
+        &mut in_pieces(input, most),
+        &mut output,
+        asked,
+    )?;
     Ok((output, home.into_device().into_disk()))
 }
 
 #[test]
 fn an_input_is_answered_however_it_comes(rt: HostRuntime) -> Result<(), Fail> {
     for most in [1, 2, 7, 30, usize::MAX] {
-        let (output, disk) = served(rt.alloc(), INPUT, most)?;
+        let (output, disk) = served(rt.alloc(), INPUT, most, false)?;
         assert_eq!(rt; output.as_slice(), OUTPUT);
         // the digest is by sha256sum, of the one before it and the text
         assert_eq!(rt;
             disk.as_slice(),
             b"+ f935701589470944 nettlebeam 1 argonne argonne:8 lemont:4\n+ f21d6a690739bf6e ann qsub\n-".as_slice()
         );
+    }
+    Ok(())
+}
+
+// The lines of one group and those of many are told the same.
+#[test]
+fn words_are_told_where_they_are_asked_for(rt: HostRuntime) -> Result<(), Fail> {
+    for most in [1, 30, usize::MAX] {
+        let (output, disk) = served(rt.alloc(), ASKED, most, true)?;
+        assert_eq!(rt; output.as_slice(), TOLD);
+        let (_, same) = served(rt.alloc(), ASKED, most, false)?;
+        assert_eq!(rt; disk.as_slice(), same.as_slice());
     }
     Ok(())
 }
@@ -136,7 +181,7 @@ fn faults_are_told(rt: HostRuntime) -> Result<(), Fail> {
     let mut output = Vec::new(alloc);
     let mut input = in_pieces(b"ann qsub\nann q", 9);
     input.end = Some(ErrorKind::TimedOut);
-    let fault = serve(alloc, &mut home, &mut input, &mut output)
+    let fault = serve(alloc, &mut home, &mut input, &mut output, false)
         .err()
         .ok_or("no fault")?;
     assert_eq!(rt; fault.number(), 2);
@@ -153,6 +198,7 @@ fn faults_are_told(rt: HostRuntime) -> Result<(), Fail> {
         &mut home,
         &mut in_pieces(b"ann qsub\nann qsub\n", 9),
         &mut room,
+        false,
     )
     .err()
     .ok_or("no fault")?;
@@ -172,6 +218,7 @@ fn nothing_is_answered_where_the_disk_stops(rt: HostRuntime) -> Result<(), Fail>
             &mut home,
             &mut in_pieces(b"ann qsub\nann qsub\n", 9),
             &mut output,
+            false,
         );
         let answered: &[u8] = if calls < 4 { b"" } else { b"1.argonne\n\n" };
         assert_eq!(rt; output.as_slice(), answered);
@@ -207,14 +254,13 @@ fn words_make_a_line(rt: HostRuntime) -> Result<(), Fail> {
     Ok(())
 }
 
-// Whichever allocation fails, a second attempt answers all.
-#[test]
-fn failed_allocations_of_an_input(rt: HostRuntime) -> Result<(), Fail> {
+/// Whichever allocation fails, a second attempt answers all.
+fn answers_all(rt: &HostRuntime, input: &[u8], asked: bool, wanted: &[u8]) {
     for _ in 0..2 {
-        match served(rt.alloc(), INPUT, 9) {
+        match served(rt.alloc(), input, 9, asked) {
             Ok((output, _)) => {
-                assert_eq!(rt; output.as_slice(), OUTPUT);
-                return Ok(());
+                assert_eq!(rt; output.as_slice(), wanted);
+                return;
             }
             // the output is in memory too
             Err(ServeFault::Write(error)) => {
@@ -224,5 +270,14 @@ fn failed_allocations_of_an_input(rt: HostRuntime) -> Result<(), Fail> {
         }
     }
     assert!(rt; false);
-    Ok(())
+}
+
+#[test]
+fn failed_allocations_of_an_input(rt: HostRuntime) {
+    answers_all(&rt, INPUT, false, OUTPUT);
+}
+
+#[test]
+fn failed_allocations_of_words(rt: HostRuntime) {
+    answers_all(&rt, ASKED, true, TOLD);
 }

@@ -1,10 +1,10 @@
 -- The program's command line, in the words of the parser.
-use Rattle.std.specs.Prelude.{◌≡◌, ◌∷◌, true, List, [], Option, Some, None, codes, if◌then◌else◌, unwrap_or}
+use Rattle.std.specs.Prelude.{◌≡◌, ◌∷◌, Bool, true, List, [], Option, Some, None, codes, if◌then◌else◌, unwrap_or}
 use Rattle.std.specs.Option.{option_map}
 use Rattle.std.specs.Str.{bytes_eq}
 use Rattle.clap.specs.Lexer.{usize_max}
 use Rattle.clap.specs.Words.{App, Row, Rule, Text, all_of, first_of, new_app, new_rule, subcommand_of, takes, with_rule, with_subcommand}
-use Rattle.clap.specs.declared.builder.action.ArgAction.TheVariants.{Append}
+use Rattle.clap.specs.declared.builder.action.ArgAction.TheVariants.{Append, SetTrue}
 
 -- an argument that is required
 abbrev pub required : Text → Rule
@@ -31,6 +31,13 @@ init = with_rule (with_rule (with_directory (codes "init")) (required (codes "SI
 abbrev pub at : App
 at = with_rule (with_directory (codes "at")) line
 
+-- words are asked for
+abbrev pub words : Rule
+words = record (new_rule (codes "words")) { long = Some (codes "words"); action = Some SetTrue }
+
+abbrev pub serve : App
+serve = with_rule (with_directory (codes "serve")) words
+
 abbrev pub bare : App
 bare = record (new_app (codes "nettlebeam")) {
   top = record (new_app (codes "nettlebeam")).top { has_version = true; subcommand_required = true };
@@ -38,14 +45,14 @@ bare = record (new_app (codes "nettlebeam")) {
 
 -- the program's commands
 abbrev pub program : App
-program = with_subcommand (with_subcommand (with_subcommand (with_subcommand bare init.top) at.top)
-    (with_directory (codes "serve")).top) (with_directory (codes "check")).top
+program = with_subcommand (with_subcommand (with_subcommand (with_subcommand bare init.top) at.top) serve.top)
+    (with_directory (codes "check")).top
 
 -- what the program is asked to do with a directory
 pub data TaskValue : Type 0 where
   Makes : (site : Text) → (sites : List Text) → TaskValue
   Answers : (words : List Text) → TaskValue
-  Serves : TaskValue
+  Serves : (words : Bool) → TaskValue
   Checks : TaskValue
 
 pub record AskedValue : Type 0 where
@@ -63,7 +70,7 @@ value_in id rows = unwrap_or (first_of id rows) []
 abbrev pub task_in : Text → List Row → TaskValue
 task_in name rows = if bytes_eq name (codes "init") then Makes (value_in (codes "SITE") rows) (values_in (codes "NAME:NODES") rows)
     else (if bytes_eq name (codes "at") then Answers (values_in (codes "WORD") rows)
-    else (if bytes_eq name (codes "serve") then Serves else Checks))
+    else (if bytes_eq name (codes "serve") then Serves (bytes_eq (value_in (codes "words") rows) (codes "true")) else Checks))
 
 -- what the command of this name is asked by its arguments
 abbrev pub asked_in : Text × List Row → AskedValue

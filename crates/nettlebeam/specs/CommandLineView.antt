@@ -8,7 +8,7 @@ use Rattle.nettlebeam.specs.declared.command_line.Task.TheVariants.{Init, At, Se
 abbrev pub task_of : Task → TaskValue
 task_of (Init site sites) = Makes site.now (map (λ w. w.now) sites.items)
 task_of (At words) = Answers (map (λ w. w.now) words.items)
-task_of Serve = Serves
+task_of (Serve words) = Serves words
 task_of Check = Checks
 
 abbrev pub asked_of : Asked → AskedValue

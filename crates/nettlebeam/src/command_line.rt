@@ -1,7 +1,7 @@
 //! The program's own words.
 ghost use Rattle.std.specs.Prelude.{◌≡◌, ◌∷◌, [], ℕ, List, Some, IfErr, IfOk, OnOk, false, codes, map, string_bytes, true};
 ghost use Rattle.clap.specs.Words.{app_of, fault_of, found_of, kind_of, rows_of, rule_of, takes};
-ghost use Rattle.nettlebeam.specs.CommandLine.{Answers, Asks, Checks, Makes, Serves, asked_by as asked_by_words, asked_in, at as at_app, init as init_app, program, rest as rest_rule, task_in, value_in, values_in, with_directory as app_with_directory};
+ghost use Rattle.nettlebeam.specs.CommandLine.{Answers, Asks, Checks, Makes, Serves, asked_by as asked_by_words, asked_in, at as at_app, init as init_app, program, required as required_rule, rest as rest_rule, serve as serve_app, task_in, value_in, values_in, with_directory as app_with_directory, words as words_rule};
 ghost use Rattle.nettlebeam.specs.CommandLineView.{asked_of, task_of};
 
 use clap::error::ErrorKind;
@@ -15,8 +15,8 @@ pub enum Task<'a> {
     Init { site: &'a str, sites: Vec<&'a str> },
     /// `at`: to answer the line of these words.
     At { words: Vec<&'a str> },
-    /// `serve`: to answer the lines of standard input.
-    Serve,
+    /// `serve`: to answer the lines of standard input, and to tell the words beside an answer where `--words` stands.
+    Serve { words: bool },
     /// `check`: to tell what its journal has.
     Check,
 }
@@ -36,6 +36,11 @@ const AT: &str =
     "Answers one line, whose words are given apart; take reads the packet's text from standard input";
 
 const SERVE: &str = "Answers each line of standard input, and an empty line behind each answer";
+
+const WORDS: &str =
+    "Tells behind an answer, in a line that begins with #, what at tells on standard error";
+
+const SITES: &str = "Each site of the roster and its nodes, in the same order at all sites";
 
 const CHECK: &str = "Tells what the journal has, and changes nothing";
 
@@ -65,18 +70,22 @@ fn rest<'a>(alloc: Global, id: &'a str, help: &'a str) -> Arg<'a>
         .help(help)
 }
 
+/// The argument that names the site.
+fn site<'a>(alloc: Global) -> Arg<'a>
+    ensures rule { rule_of result ≡ required_rule (codes "SITE") }
+    ensures local { result.global ≡ false }
+{
+    Arg::new(alloc, "SITE")
+        .required(true)
+        .help("The site's name")
+}
+
 fn init<'a>(alloc: Global) -> Result<Command<'a>, AllocError>
     ensures { IfOk result (λ command. app_of command ≡ init_app) }
 {
-    let site = Arg::new(alloc, "SITE")
-        .required(true)
-        .help("The site's name");
-    let sites = rest(
-        alloc,
-        "NAME:NODES",
-        "Each site of the roster and its nodes, in the same order at all sites",
-    );
-    with_directory(alloc, "init", INIT)?.arg(site)?.arg(sites)
+    with_directory(alloc, "init", INIT)?
+        .arg(site(alloc))?
+        .arg(rest(alloc, "NAME:NODES", SITES))
 }
 
 fn at<'a>(alloc: Global) -> Result<Command<'a>, AllocError>
@@ -91,6 +100,23 @@ fn at<'a>(alloc: Global) -> Result<Command<'a>, AllocError>
     with_directory(alloc, "at", AT)?.arg(words)
 }
 
+/// The option that asks for words.
+fn words<'a>(alloc: Global) -> Arg<'a>
+    ensures rule { rule_of result ≡ words_rule }
+    ensures local { result.global ≡ false }
+{
+    Arg::new(alloc, "words")
+        .long("words")
+        .action(ArgAction::SetTrue)
+        .help(WORDS)
+}
+
+fn serve<'a>(alloc: Global) -> Result<Command<'a>, AllocError>
+    ensures { IfOk result (λ command. app_of command ≡ serve_app) }
+{
+    with_directory(alloc, "serve", SERVE)?.arg(words(alloc))
+}
+
 /// The program's command line.
 fn command<'a>(alloc: Global) -> Result<Command<'a>, AllocError>
     ensures { IfOk result (λ command. app_of command ≡ program) }
@@ -101,7 +127,7 @@ fn command<'a>(alloc: Global) -> Result<Command<'a>, AllocError>
         .subcommand_required(true)
         .subcommand(init(alloc)?)?
         .subcommand(at(alloc)?)?
-        .subcommand(with_directory(alloc, "serve", SERVE)?)?
+        .subcommand(serve(alloc)?)?
         .subcommand(with_directory(alloc, "check", CHECK)?)
 }
 
@@ -137,7 +163,9 @@ fn task_by<'a>(alloc: Global, name: &str, found: &ArgMatches<'a>) -> Result<Task
         "at" => Ok(Task::At {
             words: values(alloc, found, "WORD")?,
         }),
-        "serve" => Ok(Task::Serve),
+        "serve" => Ok(Task::Serve {
+            words: value(found, "words") == "true",
+        }),
         _ => Ok(Task::Check),
     }
 }
@@ -177,6 +205,7 @@ pub fn commands_are_taken()
         (record { directory = codes "d"; task = Makes (codes "a") (codes "a:8" ∷ codes "b:4" ∷ []) }) }
     ensures at { (name : List ℕ) → Asks name (codes "at" ∷ codes "d" ∷ codes "ann" ∷ codes "qdel" ∷ codes "-h" ∷ codes "--" ∷ codes "-1" ∷ [])
         (record { directory = codes "d"; task = Answers (codes "ann" ∷ codes "qdel" ∷ codes "-h" ∷ codes "--" ∷ codes "-1" ∷ []) }) }
-    ensures serve { (name : List ℕ) → Asks name (codes "serve" ∷ codes "d" ∷ []) (record { directory = codes "d"; task = Serves }) }
+    ensures serve { (name : List ℕ) → Asks name (codes "serve" ∷ codes "d" ∷ []) (record { directory = codes "d"; task = Serves false }) }
+    ensures words { (name : List ℕ) → Asks name (codes "serve" ∷ codes "--words" ∷ codes "d" ∷ []) (record { directory = codes "d"; task = Serves true }) }
     ensures check { (name : List ℕ) → Asks name (codes "check" ∷ codes "d" ∷ []) (record { directory = codes "d"; task = Checks }) }
 {}

@@ -9,12 +9,6 @@ mod directories;
 mod faults;
 /// Making the home of a site.
 mod making;
-/// What the user is told of words that ask nothing.
-mod misused;
-/// What the user is told of a line.
-mod reasons;
-/// What the user is told of a command that is refused.
-mod refused;
 /// What the program does with a site.
 mod tasks;
 

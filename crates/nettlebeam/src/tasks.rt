@@ -6,9 +6,9 @@ use crate::command_line::{Asked, Task};
 use crate::directories::{open_device, open_home};
 use crate::faults::Fault;
 use crate::making::make_home;
-use crate::reasons::{reason_text, warning_text};
 use fed_home::replay;
 use fed_journal::Journal;
+use fed_reasons::words_beside;
 use fed_serve::{MAX_LINE_BYTES, heard, line_of_words, serve, take_line};
 use fed_site::{Answered, Complaint, Site};
 use fed_stamp::{SITES, SiteId};
@@ -48,43 +48,39 @@ fn answered_status(complaint: &Option<Complaint>) -> u8
 
 /// Tells on standard error why a line isn't done as it asks, or what else there is to say of it. The status tells the
 /// first also where standard error takes nothing, or where there is no memory for the words.
-fn tell_user(
-    streams: &(impl Eprint + AllocGlobal),
-    site: &Site,
-    words: &[&str],
-    line: &[u8],
-    complaint: &Option<Complaint>,
-) {
-    let alloc = streams.alloc();
-    match complaint {
-        Some(complaint) => {
-            let _ = match reason_text(alloc, site, words, line, complaint) {
-                Ok(text) => eprintln!(streams; "nettlebeam: {text}"),
-                Err(_) => eprintln!(streams; "nettlebeam: {complaint}"),
-            };
-        }
-        None => {
-            if let Ok(Some(text)) = warning_text(alloc, site, words, line) {
-                let _ = eprintln!(streams; "nettlebeam: {text}");
-            }
-        }
+fn tell_user(streams: &(impl Eprint + AllocGlobal), site: &Site, line: &[u8], answer: &Answered) {
+    let _ = match words_beside(streams.alloc(), site, line, answer) {
+        Ok(Some(words)) => eprintln!(streams; "nettlebeam: {words}"),
+        Ok(None) => Ok(()),
+        Err(_) => tell_cause(streams, answer),
+    };
+}
+
+/// Tells the cause alone of why a line isn't done as it asks, if so.
+fn tell_cause(streams: &impl Eprint, answer: &Answered) -> io::Result<()> {
+    match answer.complaint() {
+        Some(complaint) => eprintln!(streams; "nettlebeam: {complaint}"),
+        None => Ok(()),
     }
 }
 
+/// Writes an answer.
+fn write_answer(streams: &impl Print, answer: &Answered) -> io::Result<()> {
+    let mut writer = io::writer(streams);
+    writer.write_all(answer.bytes())?;
+    writer.flush()
+}
+
 /// Writes an answer, and tells on standard error why the line isn't done as it asks. Gives the status.
-fn write_answer(
+fn give_answer(
     streams: &(impl Print + Eprint + AllocGlobal),
     site: &Site,
-    words: &[&str],
     line: &[u8],
     answer: &Answered,
 ) -> Result<u8, Fault> {
-    let mut writer = io::writer(streams);
-    writer.write_all(answer.bytes()).map_err(Fault::Output)?;
-    writer.flush().map_err(Fault::Output)?;
-    let complaint = answer.complaint();
-    tell_user(streams, site, words, line, &complaint);
-    Ok(answered_status(&complaint))
+    write_answer(streams, answer).map_err(Fault::Output)?;
+    tell_user(streams, site, line, answer);
+    Ok(answered_status(&answer.complaint()))
 }
 
 /// Answers one line.
@@ -98,22 +94,29 @@ fn answer_at(
     let line = read_line(streams, words)?;
     let mut home = open_home(streams, rt, directory)?;
     let given = heard(&line);
-    let answers = home.answer(&[given])?;
+    let answers = home.answer(&[given], false)?;
     match answers.first() {
-        Some(answer) => write_answer(streams, home.site(), words, given, answer),
+        Some(told) => give_answer(streams, home.site(), given, &told.answer),
         None => Ok(0),
     }
 }
 
-/// Answers the lines of standard input.
+/// Answers the lines of standard input, with words behind the answers where these are asked for.
 fn serve_input(
     streams: &(impl Input + Print + Eprint + AllocGlobal),
     rt: &(impl Files<File = File> + Clock + AllocGlobal),
     directory: &str,
+    words: bool,
 ) -> Result<u8, Fault> {
     let mut home = open_home(streams, rt, directory)?;
     let mut writer = io::writer(streams);
-    serve(rt.alloc(), &mut home, &mut streams.reader(), &mut writer)?;
+    serve(
+        rt.alloc(),
+        &mut home,
+        &mut streams.reader(),
+        &mut writer,
+        words,
+    )?;
     Ok(0)
 }
 
@@ -165,7 +168,7 @@ pub fn do_task<R: Files<File = File> + Clock + AllocGlobal + Clone + Drop>(
             Ok(0)
         }
         Task::At { words } => answer_at(streams, rt, directory, words),
-        Task::Serve => serve_input(streams, rt, directory),
+        Task::Serve { words } => serve_input(streams, rt, directory, *words),
         Task::Check => check(streams, rt, directory),
     }
 }

@@ -1,4 +1,4 @@
-use Rattle.std.proofs.Common.{ℕ, List, [], ◌∷◌, codes, refl}
+use Rattle.std.proofs.Common.{ℕ, true, false, List, [], ◌∷◌, codes, refl}
 use Rattle.clap.proofs.OnLiterals.{clap_on_literals}
 use Rattle.nettlebeam.specs.CommandLine.{Answers, Asks, Checks, Makes, Serves}
 use Rattle.nettlebeam.proofs.command_line.commands_are_taken.Goals as goal
@@ -13,13 +13,17 @@ answered : (name : List ℕ) → Asks name (codes "at" ∷ codes "d" ∷ codes "
 unfolding clap_on_literals
 answered name = (refl, refl)
 
-served : (name : List ℕ) → Asks name (codes "serve" ∷ codes "d" ∷ []) (record { directory = codes "d"; task = Serves })
+served : (name : List ℕ) → Asks name (codes "serve" ∷ codes "d" ∷ []) (record { directory = codes "d"; task = Serves false })
 unfolding clap_on_literals
 served name = (refl, refl)
+
+told : (name : List ℕ) → Asks name (codes "serve" ∷ codes "--words" ∷ codes "d" ∷ []) (record { directory = codes "d"; task = Serves true })
+unfolding clap_on_literals
+told name = (refl, refl)
 
 checked : (name : List ℕ) → Asks name (codes "check" ∷ codes "d" ∷ []) (record { directory = codes "d"; task = Checks })
 unfolding clap_on_literals
 checked name = (refl, refl)
 
 pub returns : goal.returns
-returns c = record { init = made; at = answered; serve = served; check = checked }
+returns c = record { init = made; at = answered; serve = served; words = told; check = checked }

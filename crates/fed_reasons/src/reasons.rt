@@ -6,7 +6,7 @@ use fed_board::Board;
 use fed_lattice::NoMemory;
 use fed_qstat::{identifier_text, site_text};
 use fed_record::{Command, JobRecord, Moment, Reservation};
-use fed_script::{Line, read_own_line};
+use fed_script::{Line, first_word, read_own_line};
 use fed_site::{Complaint, Site};
 use fed_stamp::SiteId;
 use std::alloc::Global;
@@ -25,17 +25,16 @@ fn cause_text(alloc: Global, complaint: &Complaint) -> Result<String, NoMemory> 
     Ok(format!(in alloc; "{complaint}")?)
 }
 
-/// Why a line of these words isn't done as it asks, with what was asked of what.
+/// Why a line isn't done as it asks, with what was asked of what.
 pub fn reason_text(
     alloc: Global,
     site: &Site,
-    words: &[&str],
     line: &[u8],
     complaint: &Complaint,
 ) -> Result<String, NoMemory> {
     let told = match complaint {
         Complaint::Refused { index, refusal } => refused_text(alloc, site, line, *index, *refusal)?,
-        Complaint::Misused(fault) => misused_text(alloc, site, words, *fault)?,
+        Complaint::Misused(fault) => misused_text(alloc, site, line, *fault)?,
         Complaint::Gap(lacking) => Some(gap_text(alloc, site, *lacking)?),
         _ => None,
     };
@@ -111,13 +110,8 @@ fn beyond_text(
 
 /// What is said of a line that was done: where it began a job, that the site is beyond its nodes, if so. A job begins
 /// whatever the use of the machine is.
-pub fn warning_text(
-    alloc: Global,
-    site: &Site,
-    words: &[&str],
-    line: &[u8],
-) -> Result<Option<String>, NoMemory> {
-    if words.first() != Some(&"begin") {
+pub fn warning_text(alloc: Global, site: &Site, line: &[u8]) -> Result<Option<String>, NoMemory> {
+    if first_word(line) != Some(b"begin".as_slice()) {
         return Ok(None);
     }
     match read_own_line(alloc, site.roster(), site.here(), line)? {

@@ -2,6 +2,7 @@
 
 use fed_lattice::NoMemory;
 use fed_record::{MAX_LIMIT, MAX_PRIORITY, MIN_PRIORITY};
+use fed_script::told_words;
 use fed_site::Site;
 use fed_stamp::MAX_NODES;
 use fed_words::{Choice, UsageFault, Utility, read_resources, read_words};
@@ -143,16 +144,13 @@ fn word_text(
     }
 }
 
-/// Why the words of a line, the first of which names who asks, ask nothing. `None` where no word of them is at fault.
-pub fn misused_text(
+/// Why these words of a utility ask nothing. `None` where no word of them is at fault.
+fn utility_text(
     alloc: Global,
     site: &Site,
     words: &[&str],
     fault: UsageFault,
-) -> Result<Option<String>, NoMemory> {
-    let Some((_, words)) = words.split_first() else {
-        return Ok(None);
-    };
+) -> Result<Option<String>, AllocError> {
     let index = match fault {
         UsageFault::MissingArgument | UsageFault::MissingOperand => words.len().checked_sub(1),
         _ => place_at_fault(alloc, site, words, fault),
@@ -164,4 +162,20 @@ pub fn misused_text(
     let name = name_of(fault);
     let why = word_text(alloc, site, words, index, fault)?;
     Ok(Some(format!(in alloc; "usage {number} ({name}): {why}")?))
+}
+
+/// Why the words of a line, the first of which names who asks, ask nothing. `None` where no word of them is at fault.
+pub fn misused_text(
+    alloc: Global,
+    site: &Site,
+    line: &[u8],
+    fault: UsageFault,
+) -> Result<Option<String>, NoMemory> {
+    let Some(words) = told_words(alloc, line)? else {
+        return Ok(None);
+    };
+    match words.as_slice().split_first() {
+        Some((_, words)) => Ok(utility_text(alloc, site, words, fault)?),
+        None => Ok(None),
+    }
 }
