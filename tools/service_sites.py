@@ -14,7 +14,7 @@ PYTHON = [os.environ["NETTLEBEAM_PYTHON"], "-IS"] if "NETTLEBEAM_PYTHON" in os.e
 PROGRAM = f"{TOP}/crates/nettlebeam/out/nettlebeam"
 sys.path.insert(0, SERVICE)
 
-from nettlebeam_service import config  # noqa: E402
+from nettlebeam_service import accounting, config, seal  # noqa: E402
 from nettlebeam_service.ask import Told, Unasked, ask  # noqa: E402
 from nettlebeam_service.processes import stat_of  # noqa: E402
 
@@ -180,13 +180,14 @@ class ServedFederation:
             file.write(LINK.format(folder=folder, service=SERVICE))
         os.chmod(f"{folder}/link", 0o755)
 
-    def make(self, *roster, jobs="", more="", home=None, **how):
-        """Makes and starts the sites of a roster."""
+    def make(self, *roster, jobs="", more="", home=None, pages=None, **how):
+        """Makes and starts the sites of a roster, with their pages at the ports that are given by their names."""
         for entry in roster:
             name = entry.split(":")[0]
             place = f"{self.folder}/{name}" if home is None else home(name)
             site = self.sites[name] = ServedSite(self, name, place)
-            site.make(self.program, roster, jobs, more, **how)
+            port = (pages or {}).get(name)
+            site.make(self.program, roster, jobs, more + (f"[page]\nport = {port}\n" if port else ""), **how)
             site.start()
         for site in self.sites.values():
             site.wait_ready()
@@ -235,4 +236,4 @@ class ServedFederation:
                 pass
 
 
-__all__ = ["NoEnd", "PROGRAM", "SERVICE", "ServedFederation", "ServedSite", "TOP", "Told", "Unasked", "ask", "config", "stat_of", "until"]
+__all__ = ["accounting", "seal", "NoEnd", "PROGRAM", "SERVICE", "ServedFederation", "ServedSite", "TOP", "Told", "Unasked", "ask", "config", "stat_of", "until"]

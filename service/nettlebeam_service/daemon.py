@@ -89,7 +89,7 @@ class Service:
         self.peers = Peers(config.name, config.peers, self.site, self.requests, log, self.changed)
         self.scheduler = Scheduler(config, self.site, self.spool, self.backup, self.peers, self.users, self.runs, log)
         self.house = House(config.name, config.house, self.site, self.spool, log)
-        self.page = Page(config, self.site, self.backup, self.peers)
+        self.page = Page(config, self.site, self.backup, self.peers, log)
         self.stopping = asyncio.Event()
 
     def changed(self) -> None:
@@ -140,7 +140,7 @@ class Service:
         if self.config.house.every:
             parts.append(asyncio.ensure_future(self.house.run()))
         if self.config.page.port:
-            await self.page.listen()
+            parts.append(asyncio.ensure_future(self.page.run()))
         notify("READY=1")
         log("ready")
         stop = asyncio.ensure_future(self.stopping.wait())

@@ -5,7 +5,7 @@ import asyncio
 import json
 import re
 import time
-from typing import Any, Dict, List, NamedTuple, Tuple
+from typing import Any, Callable, Dict, List, NamedTuple, Tuple
 from urllib.parse import parse_qs, urlsplit
 
 from . import html
@@ -20,6 +20,7 @@ ADDRESS = "127.0.0.1"
 MOST_CONNECTIONS = 32
 MOST_HEAD = 8192
 SECONDS = 10.0
+RETRY_SECONDS = 10.0
 KEPT_SECONDS = 2.0
 HEADERS = {
     "Cache-Control": "no-store",
@@ -66,17 +67,28 @@ def problem(status: int, text: str) -> Response:
 class Page:
     """Answers browsers."""
 
-    def __init__(self, config: Config, site: Site, backup: Backup, peers: Peers):
+    def __init__(self, config: Config, site: Site, backup: Backup, peers: Peers, log: Callable[[str], None]):
         self.config = config
         self.site = site
         self.backup = backup
         self.peers = peers
+        self.log = log
         self.connections = 0
         self.kept: Dict[str, Tuple[float, "asyncio.Future[str]"]] = {}
 
-    async def listen(self) -> asyncio.AbstractServer:
-        """Listens for browsers of this machine."""
-        return await asyncio.start_server(self.serve, ADDRESS, self.config.page.port, limit=MOST_HEAD)
+    async def run(self) -> None:
+        """Listens for browsers of this machine. Where the port isn't free, the queue goes on without a page."""
+        told = ""
+        while True:
+            try:
+                server = await asyncio.start_server(self.serve, ADDRESS, self.config.page.port, limit=MOST_HEAD)
+            except OSError as fault:
+                if told != str(fault):
+                    told = str(fault)
+                    self.log(f"there is no page now: {told}")
+                await asyncio.sleep(RETRY_SECONDS)
+                continue
+            await server.serve_forever()
 
     async def serve(self, reader: asyncio.StreamReader, writer: asyncio.StreamWriter) -> None:
         """Serves one connection: one request."""

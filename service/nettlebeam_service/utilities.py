@@ -1,4 +1,4 @@
-"""The utilities qsub, qalter, qhold, qrls, qdel and qstat, and what operators ask, as users call them."""
+"""The utilities as users call them: qsub, qalter, qhold, qrls, qdel and qstat, `qask` for the rest, and MORE of another module."""
 from __future__ import annotations
 
 import os
@@ -6,58 +6,23 @@ import re
 import sys
 
 from .ask import Told, Unasked, ask, find_socket
+from .options import Fault, parse, seconds_of
 
 TYPE_CHECKING = False
 if TYPE_CHECKING:
     from typing import Dict, List, Optional, Tuple
 
-OPTIONS = {"qsub": "AlNpC", "qalter": "AlNp"}  # the letters with an argument
-CLOCK = re.compile(r"(?:([0-9]+):)?([0-9]{1,2}):([0-9]{1,2})\Z")
 NAME = re.compile(r"[A-Za-z][A-Za-z0-9_.-]{0,14}\Z")
+# the number of a refusal is in the answer already
+NUMBER = re.compile(r"^(?:nettlebeam: )?(?:refused|usage) [0-9]+ \([A-Za-z]+\): ")
+MORE = ("qselect", "qsig", "qmsg", "qmove", "qrerun")
 MOST_BYTES = 16 * 1024 * 1024
-
-
-class Fault(Exception):
-    """The words can't be asked."""
-
-
-def seconds_of(value: str) -> str:
-    """A time limit in seconds, where it is given as HH:MM:SS or MM:SS."""
-    found = CLOCK.match(value)
-    if not found:
-        return value
-    hours, minutes, seconds = (int(it or 0) for it in found.groups())
-    return str(3600 * hours + 60 * minutes + seconds)
 
 
 def read_list(text: str) -> List[Tuple[str, str]]:
     """The pairs of a list of resources; what has another form is left to the site."""
     pairs = [pair.partition("=") for pair in text.split(",")]
     return [(name + mark, seconds_of(value) if name == "walltime" else value) for name, mark, value in pairs]
-
-
-def parse(utility: str, words: List[str]) -> Tuple[List[Tuple[str, Optional[str]]], List[str]]:
-    """The options of a utility, and its operands. An option whose argument is missing has none: the site says so."""
-    taking, place = OPTIONS.get(utility, ""), 0
-    options: List[Tuple[str, Optional[str]]] = []
-    while place < len(words):
-        word = words[place]
-        if word == "--":
-            return options, words[place + 1 :]
-        if not word.startswith("-") or word == "-":
-            break
-        place += 1
-        for index, letter in enumerate(word[1:], 2):
-            if letter not in taking:
-                options.append((letter, None))
-                continue
-            argument: Optional[str] = word[index:] or None
-            if argument is None and place < len(words):
-                argument = words[place]
-                place += 1
-            options.append((letter, argument))
-            break
-    return options, words[place:]
 
 
 def joined(options: List[Tuple[str, Optional[str]]]) -> List[str]:
@@ -123,9 +88,15 @@ def submit(path: str, words: List[str], role: Optional[str]) -> Told:
     return ask(path, ["qsub", *joined(all_options)], role, facts(), script)
 
 
-def run(utility: str, words: List[str], path: str) -> Told:
+def run(utility: str, words: List[str], path: Optional[str]) -> Told:
     """Asks for what the user typed."""
     role = os.environ.get("NETTLEBEAM_ROLE") or None
+    if utility in MORE:
+        from .more_utilities import run as run_more
+
+        return run_more(utility, words, path, role)
+    if path is None:
+        raise Fault("NETTLEBEAM_SOCKET isn't set, and this machine hasn't one service of a site")
     if utility == "qsub":
         return submit(path, words, role)
     if utility == "qalter":
@@ -136,17 +107,13 @@ def run(utility: str, words: List[str], path: str) -> Told:
 
 def main(utility: str, words: List[str]) -> int:
     """A utility."""
-    path = find_socket()
-    if path is None:
-        print(f"{utility}: NETTLEBEAM_SOCKET isn't set, and this machine hasn't one service of a site", file=sys.stderr)
-        return 2
     try:
-        told = run(utility, words, path)
+        told = run(utility, words, find_socket())
     except (Unasked, Fault) as fault:
         print(f"{utility}: {fault}", file=sys.stderr)
         return 3 if isinstance(fault, Unasked) else 2
     sys.stdout.buffer.write(told.answer)
     sys.stdout.buffer.flush()
     for line in told.words.splitlines():
-        print(f"{utility}: {line}", file=sys.stderr)
+        print(f"{utility}: {NUMBER.sub('', line)}", file=sys.stderr)
     return told.status
