@@ -115,7 +115,7 @@ def systemd(tally, federation):
             ["bash", "-c", script, "bash", str(listener.fileno()), f"{SERVICE}/nettlebeamd", site.config],
             pass_fds=[listener.fileno()],
             stderr=subprocess.DEVNULL,
-            env={**os.environ, "LISTEN_FDS": "1", "NOTIFY_SOCKET": f"{federation.folder}/notify", "NETTLEBEAM_TRIAL": federation.mark},
+            env={**os.environ, "LISTEN_FDS": "1", "NOTIFY_SOCKET": f"{federation.folder}/notify", "NETTLEBEAM_TEST": federation.mark},
         )
         site.socket = path
         tally.same("a user who comes early is answered", site.ask("qstat").status, 0)

@@ -250,22 +250,21 @@ def passing(tally, federation):
 def backups(tally, federation):
     """No packet leaves that a backup is behind of."""
     federation.has_links = True
-    copy = f"{federation.folder}/copy"
-    backup = f"[site]\nbackup = cp {federation.folder}/argonne/site/journal {copy}"
-    argonne, lemont = federation.make("argonne:1", "lemont:2", jobs="run = no", site=backup)
+    copy, broken, command = (f"{federation.folder}/{name}" for name in ("copy", "broken", "backup"))
+    with open(command, "w", encoding="ascii") as file:
+        file.write(f"#!/bin/sh\n[ ! -e {broken} ] && cp {federation.folder}/argonne/site/journal {copy}\n")
+    os.chmod(command, 0o755)
+    argonne, lemont = federation.make("argonne:1", "lemont:2", jobs="run = no", site=f"[site]\nbackup = {command}")
     job = argonne.submit("true\n")
     until(lambda: job in lemont.jobs(), 20, "lemont knows of the job")
     tally.true("the backup has the job", " qsub" in read(copy))
-    os.remove(copy)
-    os.mkdir(copy)
-    os.chmod(copy, 0)
-    os.mkdir(f"{copy}/journal")
+    with open(broken, "w", encoding="ascii"):
+        pass
     job = argonne.submit("true\n")
     time.sleep(3)
     tally.true("without a backup no packet leaves", job not in lemont.jobs())
     tally.same("also where it is fetched", argonne.utility("nettlebeam-peer", "lemont", "ship")[:2], (3, ""))
-    os.rmdir(f"{copy}/journal")
-    os.rmdir(copy)
+    os.remove(broken)
     until(lambda: job in lemont.jobs(), 20, "lemont knows of the job once there is a backup")
 
 

@@ -103,7 +103,7 @@ class ServedSite:
                 [*PYTHON, f"{SERVICE}/nettlebeamd", self.config],
                 stdin=subprocess.DEVNULL,
                 stderr=log,
-                env={**os.environ, "NETTLEBEAM_TRIAL": self.federation.mark},
+                env={**os.environ, "NETTLEBEAM_TEST": self.federation.mark},
             )
 
     def wait_ready(self, seconds=30):
@@ -213,7 +213,7 @@ class ServedFederation:
 
     def processes(self):
         """All processes of these services, by their mark: those of jobs have none."""
-        mark, found = f"NETTLEBEAM_TRIAL={self.mark}".encode(), []
+        mark, found = f"NETTLEBEAM_TEST={self.mark}".encode(), []
         for name in os.listdir("/proc"):
             if name.isdigit() and int(name) != os.getpid():
                 try:
