@@ -41,6 +41,9 @@ dt { opacity: .75; } dd { margin: 0; overflow-wrap: anywhere; }
 """
 LETTERS = {"Q": "waits", "H": "held", "T": "granted", "R": "runs", "E": "is ended", None: "gone"}
 PROLOG = re.compile(r"<\?xml[^>]*\?>\s*")
+CHART_SECOND = re.compile(r">([0-9]{9,12})<")
+CHART_HEAD = re.compile(r"from second ([0-9]{9,12}) on")
+DAY = 86_400
 
 
 class View(NamedTuple):
@@ -85,6 +88,18 @@ def long(seconds: int) -> str:
     """A span of time."""
     hours, rest = divmod(seconds, 3600)
     return f"{hours}:{rest // 60:02}:{rest % 60:02}"
+
+
+def clocked(chart: str) -> str:
+    """A chart whose seconds are times of the day, with the date where it tells of more than a day."""
+    seconds = [int(text) for text in CHART_SECOND.findall(chart)]
+    form = "%H:%M" if not seconds or max(seconds) - min(seconds) < DAY else "%m-%d %H:%M"
+
+    def told(second: str) -> str:
+        return time.strftime(form, time.localtime(int(second))) if int(second) < 2**33 else second
+
+    text = CHART_HEAD.sub(lambda found: f"from {told(found.group(1))} on", PROLOG.sub("", chart))
+    return CHART_SECOND.sub(lambda found: f">{told(found.group(1))}<", text).replace(">seconds<", ">time<" if seconds else ">seconds<")
 
 
 def link(name: str) -> str:
@@ -184,15 +199,17 @@ def queue(view: View, jobs: Sequence[Dict[str, Any]], start: int, count: int, ea
         f"<h1>{escape(view.name)}</h1>\n<p>At {at(view.moment)}. Read this page anew to see what is so now.</p>\n",
         *(f'<p class="bad" role="alert">{escape(notice)}</p>\n' for notice in view.notices),
         f'<ul class="facts">{top}</ul>\n',
+        '<nav aria-label="Parts of this page"><a href="#machine">The machine</a><a href="#reservations">Reservations</a>'
+        '<a href="#sites">Other sites</a></nav>\n',
         "<h2>The queue</h2>\n" + pages(start, count, each),
         table("Jobs that wait or run, of all sites", heads, rows, (4, 5, 6)) if rows else "<p>No job waits or runs.</p>\n",
-        '<h2>The machine</h2>\n<figure aria-label="The machine from now on, as a chart">',
-        PROLOG.sub("", view.chart) + "</figure>\n",
-        "<h2>Reservations</h2>\n",
+        '<h2 id="machine">The machine</h2>\n<figure aria-label="The machine from now on, as a chart">',
+        clocked(view.chart) + "</figure>\n",
+        '<h2 id="reservations">Reservations</h2>\n',
         table("Reservations that stand", ("Reservation", "Site", "From", "To", "Nodes"),
               [[escape(it[0]), escape(it[1]), at(int(it[2])), at(int(it[3])), it[4]] for it in reserved])
         if reserved else "<p>There is none.</p>\n",
-        "<h2>Other sites</h2>\n",
+        '<h2 id="sites">Other sites</h2>\n',
         table("Packets to and from other sites", ("Site", "Last given", "Last taken", "State"), map(peer_row, peers))
         if peers else "<p>There is none.</p>\n",
         '<p><a href="/jobs.json">All jobs as JSON</a>, also those that are gone.</p>\n',

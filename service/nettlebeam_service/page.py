@@ -177,6 +177,9 @@ class Page:
             found.append(RUN_NOTICES[self.config.jobs.run])
         if not self.site.has_room():
             found.append("The disk of the site is full, so nothing that changes it is taken.")
+        silent = [peer.name for peer in self.peers if peer.trouble]
+        if silent:
+            found.append(f"Not reached: {', '.join(silent)}.")
         if self.backup.trouble:
             found.append(f"The backup fails, so no packet leaves and no job begins: {self.backup.trouble}")
         return found
