@@ -153,9 +153,10 @@ def one_owner(tally, federation):
     if not is_root(tally):
         return
     (site,) = federation.make("argonne:4")
-    tally.same("another user submits", site.utility("qsub", given="id > /tmp/never\n", before=as_user(OTHER), cwd="/")[0], 0)
-    mine = site.submit("true\n")
-    tally.same("the service's own job runs", site.finished(mine), 0)
+    whole = {"before": as_user(OTHER), "cwd": "/", "given": f"id > {federation.folder}/never\n"}
+    tally.same("another user submits", site.utility("qsub", "-l", "nodes=4", **whole)[0], 0)
+    mine = site.submit("true\n", "-p", "-5")
+    tally.same("the service's own job runs, though the other stands before it", site.finished(mine), 0)
     tally.same("the other's is left alone", site.jobs("1")["1.argonne"]["letter"], "Q")
     tally.true("and the log says so", "left alone" in site.logged())
 

@@ -2,6 +2,7 @@
 from __future__ import annotations
 
 import configparser
+import math
 import os
 import shlex
 from dataclasses import dataclass, field, fields, replace
@@ -102,6 +103,7 @@ class Config:
 
 SECTIONS = {"site": SiteKeys, "clients": ClientKeys, "jobs": JobKeys, "page": PageKeys, "house": HouseKeys}
 RUNS = ("yes", "drain", "no")
+GREATEST_PORT = 65_535
 FORMATS = ("1", "2")  # of a journal
 
 
@@ -111,8 +113,8 @@ def read_value(default: Any, text: str) -> Any:
         return tuple(shlex.split(text))
     if isinstance(default, (int, float)):
         number = type(default)(text)
-        if number < 0:
-            raise ValueError("below 0")
+        if not 0 <= number < math.inf:
+            raise ValueError("below 0, or no number")
         return number
     return text
 
@@ -191,6 +193,8 @@ def read_config(path: str) -> Config:
     parts["site"] = replace(keys, **named)
     parts["house"] = replace(parts["house"], accounting=parts["house"].accounting.replace("{spool}", parts["site"].spool))
     check_jobs(parts["jobs"])
+    if parts["page"].port > GREATEST_PORT:
+        raise ConfigFault(f"[page] port = {parts['page'].port}: above {GREATEST_PORT}")
     return Config(name, roster, peers=read_peers(parser, name, roster), **parts)
 
 

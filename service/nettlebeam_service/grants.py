@@ -7,7 +7,7 @@ from typing import Callable, Dict, Sequence, Set
 
 from .config import Config
 from .folder import ASKED
-from .links import PeerFault
+from .links import NotNow, PeerFault
 from .peers import Peers
 from .runs import Runs
 from .site import Site, Stopped
@@ -53,6 +53,8 @@ class Grants:
                 self.spool.name(await asyncio.to_thread(self.spool.draft, facts, script), name)
                 await self.spool.names.done()
                 self.fetched.add(name)
+        except NotNow:
+            pass  # which was logged when it couldn't be reached
         except (PeerFault, Stopped, OSError) as fault:
             self.log(f"{origin}: {len(jobs)} jobs can't be prepared: {fault}")
         finally:

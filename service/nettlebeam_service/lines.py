@@ -12,7 +12,7 @@ from typing import Mapping, NamedTuple, Optional, Pattern, Sequence, Tuple
 UTILITIES = ("qsub", "qalter", "qhold", "qrls", "qdel", "qstat")
 ROLES = ("operator", "admin")
 # read as lines of the scheduler behind any site, whoever asks
-RESERVED = ("grant", "begin", "finish", "handback", "ship", "take", "plan", "retire", "compact")
+RESERVED = ("grant", "begin", "finish", "handback", "ship", "take", "plan", "retire", "decline", "compact", "roster")
 COMPLAINTS = ("refused ", "usage ", "gap ", "unread ", "foreign", "forgotten", "cannot be read", "no plan")
 # their answers tell of a change of the queue or of the machine: behind a user, and by themselves
 CHANGING_OF_USERS = ("qsub", "qalter", "qhold", "qrls", "qdel", "reserve", "cancel")
@@ -38,7 +38,7 @@ FOR_ALL = forms(
     jobs=f"(?: {JOB})*",
     seen="",
     chart=f" {NUMBER}",
-    plan=f" {NUMBER}",
+    plan=f" {NUMBER}(?: but(?: {JOB})+)?",
 )
 FOR_OPERATORS = ("reserve", "cancel")
 FOR_THE_SITE = forms(

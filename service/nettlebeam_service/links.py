@@ -32,6 +32,10 @@ class PeerFault(Exception):
     """A peer can't be reached, or answers what it may not. The text tells which."""
 
 
+class NotNow(PeerFault):
+    """A peer isn't asked, since it couldn't be reached a short while ago."""
+
+
 class CommandLink:
     """A peer that is reached by a command, such as ssh: its words are put behind, standard input and output are its."""
 

@@ -14,7 +14,7 @@ from .config import Config
 from .lines import JOB
 from .peers import Peers
 from .site import Site, Stopped
-from .wrapper import account
+from .told import LISTING
 
 ADDRESS = "127.0.0.1"
 MOST_CONNECTIONS = 32
@@ -155,7 +155,7 @@ class Page:
     async def queue(self, start: int) -> Response:
         """The site: its machine, its queue from the job of this place on, its reservations and its peers."""
         moment = int(time.time() / KEPT_SECONDS) * int(KEPT_SECONDS)
-        lines = ("machine {0}", "plan {0}", "reservations", "chart {0}", f"{account()} qstat")
+        lines = ("machine {0}", "plan {0}", "reservations", "chart {0}", LISTING)
         asked = [self.ask(line.format(moment)) for line in lines]
         machine, plan, reservations, chart, listing = await asyncio.gather(*asked)
         names = [line.split()[0] for line in listing.splitlines()]

@@ -10,12 +10,14 @@ from typing import Any, Callable, Coroutine, Dict, Iterator, List, Mapping, Opti
 
 from .config import PeerKeys
 from .folder import FolderLink
-from .links import CommandLink, Link, PeerFault
+from .links import CommandLink, Link, NotNow, PeerFault
 from .packets import BadPacket
 from .requests import Requests
 from .site import Site, Stopped
 from .spool import IDENTIFIER
 from .wire import FACTS, is_fact
+
+LEAST_PAUSE = 0.05
 
 
 class Peer:
@@ -76,7 +78,7 @@ class Peers:
         if peer is None:
             raise PeerFault("the configuration doesn't say how it is reached")
         if time.monotonic() < peer.next_try:
-            raise PeerFault(f"it couldn't be reached: {peer.trouble}")
+            raise NotNow(f"it couldn't be reached: {peer.trouble}")
         return peer
 
     # Exchange
@@ -88,7 +90,7 @@ class Peers:
     async def run_peer(self, peer: Peer) -> None:
         """Exchanges packets with a peer: soon after each change here, and every few minutes."""
         while True:
-            await asyncio.sleep(peer.keys.soon)
+            await asyncio.sleep(max(peer.keys.soon, LEAST_PAUSE))
             if self.site.memory.loss:
                 continue  # what this site says now might contradict what it has said
             try:

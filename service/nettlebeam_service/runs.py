@@ -51,6 +51,7 @@ class Runs:
         self.settling: Set[str] = set()
         self.watched: Dict[str, int] = {}
         self.told: Set[str] = set()
+        self.stuck: Set[str] = set()  # jobs of which something is left that can't be ended
         self.signals: Dict[str, asyncio.Lock] = {}
         self.tasks: Set["asyncio.Task[None]"] = set()
         self.places = asyncio.Semaphore(STARTS_AT_ONCE)
@@ -117,6 +118,8 @@ class Runs:
         for job in self.hosts.keys() - set(running) - self.starting:
             del self.hosts[job]
         for job in running:
+            if job not in self.hosts:  # also of one whose processes can't be ended
+                self.hosts[job] = self.spool.run(job).get("hosts", [])
             if not self.is_busy(job):
                 await self.look(job)
 
@@ -130,7 +133,6 @@ class Runs:
 
     def adopt(self, job: str) -> None:
         """Watches a runner, whoever started it."""
-        self.hosts[job] = self.spool.run(job).get("hosts", [])
         pid = self.spool.runner(job)
         if pid is None or not hasattr(os, "pidfd_open"):
             return  # the next sweep looks again
@@ -182,9 +184,10 @@ class Runs:
             self.hosts.pop(job, None)
             self.signals.pop(job, None)
             self.told.discard(job)
+            self.stuck.discard(job)
+            self.wake()
         finally:
             self.settling.discard(job)
-            self.wake()
 
     async def end_of(self, job: str) -> Optional[Exit]:
         """How a job ended that has no runner; 255 where nobody knows. None where something of it still runs."""
@@ -192,7 +195,9 @@ class Runs:
         if ended:
             return ended
         if not await self.clear(job):
-            self.log(f"{job}: its runner has gone, and its processes can't be ended; it stays until they are")
+            if job not in self.stuck:
+                self.stuck.add(job)
+                self.log(f"{job}: its runner has gone, and its processes can't be ended; it stays until they are")
             return None
         return Exit(LOST, int(time.time()))
 

@@ -49,6 +49,7 @@ class Scheduler:
         self.begins = Begins(config, site, spool, users, runs, log)
         self.passing = Passing(config.name, site, self.grants, self.begins, log)
         self.listed = 0.0
+        self.trouble = ""
 
     def use(self, config: Config) -> None:
         """Goes on with another configuration."""
@@ -69,11 +70,14 @@ class Scheduler:
             try:
                 if self.config.jobs.run != "no" and not self.site.memory.loss:
                     await self.look()
+                    self.trouble = ""
             except Stopped:
                 await self.site.ready.wait()
             except Exception as fault:  # whatever one look meets, there is a next one
-                self.log(f"the scheduler looks again later: {fault!r}")
-                gap = RETRY_SECONDS
+                trouble, gap = str(fault) or repr(fault), RETRY_SECONDS
+                if trouble != self.trouble:
+                    self.log(f"no job begins now, and this is looked at again: {trouble}")
+                self.trouble = trouble
             # at most a fifth of the time is spent on plans, however often it is woken
             await asyncio.sleep(max(gap, 4 * (time.monotonic() - began)))
             gap = SHORTEST_GAP

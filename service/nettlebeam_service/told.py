@@ -7,9 +7,9 @@ import time
 from typing import Any, Dict, List, Sequence
 
 from .site import Site
-from .wrapper import account
 
 Job = Dict[str, Any]
+LISTING = "service qstat"  # anybody may list, under whatever name
 
 
 def now() -> int:
@@ -37,7 +37,7 @@ async def told_of(site: Site, names: Sequence[str]) -> Dict[str, Job]:
 
 async def listed(site: Site) -> List[List[str]]:
     """The words of the short listing: identifier, name, owner, letter, priority, nodes, limit, and whom it is granted to."""
-    return [line.split() for line in (await site.ask(f"{account()} qstat")).text.splitlines()]
+    return [line.split() for line in (await site.ask(LISTING)).text.splitlines()]
 
 
 async def starts_of(site: Site, line: str) -> List[str]:
