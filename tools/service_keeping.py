@@ -38,6 +38,57 @@ def read(path):
         return file.read()
 
 
+# the program between the service and the real one: it hands lines and answers on, one after the other, and `hook` may
+# change an answer, or give one without asking
+SHIM = """#!/usr/bin/python3
+import os, subprocess, sys
+real, flag = {program!r}, {flag!r}
+{hook}
+if sys.argv[1:] == ["serve", "--help"]:
+    print("Usage: nettlebeam serve", flag, "DIR")
+    sys.exit()
+if sys.argv[1] != "serve":
+    os.execv(real, ["nettlebeam", *sys.argv[1:]])
+assert not flag or sys.argv[2] == flag
+serve = subprocess.Popen([real, "serve", sys.argv[-1]], stdin=subprocess.PIPE, stdout=subprocess.PIPE, text=True, bufsize=1)
+def ask(line):
+    serve.stdin.write(line)
+    serve.stdin.flush()
+    answer = got = ""
+    while got != "\\n":
+        got = serve.stdout.readline()
+        if not got:
+            sys.exit(3)
+        answer += got
+    return answer
+for line in iter(sys.stdin.readline, ""):
+    sys.stdout.write(hook(line, ask))
+    sys.stdout.flush()
+"""
+# what a program that knows --words tells of a job that isn't known
+TELLING = """
+def hook(line, ask):
+    answer = ask(line)
+    words = "# refused 1 (UnknownJob): 900.argonne is unknown\\n"
+    return answer[:-1] + words + "\\n" if answer.startswith("refused 1") else answer
+"""
+# what refuses to begin jobs as long as a file is there
+REFUSING = """
+def hook(line, ask):
+    if line.startswith("begin ") and os.path.exists({flag!r}):
+        return "refused 6\\n\\n"
+    return ask(line)
+"""
+
+
+def shim(path, program, flag, hook):
+    """Writes a program that stands between the service and the real one."""
+    with open(path, "w", encoding="ascii") as file:
+        file.write(SHIM.format(program=program, flag=flag, hook=hook))
+    os.chmod(path, 0o755)
+    return path
+
+
 def seals(tally, federation):
     """What stands in a shared folder is taken only with the right seal."""
     shared = federation.folders = f"{federation.folder}/shared"
@@ -50,6 +101,7 @@ def seals(tally, federation):
     good, mine = read(path), argonne.submit("true\n", "-l", "sites=lemont")
     tally.true("a packet's file begins with its seal", good.startswith(b"nettlebeam-seal 1 lemont argonne packet - "))
     tally.true("which isn't for others to read", os.stat(path).st_mode & 0o007 == 0)
+    tally.same("both sites' group may write the folders", oct(os.stat(f"{shared}/argonne").st_mode & 0o7777), "0o2770")
     other = federation.key("argonne", "batavia")
     label = seal.Label("lemont", "argonne", "packet", "-", time.time_ns())
     body = good.partition(b"\n")[2]
@@ -198,7 +250,9 @@ def spools(tally, federation):
     site.ask("qdel", deleted)
     site.finished(done)
     until(lambda: site.jobs(running)[running]["letter"] == "R", 20, "a job runs")
+    time.sleep(1)
     tally.true("its files stay for a while", os.path.exists(f"{site.home}/spool/runs/{done}/exit"))
+    tally.true("so does the script of one that was deleted", os.path.exists(f"{site.home}/spool/scripts/{deleted}"))
 
     def kept(name):
         return os.path.exists(f"{site.home}/spool/scripts/{name}") or os.path.exists(f"{site.home}/spool/runs/{name}")
@@ -286,30 +340,29 @@ def leftovers(tally, federation):
     until(lambda: not os.listdir(place), 20, "nothing of them is left")
 
 
+def refusals(tally, federation):
+    """A script is started only where `begin` was answered `done`."""
+    deny, ran = f"{federation.folder}/deny", f"{federation.folder}/ran"
+    with open(deny, "w", encoding="ascii"):
+        pass
+    federation.program = shim(f"{federation.folder}/refusing", federation.program, "", REFUSING.format(flag=deny))
+    (site,) = federation.make("argonne:4")
+    jobs = [site.submit(f"echo $PBS_JOBID >> {ran}; exit 3\n") for _ in range(3)]
+    until(lambda: site.logged().count("begin is answered refused 6") >= 6, 20, "each is refused, again and again")
+    tally.same("none has begun", [job["begun"] for job in site.jobs().values()], [None] * 3)
+    site.kill()
+    site.start()
+    site.wait_ready()
+    time.sleep(2)
+    tally.true("and none was started", not os.path.exists(ran))
+    os.remove(deny)
+    tally.same("once they are begun they run", [site.finished(job) for job in jobs], [3] * 3)
+    tally.same("each once", sorted(read(ran).decode().split()), sorted(jobs))
+
+
 def words(tally, federation):
     """A program that tells why behind its answers is asked for that, and users are told."""
-    path = f"{federation.folder}/telling"
-    with open(path, "w", encoding="ascii") as file:
-        file.write(
-            f"""#!/usr/bin/python3
-# the program, as one that knows --words would tell them
-import os, subprocess, sys
-if sys.argv[1:] == ["serve", "--help"]:
-    print("Usage: nettlebeam serve [--words] DIR")
-elif sys.argv[1] == "serve":
-    assert sys.argv[2] == "--words"
-    is_refused = False
-    for line in subprocess.Popen(["{federation.program}", "serve", sys.argv[3]], stdout=subprocess.PIPE, text=True).stdout:
-        if is_refused and line == "\\n":
-            sys.stdout.write("# refused 1 (UnknownJob): 900.argonne is unknown\\n")
-        is_refused = line != "\\n" and (is_refused or line == "refused 1\\n")
-        sys.stdout.write(line)
-        sys.stdout.flush()
-else:
-    os.execv("{federation.program}", ["nettlebeam", *sys.argv[1:]])
-"""
-        )
-    os.chmod(path, 0o755)
+    path = shim(f"{federation.folder}/telling", federation.program, "--words", TELLING)
     told = subprocess.run([federation.program, "serve", "--help"], capture_output=True, text=True, check=False)
     if "--words" in told.stdout:
         path = federation.program
@@ -324,4 +377,4 @@ else:
     tally.same("looks are whole", counts, {"argonne": 1})
 
 
-SCENES = {it.__name__: it for it in (seals, senders, accounts, cut_accounts, spools, drains, losses, leftovers, words)}
+SCENES = {it.__name__: it for it in (seals, senders, accounts, cut_accounts, spools, drains, losses, leftovers, refusals, words)}

@@ -29,8 +29,11 @@ State = Optional[Tuple[int, int]]
 
 
 def put(path: str, data: bytes) -> None:
-    """Writes a file under another name first, so that nobody reads half of it. The folder's group may read it."""
-    os.makedirs(os.path.dirname(path), exist_ok=True)
+    """Writes a file under another name first, so that nobody reads half of it. The group of the folder may read it."""
+    folder = os.path.dirname(path)
+    if not os.path.isdir(folder):
+        os.makedirs(folder, exist_ok=True)
+        os.chmod(folder, 0o2770)  # the other site's account writes here too
     with contextlib.suppress(FileNotFoundError):
         os.remove(f"{path}.new")
     descriptor = os.open(f"{path}.new", os.O_WRONLY | os.O_CREAT | os.O_EXCL | os.O_NOFOLLOW | os.O_CLOEXEC, 0o640)
