@@ -1,0 +1,120 @@
+"""Accounting: a line of JSON for each job that is gone, as the site tells it, in a file for each month; no job twice.
+
+    accounting/2026-11.jsonl    the jobs that were recorded in that month
+    accounting/recorded         the identifiers of all of them, so that files of months may be moved away
+
+A job is recorded once nothing can change how it went. A finished one is so at every site. One that was deleted before it
+began is so at its origin, where no other site has its grant, and at the site that has its grant: the origin alone grants, and
+a deleted job is begun nowhere that knows of it. Other sites can't tell, and leave it to these two.
+
+Lines are written in one piece and synced before their identifiers are. So where a kill cuts this short, what was written is
+found when it is read again, the piece of a line at a file's end is cut, and what isn't there is written then.
+"""
+from __future__ import annotations
+
+import json
+import os
+import time
+from typing import Any, Dict, List, Sequence, Set, Tuple
+
+from .files import sync
+
+INDEX = "recorded"
+SUFFIX = ".jsonl"
+
+
+def is_settled(job: Dict[str, Any], here: str) -> bool:
+    """Whether a job is gone, and nothing changes that, as far as this site can tell."""
+    if job["finished"]:
+        return True
+    if job["begun"] or not job["deleted"]:
+        return False
+    holder = job["grant"]["site"] if job["grant"] else None
+    return holder == here or (holder is None and str(job["id"]).partition(".")[2] == here)
+
+
+def whole_lines(path: str) -> List[bytes]:
+    """The lines of a file, behind whose last whole line whatever stands there is cut."""
+    try:
+        with open(path, "r+b") as file:
+            data = file.read()
+            end = data.rfind(b"\n") + 1
+            if end < len(data):
+                file.truncate(end)
+                os.fsync(file.fileno())
+            return data[:end].splitlines()
+    except FileNotFoundError:
+        return []
+
+
+def append(path: str, data: bytes) -> None:
+    """Puts lines behind a file's, and syncs it. Where that fails the file is as long as it was."""
+    descriptor = os.open(path, os.O_WRONLY | os.O_CREAT | os.O_APPEND | os.O_CLOEXEC, 0o600)
+    try:
+        before = os.fstat(descriptor).st_size
+        try:
+            written = 0
+            while written < len(data):
+                written += os.write(descriptor, data[written:])
+            os.fsync(descriptor)
+        except OSError:
+            os.ftruncate(descriptor, before)
+            raise
+    finally:
+        os.close(descriptor)
+
+
+def name_in(line: bytes) -> str:
+    """The identifier in a line of a month; nothing where the line is none of this program."""
+    try:
+        value = json.loads(line)
+    except ValueError:
+        return ""
+    return str(value.get("id", "")) if isinstance(value, dict) else ""
+
+
+class Accounting:
+    """The files of one site. Its calls are made in a thread, one behind the other."""
+
+    def __init__(self, folder: str, here: str):
+        self.folder = folder
+        self.here = here
+        self.known: Set[str] = set()
+        self.is_open = False
+
+    def path(self, name: str) -> str:
+        """A file of the folder."""
+        return os.path.join(self.folder, name)
+
+    def open(self) -> None:
+        """Reads what is recorded, and completes the list of identifiers."""
+        os.makedirs(self.folder, mode=0o700, exist_ok=True)
+        index = {line.decode("ascii", "replace") for line in whole_lines(self.path(INDEX))}
+        found: List[str] = []
+        for name in sorted(os.listdir(self.folder)):
+            if name.endswith(SUFFIX):
+                found += [name_in(line) for line in whole_lines(self.path(name))]
+        missing = [name for name in found if name and name not in index]
+        if missing:
+            append(self.path(INDEX), "".join(f"{name}\n" for name in missing).encode("ascii"))
+        sync(self.folder)
+        self.known = index | set(missing)
+        self.is_open = True
+
+    def record(self, lines: Sequence[str]) -> int:
+        """Records the jobs of these lines that are settled and not recorded yet; how many."""
+        if not self.is_open:
+            self.open()
+        new: List[Tuple[str, str]] = []
+        for line in lines:
+            job = json.loads(line)
+            if job["id"] not in self.known and is_settled(job, self.here):
+                new.append((job["id"], line))
+        if new:
+            self.is_open = False  # where one of these fails, what is there is read again
+            append(self.path(time.strftime("%Y-%m") + SUFFIX), "".join(f"{line}\n" for _, line in new).encode("ascii"))
+            sync(self.folder)
+            append(self.path(INDEX), "".join(f"{name}\n" for name, _ in new).encode("ascii"))
+            self.known.update(name for name, _ in new)
+            self.is_open = True
+        return len(new)

@@ -1,0 +1,207 @@
+"""The configuration of a site's service: an INI file, every key with a default but the site's directory."""
+from __future__ import annotations
+
+import configparser
+import math
+import os
+import shlex
+from dataclasses import dataclass, field, fields, replace
+from typing import Any, Dict, List, Mapping, Tuple
+
+Words = Tuple[str, ...]
+
+
+class ConfigFault(Exception):
+    """The configuration can't be used. The text says which key, and why."""
+
+
+@dataclass(frozen=True)
+class SiteKeys:
+    """[site]: the site, and who may ask it what."""
+
+    directory: str = ""
+    program: str = "nettlebeam"
+    spool: str = "/var/spool/nettlebeam/{site}"
+    socket: str = "/run/nettlebeam/{site}.sock"
+    operators: str = ""
+    admins: str = ""
+    backup: Words = ()
+    free_bytes: int = 16 * 1024 * 1024
+
+
+@dataclass(frozen=True)
+class ClientKeys:
+    """[clients]: what the users at the socket may take of the service."""
+
+    seconds: float = 60.0
+    most: int = 1000
+    most_of_user: int = 250
+    script_bytes: int = 16 * 1024 * 1024
+    user_bytes: int = 64 * 1024 * 1024
+
+
+@dataclass(frozen=True)
+class JobKeys:
+    """[jobs]: whether and how jobs run here."""
+
+    run: str = "yes"
+    start: Words = ()
+    stop: Words = ()
+    least_uid: int = 1000
+    hosts: Words = ()
+    shell: str = "/bin/sh"
+    elsewhere: str = ""
+    every: float = 10.0
+    handback: float = 600.0
+    grace: float = 10.0
+
+
+@dataclass(frozen=True)
+class PageKeys:
+    """[page]: the page for browsers on this machine; the port 0 means none."""
+
+    port: int = 0
+    jobs: int = 100
+
+
+@dataclass(frozen=True)
+class HouseKeys:
+    """[house]: what is done once in a while; `every = 0` means nothing."""
+
+    every: float = 86_400.0
+    accounting: str = "{spool}/accounting"
+    keep: float = 86_400.0
+
+
+@dataclass(frozen=True)
+class PeerKeys:
+    """[peer NAME]: how another site is reached, by a command or by a shared folder, whose files a key seals."""
+
+    command: Words = ()
+    folder: str = ""
+    key: str = ""
+    soon: float = 2.0
+    every: float = 300.0
+    seconds: float = 60.0
+    retry: float = 5.0
+    retry_most: float = 300.0
+
+
+@dataclass(frozen=True)
+class Config:
+    """A whole configuration, with the site's name and roster, which its journal tells."""
+
+    name: str
+    roster: Mapping[str, int]
+    site: SiteKeys
+    clients: ClientKeys = ClientKeys()
+    jobs: JobKeys = JobKeys()
+    page: PageKeys = PageKeys()
+    house: HouseKeys = HouseKeys()
+    peers: Mapping[str, PeerKeys] = field(default_factory=dict)
+
+
+SECTIONS = {"site": SiteKeys, "clients": ClientKeys, "jobs": JobKeys, "page": PageKeys, "house": HouseKeys}
+RUNS = ("yes", "drain", "no")
+GREATEST_PORT = 65_535
+FORMATS = ("1", "2")  # of a journal
+
+
+def read_value(default: Any, text: str) -> Any:
+    """The value of a key, of the type of its default. ValueError where the text is none."""
+    if isinstance(default, tuple):
+        return tuple(shlex.split(text))
+    if isinstance(default, (int, float)):
+        number = type(default)(text)
+        if not 0 <= number < math.inf:
+            raise ValueError("below 0, or no number")
+        return number
+    return text
+
+
+def read_section(kind: Any, title: str, items: Mapping[str, str]) -> Any:
+    """The keys of a section."""
+    defaults = {it.name: it.default for it in fields(kind)}
+    values = {}
+    for key, text in items.items():
+        if key not in defaults:
+            raise ConfigFault(f"[{title}] {key}: there is no such key; there are {', '.join(defaults)}")
+        try:
+            values[key] = read_value(defaults[key], text)
+        except ValueError as fault:
+            raise ConfigFault(f"[{title}] {key} = {text}: {fault}") from None
+    return kind(**values)
+
+
+def read_identity(directory: str) -> Tuple[str, Dict[str, int]]:
+    """The name and the roster of the site in a directory, from the first entry of its journal."""
+    path = os.path.join(directory, "journal")
+    try:
+        with open(path, encoding="ascii", errors="replace") as file:
+            words = file.readline(4096).split()
+    except OSError as fault:
+        raise ConfigFault(f"[site] directory = {directory}: {path}: {fault.strerror}") from None
+    if len(words) < 6 or words[0] != "+" or words[2] != "nettlebeam" or words[3] not in FORMATS:
+        raise ConfigFault(f"[site] directory = {directory}: its journal doesn't begin with the name of a site")
+    roster = {}
+    for word in words[5:]:
+        name, _, nodes = word.partition(":")
+        roster[name] = int(nodes)
+    return words[4], roster
+
+
+def read_peers(parser: configparser.ConfigParser, name: str, roster: Mapping[str, int]) -> Dict[str, PeerKeys]:
+    """The sections of the other sites."""
+    peers = {}
+    for title in parser.sections():
+        kind, _, peer = title.partition(" ")
+        if kind != "peer":
+            continue
+        peer = peer.strip()
+        if peer not in roster or peer == name:
+            raise ConfigFault(f"[{title}]: {peer or 'this'} is no other site of the roster: {' '.join(roster)}")
+        keys = read_section(PeerKeys, title, dict(parser[title]))
+        if bool(keys.command) == bool(keys.folder):
+            raise ConfigFault(f"[{title}]: give either command or folder")
+        if bool(keys.folder) != bool(keys.key):
+            raise ConfigFault(f"[{title}]: a folder needs a key, with which its files are sealed, and a command has none")
+        peers[peer] = keys
+    return peers
+
+
+def read_config(path: str) -> Config:
+    """Reads a configuration file."""
+    parser = configparser.ConfigParser(interpolation=None, default_section="", inline_comment_prefixes=(" ;", " #"))
+    parser.optionxform = str  # type: ignore[assignment]
+    try:
+        with open(path, encoding="utf-8") as file:
+            parser.read_file(file)
+    except OSError as fault:
+        raise ConfigFault(f"{path}: {fault.strerror}") from None
+    except (configparser.Error, UnicodeDecodeError) as fault:
+        raise ConfigFault(" ".join(str(fault).split())) from None
+    unknown = [title for title in parser.sections() if title not in SECTIONS and title.split(" ")[0] != "peer"]
+    if unknown:
+        raise ConfigFault(f"[{unknown[0]}]: there is no such section; there are {', '.join(SECTIONS)} and peer NAME")
+    given = {title: dict(parser[title]) if title in parser else {} for title in SECTIONS}
+    parts = {title: read_section(kind, title, given[title]) for title, kind in SECTIONS.items()}
+    keys: SiteKeys = parts["site"]
+    if not keys.directory:
+        raise ConfigFault("[site] directory: name the directory of the site")
+    name, roster = read_identity(keys.directory)
+    named = {it: getattr(keys, it).replace("{site}", name) for it in ("spool", "socket")}
+    parts["site"] = replace(keys, **named)
+    parts["house"] = replace(parts["house"], accounting=parts["house"].accounting.replace("{spool}", parts["site"].spool))
+    check_jobs(parts["jobs"])
+    if parts["page"].port > GREATEST_PORT:
+        raise ConfigFault(f"[page] port = {parts['page'].port}: above {GREATEST_PORT}")
+    return Config(name, roster, peers=read_peers(parser, name, roster), **parts)
+
+
+def check_jobs(keys: JobKeys) -> None:
+    """`run` is one of its words, and no host is there twice."""
+    if keys.run not in RUNS:
+        raise ConfigFault(f"[jobs] run = {keys.run}: none of {', '.join(RUNS)}")
+    twice: List[str] = [host for host in keys.hosts if keys.hosts.count(host) > 1]
+    if twice:
+        raise ConfigFault(f"[jobs] hosts: {twice[0]} is there twice")

@@ -1,0 +1,188 @@
+"""The service of one site: `nettlebeamd CONFIG`."""
+from __future__ import annotations
+
+import asyncio
+import contextlib
+import os
+import signal
+import socket
+import sys
+import time
+from dataclasses import replace
+from typing import Any, List, Optional
+
+from .backup import Backup
+from .clients import Clients, listen
+from .config import Config, ConfigFault, read_config
+from .house import House
+from .memory import Memory
+from .page import Page
+from .peers import Peers
+from .requests import Requests
+from .running import Running
+from .runs import Runs
+from .scheduler import Scheduler
+from .site import Site
+from .spool import Spool
+from .users import Users
+
+FIRST_INHERITED = 3
+FIXED_KEYS = ("directory", "program", "spool", "socket", "backup", "free_bytes")
+ORDERLY_SECONDS = 10
+
+
+def log(text: str) -> None:
+    """Writes an event as one line, with the time where no journal of systemd adds it."""
+    line = " ".join(text.split())
+    stamp = "" if "JOURNAL_STREAM" in os.environ else time.strftime("%Y-%m-%dT%H:%M:%S ")
+    try:
+        sys.stderr.write(f"{stamp}{line}\n")
+        sys.stderr.flush()
+    except OSError:
+        pass  # where nobody can be told, the service goes on
+
+
+def notify(state: str) -> None:
+    """Tells systemd of a state, where it asks for that."""
+    path = os.environ.get("NOTIFY_SOCKET")
+    if path:
+        with contextlib.suppress(OSError), socket.socket(socket.AF_UNIX, socket.SOCK_DGRAM) as speaker:
+            speaker.sendto(state.encode(), "\0" + path[1:] if path[0] == "@" else path)
+
+
+def inherited_socket() -> Optional[socket.socket]:
+    """The socket that systemd hands over."""
+    if os.environ.get("LISTEN_PID") != str(os.getpid()) or os.environ.get("LISTEN_FDS") != "1":
+        return None
+    os.set_inheritable(FIRST_INHERITED, False)
+    return socket.socket(fileno=FIRST_INHERITED)
+
+
+def make_socket(path: str) -> socket.socket:
+    """A socket at a path, that everybody may connect to. The spool's lock says that no other service has it."""
+    os.makedirs(os.path.dirname(path), mode=0o755, exist_ok=True)
+    listener = socket.socket(socket.AF_UNIX, socket.SOCK_STREAM)
+    with contextlib.suppress(FileNotFoundError):
+        os.remove(f"{path}.new")
+    listener.bind(f"{path}.new")
+    os.chmod(f"{path}.new", 0o666)
+    os.rename(f"{path}.new", path)
+    return listener
+
+
+class Service:
+    """All parts of the service."""
+
+    def __init__(self, path: str, config: Config):
+        self.path = path
+        self.config = config
+        self.spool = Spool(config.site.spool)
+        keys = config.site
+        self.memory = Memory(keys.spool, log)
+        self.site = Site(keys.program, keys.directory, keys.free_bytes, self.memory, log)
+        self.backup = Backup(keys.backup)
+        self.runs = Runs(config.jobs, self.site, self.spool, self.backup, log, self.changed)
+        running = Running(config.name, self.site, self.runs)
+        self.requests = Requests(list(config.roster), self.site, self.spool, self.backup, running, self.changed)
+        self.users = Users(config.site)
+        self.clients = Clients(config.clients, self.users, self.requests, os.getuid(), log)
+        self.peers = Peers(config.name, config.peers, self.site, self.requests, log, self.changed)
+        self.scheduler = Scheduler(config, self.site, self.spool, self.backup, self.peers, self.users, self.runs, log)
+        self.house = House(config.name, config.house, self.site, self.spool, log)
+        self.page = Page(config, self.site, self.backup, self.peers, log)
+        self.stopping = asyncio.Event()
+
+    def changed(self) -> None:
+        """Something may have changed what starts here."""
+        self.scheduler.wake()
+
+    def reload(self) -> None:
+        """Reads the configuration anew. What a running service can't change is told, and kept."""
+        try:
+            config = read_config(self.path)
+        except ConfigFault as fault:
+            log(f"the configuration stays as it was: {fault}")
+            return
+        old, new = self.config, config
+        fixed = [it for it in FIXED_KEYS if getattr(new.site, it) != getattr(old.site, it)]
+        fixed += [it for it in ("peers", "page", "house") if getattr(new, it) != getattr(old, it)]
+        if fixed:
+            log(f"a new {', '.join(fixed)} is used when the service starts anew")
+        self.users.keys, self.users.known = config.site, {}
+        self.clients.keys = config.clients
+        self.memory.look()
+        self.page.config = replace(self.page.config, jobs=config.jobs)
+        self.scheduler.use(config)
+        log("the configuration is read anew")
+
+    async def run(self) -> int:
+        """Runs until it is told to stop."""
+        log(f"the service of {self.config.name} starts")
+        if self.spool.open() is None:
+            log(f"another service has the spool {self.spool.folder}")
+            return 3
+        self.memory.look()
+        loop = asyncio.get_running_loop()
+        for number in (signal.SIGTERM, signal.SIGINT):
+            loop.add_signal_handler(number, self.stopping.set)
+        loop.add_signal_handler(signal.SIGHUP, self.reload)
+        listener = inherited_socket() or make_socket(self.config.site.socket)
+        serving = asyncio.ensure_future(self.site.run())
+        # clients that come before the site answers wait for it; where it can't, they are told so
+        await asyncio.wait(
+            [asyncio.ensure_future(self.site.ready.wait()), asyncio.ensure_future(self.stopping.wait())],
+            timeout=30,
+            return_when=asyncio.FIRST_COMPLETED,
+        )
+        server = await listen(listener, self.clients)
+        parts: List["asyncio.Task[Any]"] = [asyncio.ensure_future(it) for it in self.peers.loops()]
+        parts.append(asyncio.ensure_future(self.scheduler.run()))
+        if self.config.house.every:
+            parts.append(asyncio.ensure_future(self.house.run()))
+        if self.config.page.port:
+            parts.append(asyncio.ensure_future(self.page.run()))
+        notify("READY=1")
+        log("ready")
+        stop = asyncio.ensure_future(self.stopping.wait())
+        done, _ = await asyncio.wait([stop, serving, *parts], return_when=asyncio.FIRST_COMPLETED)
+        for task in done - {stop}:
+            log(f"a part of the service failed: {task.exception()!r}")
+        await self.stop(server, [*parts, serving])
+        return 0 if stop in done else 3
+
+    async def stop(self, server: asyncio.AbstractServer, parts: List["asyncio.Task[Any]"]) -> None:
+        """Ends in order: what was asked is answered, jobs are left running."""
+        notify("STOPPING=1")
+        log("the service stops; jobs go on")
+        server.close()
+        end = time.monotonic() + ORDERLY_SECONDS
+        for part in parts[:-1]:  # all but the site, which answers first
+            part.cancel()
+        while time.monotonic() < end and (self.clients.all or self.runs.tasks):
+            await asyncio.sleep(0.05)
+        self.runs.forget_all()
+        await self.site.stop()
+        await asyncio.wait(parts, timeout=ORDERLY_SECONDS)
+
+
+def main(words: List[str]) -> int:
+    """The program."""
+    if len(words) != 1 or words[0].startswith("-"):
+        print("usage: nettlebeamd CONFIG", file=sys.stderr)
+        return 2
+    try:
+        config = read_config(words[0])
+    except ConfigFault as fault:
+        print(f"nettlebeamd: {words[0]}: {fault}", file=sys.stderr)
+        return 2
+    os.umask(0o077)
+    try:
+        return asyncio.run(run(words[0], config))
+    except OSError as fault:
+        log(f"the service can't run: {fault}")
+        return 3
+
+
+async def run(path: str, config: Config) -> int:
+    """Makes the service inside its loop, and runs it."""
+    return await Service(path, config).run()

@@ -1,0 +1,65 @@
+"""House-keeping, at the start and once a day: jobs that are gone are recorded, and their files in the spool removed."""
+from __future__ import annotations
+
+import asyncio
+import json
+import math
+import time
+from typing import Callable, Dict, Sequence
+
+from .accounting import Accounting
+from .config import HouseKeys
+from .site import Site, Stopped
+from .spool import Spool
+
+FIRST_SECONDS = 2
+RETRY_SECONDS = 60
+
+
+class House:
+    """Keeps house for one site."""
+
+    def __init__(self, name: str, keys: HouseKeys, site: Site, spool: Spool, log: Callable[[str], None]):
+        self.keys = keys
+        self.site = site
+        self.spool = spool
+        self.log = log
+        self.accounting = Accounting(keys.accounting, name)
+
+    async def run(self) -> None:
+        """Keeps house again and again."""
+        pause: float = min(FIRST_SECONDS, self.keys.every)
+        while True:
+            await asyncio.sleep(pause)
+            try:
+                await self.keep()
+                pause = self.keys.every
+            except Stopped:
+                await self.site.ready.wait()
+                pause = FIRST_SECONDS
+            except Exception as fault:  # whatever goes wrong once, it is done again
+                self.log(f"the house is kept later: {fault!r}")
+                pause = min(RETRY_SECONDS, self.keys.every)
+
+    async def keep(self) -> None:
+        """Keeps house once."""
+        # what is in the spool before the site is asked is of jobs that it knows, unless it has lost or retired them
+        names = await asyncio.to_thread(self.spool.names_kept)
+        lines = (await self.site.ask("jobs")).text.splitlines()
+        if self.keys.accounting and not self.site.memory.loss:
+            count = await asyncio.to_thread(self.accounting.record, lines)
+            if count:
+                self.log(f"{count} jobs that are gone are recorded in {self.keys.accounting}")
+        removed = await asyncio.to_thread(self.clear, names, lines)
+        if removed:
+            self.log(f"the files of {removed} jobs that are gone are removed from the spool")
+
+    def clear(self, names: Sequence[str], lines: Sequence[str]) -> int:
+        """Removes the scripts and the runs of jobs that are gone for long enough; of how many."""
+        since: Dict[str, float] = {}
+        for line in lines:
+            job = json.loads(line)
+            is_gone = job["letter"] is None
+            since[job["id"]] = math.inf if not is_gone else job["finished"]["moment"] if job["finished"] else 0.0
+        before = time.time() - self.keys.keep
+        return sum(self.spool.forget(name, before) for name in names if since.get(name, 0.0) <= before)

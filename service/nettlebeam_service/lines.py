@@ -1,0 +1,133 @@
+"""Which words may be asked by whom, and the line of the site that they make.
+
+A line of a site says by its first words who asks, and in which role. So nothing of a request may become such a word: the
+user is put in front by the service, and a look or a line of the scheduler is passed on only in exactly its own form, since
+`jobs qsub` would else submit a job of a user called `jobs`.
+"""
+from __future__ import annotations
+
+import re
+from typing import Mapping, NamedTuple, Optional, Pattern, Sequence, Tuple
+
+UTILITIES = ("qsub", "qalter", "qhold", "qrls", "qdel", "qstat")
+ROLES = ("operator", "admin")
+# read as lines of the scheduler behind any site, whoever asks
+RESERVED = ("grant", "begin", "finish", "handback", "ship", "take", "plan", "retire", "decline", "compact", "roster")
+COMPLAINTS = ("refused ", "usage ", "gap ", "unread ", "foreign", "forgotten", "cannot be read", "no plan")
+# their answers tell of a change of the queue or of the machine: behind a user, and by themselves
+CHANGING_OF_USERS = ("qsub", "qalter", "qhold", "qrls", "qdel", "reserve", "cancel")
+CHANGING_OF_SITES = ("grant", "begin", "finish", "handback", "take")
+CHANGING = CHANGING_OF_USERS + CHANGING_OF_SITES
+
+USER = re.compile(r"[A-Za-z][A-Za-z0-9_.-]{0,14}\Z")
+PRINTABLE = re.compile(r"[!-~]+\Z")
+JOB = r"[0-9]{1,10}(?:\.[A-Za-z][A-Za-z0-9-]{0,14})?"
+NUMBER = r"[0-9]{1,20}"
+NAME = r"[A-Za-z][A-Za-z0-9-]{0,14}"
+
+
+def forms(**texts: str) -> Mapping[str, Pattern[str]]:
+    """Patterns of whole lines, by their first words."""
+    return {word: re.compile(f"{word}{text}\\Z") for word, text in texts.items()}
+
+
+FOR_ALL = forms(
+    why=f" {JOB} {NUMBER}",
+    machine=f" {NUMBER}",
+    reservations="",
+    jobs=f"(?: {JOB})*",
+    seen="",
+    chart=f" {NUMBER}",
+    plan=f" {NUMBER}(?: but(?: {JOB})+)?",
+)
+FOR_OPERATORS = ("reserve", "cancel")
+FOR_THE_SITE = forms(
+    grant=f" {JOB} {NAME}",
+    begin=f" {JOB} {NUMBER}",
+    finish=f" {JOB} {NUMBER} [0-9]{{1,3}}",
+    handback=f" {JOB}",
+    ship=f" {NAME}",
+)
+
+
+class Denied(Exception):
+    """The words may not be asked, or not by this client. The text tells why."""
+
+
+class Client(NamedTuple):
+    """Who is at the other end, as the kernel tells it, and the roles that the groups permit."""
+
+    uid: int
+    user: Optional[str]
+    roles: Tuple[str, ...] = ()
+    is_site: bool = False
+
+
+def check_words(words: Sequence[str]) -> None:
+    """Each word must be one that can stand in a line by itself."""
+    if not words:
+        raise Denied("no word is asked")
+    for word in words:
+        if not PRINTABLE.match(word):
+            raise Denied(f"{word[:40]!r} is empty, or has a blank or a byte that isn't printable ASCII")
+
+
+def name_of(client: Client) -> str:
+    """The client's name in lines."""
+    if client.user is None:
+        raise Denied(f"the user number {client.uid} has no login name")
+    if not USER.match(client.user):
+        raise Denied(f"the login name {client.user} can't be a user's name: 1 to 15 letters, digits, _ - and ., a letter first")
+    if client.user in RESERVED:
+        raise Denied(f"the login name {client.user} is a word of the scheduler's lines")
+    return client.user
+
+
+def asker(client: Client, role: Optional[str]) -> str:
+    """The first word of a user's line."""
+    user = name_of(client)
+    if role is None:
+        return user
+    if role not in ROLES:
+        raise Denied(f"{role[:40]!r} is neither operator nor admin")
+    if role not in client.roles:
+        raise Denied(f"{user} may not ask as {role}")
+    return f"{user}/{role}"
+
+
+def line_of(client: Client, words: Sequence[str], role: Optional[str]) -> str:
+    """The line that these words of this client make. Denied where they may not be asked."""
+    check_words(words)
+    verb, line = words[0], " ".join(words)
+    if verb in UTILITIES:
+        return f"{asker(client, role)} {line}"
+    if verb in FOR_OPERATORS:
+        if role is None:
+            raise Denied(f"{verb} is asked as operator or admin")
+        return f"{asker(client, role)} {line}"
+    if verb in FOR_THE_SITE and not client.is_site:
+        raise Denied(f"{verb} is asked by the site's own account alone")
+    form = FOR_ALL.get(verb) or FOR_THE_SITE.get(verb)
+    if form is None:
+        raise Denied(f"{verb[:40]!r} is nothing that can be asked here")
+    if not form.match(line):
+        raise Denied(f"the words of {verb} are wrong")
+    return line
+
+
+def changes(line: str) -> bool:
+    """Whether a line may change the site, or what others know of it: a packet that leaves tells what it will stand by."""
+    first, _, rest = line.partition(" ")
+    return first in CHANGING_OF_SITES or first == "ship" or rest.partition(" ")[0] in CHANGING_OF_USERS
+
+
+def is_costly(words: Sequence[str]) -> bool:
+    """Whether a line goes through all jobs of the board."""
+    if words[:1] in (["jobs"], ["qstat"]):
+        return not any(word[:1].isdigit() for word in words[1:])
+    return words[:1] in (["plan"], ["why"], ["chart"], ["machine"])
+
+
+def is_complaint(answer: str) -> bool:
+    """Whether an answer tells that something isn't done as it was asked. No line of a listing begins so."""
+    return any(line.startswith(COMPLAINTS) for line in answer.splitlines())

@@ -1,0 +1,121 @@
+"""Locks and processes, so that a process number that was given anew is never taken for the old process."""
+from __future__ import annotations
+
+import fcntl
+import os
+import signal
+import time
+from typing import List, Optional, Tuple
+
+LONGEST_END = 5.0
+
+
+def lock(path: str) -> Optional[int]:
+    """Takes the lock of a file, which is made where it isn't there: a descriptor, or None where another has it.
+
+    The lock is of the open file. It passes to children that get the descriptor, and ends with the last who has it.
+    """
+    descriptor = os.open(path, os.O_RDWR | os.O_CREAT | os.O_CLOEXEC, 0o600)
+    try:
+        fcntl.flock(descriptor, fcntl.LOCK_EX | fcntl.LOCK_NB)
+    except BlockingIOError:
+        os.close(descriptor)
+        return None
+    except BaseException:
+        os.close(descriptor)
+        raise
+    return descriptor
+
+
+def is_locked(path: str) -> bool:
+    """Whether somebody has the lock of a file."""
+    try:
+        descriptor = os.open(path, os.O_RDWR | os.O_CLOEXEC)
+    except FileNotFoundError:
+        return False
+    try:
+        fcntl.flock(descriptor, fcntl.LOCK_SH | fcntl.LOCK_NB)
+        return False
+    except BlockingIOError:
+        return True
+    finally:
+        os.close(descriptor)
+
+
+def boot() -> str:
+    """The name of this run of the machine."""
+    with open("/proc/sys/kernel/random/boot_id", encoding="ascii") as file:
+        return file.read().strip()
+
+
+def stat_of(pid: int) -> Optional[Tuple[int, int]]:
+    """Of a process the session and the tick at which it started; None where it isn't there, or has ended."""
+    try:
+        with open(f"/proc/{pid}/stat", encoding="ascii", errors="replace") as file:
+            fields = file.read().rpartition(")")[2].split()
+    except (FileNotFoundError, ProcessLookupError):
+        return None
+    return None if fields[0] in "ZX" else (int(fields[3]), int(fields[19]))
+
+
+def started_at(pid: int) -> int:
+    """The tick at which a process that is there started."""
+    with open(f"/proc/{pid}/stat", encoding="ascii", errors="replace") as file:
+        return int(file.read().rpartition(")")[2].split()[19])
+
+
+def members(session: int, since: int) -> List[int]:
+    """The processes of a session that was begun at this tick.
+
+    As long as one of them lives the kernel gives the number to no other process. A session that got the number later has
+    no process as old as the leader was, and where its leader lives that one is younger.
+    """
+    leader = stat_of(session)
+    if leader is not None and leader[1] != since:
+        return []
+    found = []
+    for name in os.listdir("/proc"):
+        if name.isdigit():
+            stat = stat_of(int(name))
+            if stat and stat[0] == session and stat[1] >= since:
+                found.append(int(name))
+    return found
+
+
+def end_session(session: int, since: int, most: float = LONGEST_END) -> bool:
+    """Kills what is left of a session. False where something of it is still there after a while, or may not be killed."""
+    end = time.monotonic() + most
+    while True:
+        left = members(session, since)
+        if not left:
+            return True
+        for pid in left:
+            try:
+                os.kill(pid, signal.SIGKILL)
+            except ProcessLookupError:
+                pass
+            except PermissionError:
+                return False
+        if time.monotonic() > end:
+            return False
+        time.sleep(0.02)
+
+
+def signal_holder(pid: int, lock_path: str, number: int) -> bool:
+    """Sends a signal to the process that holds a lock. False where it has ended, or its number is another's by now.
+
+    The descriptor names the process that has the number now. Where the lock is held after that, it is the holder.
+    """
+    try:
+        descriptor = os.pidfd_open(pid)
+    except ProcessLookupError:
+        return False
+    try:
+        if not is_locked(lock_path):
+            return False
+        signal.pidfd_send_signal(descriptor, number)
+        return True
+    except ProcessLookupError:
+        return False
+    finally:
+        os.close(descriptor)

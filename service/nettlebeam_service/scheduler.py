@@ -1,0 +1,143 @@
+"""The scheduler: it asks the site for its plan, and has begun what may start, or prepared what isn't here yet."""
+from __future__ import annotations
+
+import asyncio
+import errno
+import time
+from typing import Callable, Dict, List, Sequence
+
+from .backup import Backup
+from .begins import Begins
+from .config import Config
+from .grants import Grants
+from .passing import Passing
+from .peers import Peers
+from .runs import Runs
+from .site import Site, Stopped
+from .spool import Spool
+from .told import Job, grant_here, is_granted_to, now, origin_of, told_of
+from .users import Users
+
+SHORTEST_GAP = 0.1
+RETRY_SECONDS = 10
+LISTING_SECONDS = 60
+MOST_AT_ONCE = 100  # jobs that one origin is asked for by one call
+
+
+class Scheduler:
+    """Starts jobs at this site."""
+
+    def __init__(
+        self,
+        config: Config,
+        site: Site,
+        spool: Spool,
+        backup: Backup,
+        peers: Peers,
+        users: Users,
+        runs: Runs,
+        log: Callable[[str], None],
+    ):
+        self.config = config
+        self.site = site
+        self.spool = spool
+        self.backup = backup
+        self.log = log
+        self.woken = asyncio.Event()
+        self.runs = runs
+        self.grants = Grants(config, site, spool, peers, runs, log)
+        self.begins = Begins(config, site, spool, users, runs, log)
+        self.passing = Passing(config.name, site, self.grants, self.begins, log)
+        self.listed = 0.0
+        self.trouble = ""
+
+    def use(self, config: Config) -> None:
+        """Goes on with another configuration."""
+        self.config = self.grants.config = self.begins.config = config
+        self.runs.keys = config.jobs
+        self.begins.left_alone.clear()
+        self.wake()
+
+    def wake(self) -> None:
+        """Something may have changed what starts."""
+        self.woken.set()
+
+    async def run(self) -> None:
+        """Looks again and again, and soon after whatever may change what starts."""
+        gap = SHORTEST_GAP
+        while True:
+            began = time.monotonic()
+            try:
+                if self.config.jobs.run != "no" and not self.site.memory.loss:
+                    await self.look()
+                    self.trouble = ""
+            except Stopped:
+                await self.site.ready.wait()
+            except Exception as fault:  # whatever one look meets, there is a next one
+                trouble, gap = str(fault) or repr(fault), RETRY_SECONDS
+                if trouble != self.trouble:
+                    self.log(f"no job begins now, and this is looked at again: {trouble}")
+                self.trouble = trouble
+            # at most a fifth of the time is spent on plans, however often it is woken
+            await asyncio.sleep(max(gap, 4 * (time.monotonic() - began)))
+            gap = SHORTEST_GAP
+            try:
+                await asyncio.wait_for(self.woken.wait(), self.config.jobs.every)
+            except asyncio.TimeoutError:
+                pass
+            self.woken.clear()
+
+    async def look(self) -> None:
+        """One look: what runs, what is deleted, what starts."""
+        machine = (await self.site.ask(f"machine {now()}")).text.splitlines()
+        running = [line.split()[1] for line in machine if line.startswith("run ")]
+        await self.runs.sweep(running)
+        for job in (await told_of(self.site, running)).values():
+            if job["deleted"] and not self.runs.is_busy(job["id"]):
+                self.runs.end(job["id"])
+        if not self.site.has_room():
+            raise OSError(errno.ENOSPC, "the disk of the site is full")
+        if self.config.jobs.run == "yes":
+            await self.backup.check()
+            await self.start(int(machine[0].split()[-1]))
+        if time.monotonic() - self.listed >= LISTING_SECONDS or self.config.jobs.run == "drain":
+            self.listed = time.monotonic()
+            self.begins.forget(await self.grants.hand_back())
+
+    async def start(self, free: int) -> None:
+        """Begins what starts now. Jobs that can't be had now don't keep the machine from others."""
+        blocked = [name for name in {*self.grants.not_before, *self.begins.left_alone} if self.is_blocked(name)]
+        starts = await self.passing.starts(blocked)
+        await self.begin(starts)
+        if any(map(self.is_blocked, starts)):
+            await self.begin(await self.passing.try_others(starts, free))
+
+    def is_blocked(self, name: str) -> bool:
+        """Whether a job couldn't be had a short while ago."""
+        return self.grants.is_put_off(name) or self.begins.is_left_alone(name)
+
+    async def begin(self, starts: Sequence[str]) -> None:
+        """Begins the jobs of a plan that can be begun now, and has the others prepared."""
+        wanted = [name for name in starts if not (name in self.grants.preparing or self.runs.is_busy(name))]
+        told = await told_of(self.site, [name for name in wanted if not self.grants.is_put_off(name)])
+        mine: List[str] = []
+        theirs: Dict[str, List[Job]] = {}
+        for name, job in told.items():
+            if not await self.begins.account_for(job):
+                continue
+            if self.begins.is_mine(name):
+                # one without a script only ends, unless its script is just being named
+                if self.begins.has_script(job) or not self.spool.submissions:
+                    mine.append(name)
+            elif is_granted_to(job, self.config.name) and name in self.grants.fetched:
+                mine.append(name)
+            else:
+                theirs.setdefault(origin_of(name), []).append(job)
+        for origin, jobs in theirs.items():
+            self.grants.prepare(origin, jobs[:MOST_AT_ONCE])
+        await grant_here(self.site, [name for name in mine if not is_granted_to(told[name], self.config.name)], self.config.name)
+        granted = (await told_of(self.site, mine)).values()
+        ready = [job for job in granted if is_granted_to(job, self.config.name)]
+        for job, fault in zip(ready, await asyncio.gather(*map(self.begins.begin, ready), return_exceptions=True)):
+            if fault is not None:
+                self.log(f"{job['id']}: it isn't begun now: {fault!r}")

@@ -1,0 +1,207 @@
+"""The site itself: the program's process `serve`, and those that wait for its answers."""
+from __future__ import annotations
+
+import asyncio
+import os
+import time
+from collections import deque
+from typing import Callable, Deque, List, NamedTuple, Optional
+
+from .lines import changes
+from .memory import Memory
+
+LONGEST_PAUSE = 60
+CHUNK = 1 << 20
+USAGE_SECONDS = 10
+WORDS_FLAG = "--words"
+WORDS_MARK = "# "
+
+
+class Stopped(Exception):
+    """The site gives no answer. What was asked may be kept or not."""
+
+
+class Lost(Stopped):
+    """The site isn't asked what would change it, since it has lost what others know of it."""
+
+
+class Answer(NamedTuple):
+    """What the program said to a line, and, where it tells them, the words of its complaint."""
+
+    text: str
+    words: str = ""
+
+
+class AnswerReader:
+    """Cuts the output of `serve` into answers: each is lines, and an empty line behind them."""
+
+    def __init__(self) -> None:
+        self.held = bytearray()
+        self.looked = 0
+
+    def feed(self, data: bytes) -> None:
+        """Takes bytes that came."""
+        self.held += data
+
+    def next(self) -> Optional[bytes]:
+        """The next answer that is whole."""
+        if self.held[:1] == b"\n":
+            del self.held[:1]
+            return b""
+        end = self.held.find(b"\n\n", self.looked)
+        if end < 0:
+            self.looked = max(0, len(self.held) - 1)
+            return None
+        answer = bytes(self.held[: end + 1])
+        del self.held[: end + 2]
+        self.looked = 0
+        return answer
+
+
+def read_answer(data: bytes) -> Answer:
+    """An answer of `serve`; where its last line has words for people, these are apart. No line of an answer begins so."""
+    text = data.decode("ascii", "replace")
+    start = text.rfind("\n", 0, len(text) - 1) + 1
+    if not text.startswith(WORDS_MARK, start):
+        return Answer(text)
+    return Answer(text[:start], text[start + len(WORDS_MARK) :].rstrip("\n"))
+
+
+class Site:
+    """Keeps one `serve` as a child, writes lines to it as they come, and hands each answer to the one who asked."""
+
+    def __init__(self, program: str, folder: str, free_bytes: int, memory: Memory, log: Callable[[str], None]):
+        self.program = program
+        self.folder = folder
+        self.free_bytes = free_bytes
+        self.memory = memory
+        self.log = log
+        self.waiting: Deque[asyncio.Future[Answer]] = deque()
+        self.process: Optional[asyncio.subprocess.Process] = None
+        self.trouble = "it hasn't started yet"
+        self.ending = False
+        self.ready = asyncio.Event()
+
+    async def ask(self, line: str) -> Answer:
+        """The answer to a line. Stopped where none comes."""
+        if self.memory.loss and changes(line):
+            raise Lost(self.memory.loss)
+        if self.process is None or self.process.stdin is None or self.ending:
+            raise Stopped(self.trouble)
+        answer: asyncio.Future[Answer] = asyncio.get_running_loop().create_future()
+        self.waiting.append(answer)
+        # where the child has ended, this writes nothing, and the end is told to all that wait
+        self.process.stdin.write(line.encode("ascii") + b"\n")
+        return await answer
+
+    def has_room(self) -> bool:
+        """Whether the disk has room for what changes the site. A write that fails would end the child, for all who ask."""
+        state = os.statvfs(self.folder)
+        return state.f_bavail * state.f_frsize >= self.free_bytes
+
+    async def run(self) -> None:
+        """Starts the child, and starts it again whenever it ends, until `stop`."""
+        pause = 1
+        while not self.ending:
+            began = time.monotonic()
+            try:
+                await self.run_once()
+            except OSError as fault:
+                self.trouble = f"{self.program}: {fault.strerror}"
+            if self.ending:
+                break
+            if self.ready.is_set() and time.monotonic() - began > pause:
+                pause = 1
+            self.ready.clear()
+            self.log(f"the site stopped: {self.trouble}; it is started again in {pause} s")
+            await asyncio.sleep(pause)
+            pause = min(2 * pause, LONGEST_PAUSE)
+
+    async def run_once(self) -> None:
+        """One life of the child."""
+        pipe, command = asyncio.subprocess.PIPE, await self.command()
+        process = await asyncio.create_subprocess_exec(
+            *command, stdin=pipe, stdout=pipe, stderr=pipe, start_new_session=True, limit=CHUNK
+        )
+        self.trouble = "its process ended"
+        errors = asyncio.ensure_future(self.read_errors(process))
+        self.process = process
+        probe = asyncio.ensure_future(self.probe())
+        try:
+            await self.read_answers(process)
+        finally:
+            self.process = None
+            if process.stdin:
+                process.stdin.close()
+            await errors
+            status = await process.wait()
+            if status < 0:
+                self.trouble = f"its process was ended by signal {-status}"
+            self.fail_waiting()
+            await asyncio.wait([probe])
+
+    async def command(self) -> List[str]:
+        """What starts the child: with words for people behind its answers where the program's usage knows that."""
+        pipe, null = asyncio.subprocess.PIPE, asyncio.subprocess.DEVNULL
+        process = await asyncio.create_subprocess_exec(self.program, "serve", "--help", stdin=null, stdout=pipe, stderr=pipe)
+        try:
+            usage, _ = await asyncio.wait_for(process.communicate(), USAGE_SECONDS)
+        except asyncio.TimeoutError:
+            process.kill()
+            usage = b""
+        return [self.program, "serve", *([WORDS_FLAG] if WORDS_FLAG.encode() in usage else []), self.folder]
+
+    async def probe(self) -> None:
+        """Waits until the site answers, so that others are told that it does."""
+        try:
+            await self.ask("seen")
+            self.ready.set()
+            self.log("the site answers")
+        except Stopped:
+            pass
+
+    async def read_answers(self, process: asyncio.subprocess.Process) -> None:
+        """Hands out the answers, until the child's output ends."""
+        reader = AnswerReader()
+        assert process.stdout
+        while True:
+            data = await process.stdout.read(CHUNK)
+            if not data:
+                return
+            reader.feed(data)
+            for answer in iter(reader.next, None):
+                if not self.waiting:
+                    self.log("the site answered what nobody had asked")
+                    process.kill()
+                    return
+                asked = self.waiting.popleft()
+                if not asked.done():
+                    asked.set_result(read_answer(answer))
+
+    async def read_errors(self, process: asyncio.subprocess.Process) -> None:
+        """Logs what the child tells on standard error, and keeps the last of it."""
+        assert process.stderr
+        while True:
+            data = await process.stderr.read(CHUNK)
+            if not data:
+                return
+            for line in data.decode("utf-8", "replace").splitlines():
+                self.trouble = line.strip()
+                self.log(f"site: {self.trouble}")
+
+    def fail_waiting(self) -> None:
+        """Tells all that wait that no answer comes."""
+        while self.waiting:
+            asked = self.waiting.popleft()
+            if not asked.done():
+                asked.set_exception(Stopped(self.trouble))
+
+    async def stop(self) -> None:
+        """Has the child answer what was asked, and end."""
+        self.ending = True
+        if self.process and self.process.stdin:
+            self.process.stdin.close()
+            try:
+                await asyncio.wait_for(asyncio.shield(self.process.wait()), 30)
+            except asyncio.TimeoutError:
+                self.log("the site doesn't end; it is left to itself")

@@ -1,0 +1,51 @@
+"""What the site tells of jobs."""
+from __future__ import annotations
+
+import asyncio
+import json
+import time
+from typing import Any, Dict, List, Sequence
+
+from .site import Site
+
+Job = Dict[str, Any]
+LISTING = "service qstat"  # anybody may list, under whatever name
+
+
+def now() -> int:
+    """The present second."""
+    return int(time.time())
+
+
+def origin_of(name: str) -> str:
+    """The site that a job was submitted at."""
+    return name.split(".")[1]
+
+
+def is_granted_to(job: Job, site: str) -> bool:
+    """Whether a job is granted to a site."""
+    return bool(job["grant"]) and job["grant"]["site"] == site
+
+
+async def told_of(site: Site, names: Sequence[str]) -> Dict[str, Job]:
+    """What the site tells of jobs, by their identifiers."""
+    if not names:
+        return {}
+    told = (await site.ask("jobs " + " ".join(names))).text
+    return {job["id"]: job for job in map(json.loads, told.splitlines())}
+
+
+async def listed(site: Site) -> List[List[str]]:
+    """The words of the short listing: identifier, name, owner, letter, priority, nodes, limit, and whom it is granted to."""
+    return [line.split() for line in (await site.ask(LISTING)).text.splitlines()]
+
+
+async def starts_of(site: Site, line: str) -> List[str]:
+    """The jobs that start now by a plan."""
+    lines = (await site.ask(line)).text.splitlines()
+    return [it.split()[1] for it in lines if it.startswith("start ")]
+
+
+async def grant_here(site: Site, names: Sequence[str], here: str) -> None:
+    """Grants jobs that were submitted here to this site."""
+    await asyncio.gather(*(site.ask(f"grant {name} {here}") for name in names))
