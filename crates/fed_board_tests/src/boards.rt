@@ -7,6 +7,9 @@ use fed_stamp::{SiteId, Stamp};
 use fed_test_values::{ann, bob, both_sites, site, stamp, values};
 use std::process::Abort;
 
+/// An operation, and the stamp that it gets.
+pub(crate) type Step = (Stamp, Operation);
+
 fn submission(owner: Who, held: bool) -> Operation {
     Operation::Submit {
         owner: owner.user,
@@ -15,6 +18,7 @@ fn submission(owner: Who, held: bool) -> Operation {
     }
 }
 
+/// ann's submission of a job.
 pub(crate) fn submit(held: bool) -> Operation {
     submission(ann(), held)
 }
@@ -25,30 +29,32 @@ pub(crate) fn release(rt: &(impl Abort + AllocGlobal), job: Stamp) -> Operation 
     Operation::Release { job, removed }
 }
 
-/// Adds an operation whose stamp is new and whose job or reservation is there; once more where memory is refused.
-fn act(rt: &impl Abort, board: &mut Board, at: Stamp, operation: &Operation) {
-    assert!(rt; !board.version().covers(at) && board.has_named(operation));
-    if board.apply(at, operation).is_err() {
-        board.apply(at, operation).expect(rt, "memory");
+/// The term with this number.
+pub(crate) fn term(rt: &impl Abort, number: u64) -> Term {
+    Term::new(number).expect(rt, "a term")
+}
+
+/// Adds operations whose stamps are new and whose jobs and reservations are there; once more where memory is refused.
+pub(crate) fn act(rt: &impl Abort, board: &mut Board, steps: &[Step]) {
+    for (at, operation) in steps {
+        assert!(rt; !board.version().covers(*at) && board.has_named(operation));
+        if board.apply(*at, operation).is_err() {
+            board.apply(*at, operation).expect(rt, "memory");
+        }
     }
 }
 
-/// A board with one job of this user.
-fn submitted_by(rt: &(impl Abort + AllocGlobal), owner: Who, job: Stamp, held: bool) -> Board {
+/// A board to which these operations were added.
+pub(crate) fn board_of(rt: &(impl Abort + AllocGlobal), steps: &[Step]) -> Board {
     let mut board = Board::new(rt.alloc());
-    act(rt, &mut board, job, &submission(owner, held));
+    act(rt, &mut board, steps);
     board
 }
 
-/// A board with one job of ann.
-pub(crate) fn submitted(rt: &(impl Abort + AllocGlobal), job: Stamp, held: bool) -> Board {
-    submitted_by(rt, ann(), job, held)
-}
-
-/// A copy of the board, with one more operation.
-pub(crate) fn after(rt: &impl Abort, board: &Board, at: Stamp, operation: &Operation) -> Board {
+/// A copy of the board, with more operations.
+pub(crate) fn after(rt: &impl Abort, board: &Board, steps: &[Step]) -> Board {
     let mut later = board.copy().expect(rt, "memory");
-    act(rt, &mut later, at, operation);
+    act(rt, &mut later, steps);
     later
 }
 
@@ -60,7 +66,7 @@ fn merged_into(rt: &impl Abort, a: &Board, b: &Board) -> Board {
 }
 
 /// What the two boards merge to, which is the same from either side.
-fn merged(rt: &impl Abort, a: &Board, b: &Board) -> Board {
+pub(crate) fn merged(rt: &impl Abort, a: &Board, b: &Board) -> Board {
     let left = merged_into(rt, a, b);
     let right = merged_into(rt, b, a);
     assert!(rt; left == right);
@@ -71,122 +77,110 @@ pub(crate) fn letter(board: &Board, job: Stamp) -> Option<Letter> {
     board.job(job)?.letter()
 }
 
-fn grant(board: &Board, job: Stamp) -> Option<GrantStage> {
-    board.job(job)?.grant()
-}
-
-/// What two sites with a job each merge to, one of ann and one of bob, which neither was before.
-fn both_submitted(rt: &(impl Abort + AllocGlobal), first: Stamp, second: Stamp) -> Board {
-    let a = submitted_by(rt, ann(), first, false);
-    let b = submitted_by(rt, bob(), second, false);
-    let both = merged(rt, &a, &b);
-    assert!(rt; both != a && both != b);
-    both
-}
-
 /// Whether the jobs of the board are these two, in this order.
 pub(crate) fn has_jobs(board: &Board, ids: [Stamp; 2]) -> bool {
-    board.jobs().map(|(id, _record)| *id).eq(ids)
+    let mut jobs = board.jobs();
+    for id in ids {
+        match jobs.next() {
+            Some((job, _record)) if *job == id => {}
+            _ => return false,
+        }
+    }
+    jobs.next().is_none()
+}
+
+/// What the boards of two sites merge to, each with a job, is neither of them. A job counts at the site that names it.
+fn see_exchanged(rt: &impl Abort, a: &Board, b: &Board, jobs: [Stamp; 2]) {
+    assert!(rt; a.job_count(site(0)) == 1 && a.job_count(site(1)) == 0);
+    let both = merged(rt, a, b);
+    assert!(rt; both != *a && both != *b && has_jobs(&both, jobs) && both.job_count(site(0)) == 1);
 }
 
 #[test]
 fn two_sites_submit_and_exchange(rt: HostRuntime) {
-    let first = stamp(1, 0);
-    let second = stamp(1, 1);
-    let both = both_submitted(&rt, first, second);
-    assert!(rt; has_jobs(&both, [first, second]));
-    assert!(rt; both.job_count(first.site()) == 1);
+    let jobs = [stamp(1, 0), stamp(1, 1)];
+    let a = board_of(&rt, &[(jobs[0], submit(false))]);
+    let b = board_of(&rt, &[(jobs[1], submission(bob(), false))]);
+    see_exchanged(&rt, &a, &b, jobs);
 }
 
-#[test]
-fn jobs_count_at_the_site_that_names_them(rt: HostRuntime) {
-    let board = submitted(&rt, stamp(1, 0), false);
-    assert!(rt; board.job_count(site(0)) == 1 && board.job_count(site(1)) == 0);
+/// The job has this letter on what the two boards merge to.
+fn see_letter(rt: &impl Abort, a: &Board, b: &Board, job: Stamp, wanted: Letter) {
+    assert!(rt; letter(&merged(rt, a, b), job) == Some(wanted));
 }
 
-/// A copy of the board, with the user hold of the job released.
-pub(crate) fn released(
-    rt: &(impl Abort + AllocGlobal),
-    board: &Board,
-    job: Stamp,
-    at: Stamp,
-) -> Board {
-    after(rt, board, at, &release(rt, job))
+/// A board that has not seen the release brings no hold back.
+fn see_released(rt: &impl Abort, late: &Board, queued: &Board, job: Stamp) {
+    assert!(rt; letter(late, job) == Some(Letter::Held));
+    assert!(rt; letter(queued, job) == Some(Letter::Queued));
+    see_letter(rt, late, queued, job, Letter::Queued);
 }
 
-/// The boards of two sites that had one held job, of which the first released it and the second held it again.
-fn released_and_held(rt: &(impl Abort + AllocGlobal), job: Stamp) -> (Board, Board) {
+/// A hold that a release has not seen stays.
+fn see_held_again(rt: &impl Abort, late: &Board, queued: &Board, job: Stamp) {
     let kinds = HoldKinds::USER;
-    let held = submitted(rt, job, true);
-    let a = released(rt, &held, job, stamp(2, 1));
-    let b = after(rt, &held, stamp(2, 0), &Operation::Hold { job, kinds });
-    (a, b)
+    let held = after(rt, late, &[(stamp(2, 0), Operation::Hold { job, kinds })]);
+    see_letter(rt, queued, &held, job, Letter::Held);
 }
 
 #[test]
-fn hold_that_a_release_has_not_seen_stays(rt: HostRuntime) {
+fn holds_and_releases_merge(rt: HostRuntime) {
     let job = stamp(1, 0);
-    let (a, b) = released_and_held(&rt, job);
-    assert!(rt; letter(&a, job) == Some(Letter::Queued));
-    assert!(rt; letter(&merged(&rt, &a, &b), job) == Some(Letter::Held));
+    let late = board_of(&rt, &[(job, submit(true))]);
+    let queued = after(&rt, &late, &[(stamp(2, 1), release(&rt, job))]);
+    see_released(&rt, &late, &queued, job);
+    see_held_again(&rt, &late, &queued, job);
 }
 
-#[test]
-fn late_board_brings_no_hold_back(rt: HostRuntime) {
-    let job = stamp(1, 0);
-    let late = submitted(&rt, job, true);
-    let queued = released(&rt, &late, job, stamp(2, 1));
-    assert!(rt; letter(&late, job) == Some(Letter::Held));
-    assert!(rt; letter(&merged(&rt, &late, &queued), job) == Some(Letter::Queued));
+/// The first term of the job is granted to the site.
+pub(crate) fn granted(rt: &impl Abort, job: Stamp, site: SiteId) -> Step {
+    let term = term(rt, 1);
+    (stamp(2, 0), Operation::Grant { job, site, term })
 }
 
-/// A board with one job, whose first term is granted to the site.
-pub(crate) fn granted(rt: &(impl Abort + AllocGlobal), job: Stamp, site: SiteId) -> Board {
-    let term = Term::new(1).unwrap();
-    let board = submitted(rt, job, false);
-    after(
+/// The first term of the job is handed back.
+pub(crate) fn handed_back(rt: &impl Abort, job: Stamp, back: Stamp) -> Step {
+    let term = term(rt, 1);
+    (back, Operation::HandBack { job, term })
+}
+
+/// The job is granted so on the board.
+fn see_grant(rt: &impl Abort, board: &Board, job: Stamp, wanted: GrantStage) {
+    let record = board.job(job).expect(rt, "the job");
+    assert!(rt; record.grant() == Some(wanted));
+}
+
+/// A board that has not learnt that a grant was handed back takes nothing away.
+fn see_kept(rt: &impl Abort, a: &Board, b: &Board, job: Stamp, stamp: Stamp) {
+    let term = term(rt, 1);
+    let both = merged(rt, a, b);
+    see_grant(rt, &both, job, GrantStage::Returned { term, stamp });
+    assert!(rt; both == *b);
+}
+
+/// A new term stands above a grant that was handed back.
+fn see_granted_anew(rt: &impl Abort, b: &Board, job: Stamp, site: SiteId) {
+    let (stamp, term) = (stamp(4, 0), term(rt, 2));
+    let a = after(rt, b, &[(stamp, Operation::Grant { job, site, term })]);
+    see_grant(
         rt,
-        &board,
-        stamp(2, 0),
-        &Operation::Grant { job, site, term },
-    )
-}
-
-/// The boards of two sites where the second was granted the first term of the job, handed it back, and the first
-/// learnt of it.
-pub(crate) fn handed_back(
-    rt: &(impl Abort + AllocGlobal),
-    job: Stamp,
-    back: Stamp,
-) -> (Board, Board) {
-    let term = Term::new(1).unwrap();
-    let a = granted(rt, job, back.site());
-    let b = after(rt, &a, back, &Operation::HandBack { job, term });
-    let both = merged(rt, &a, &b);
-    (both, b)
+        &merged(rt, &a, b),
+        job,
+        GrantStage::Open { term, stamp, site },
+    );
 }
 
 #[test]
-fn merging_keeps_a_grant_handed_back(rt: HostRuntime) {
-    let job = stamp(1, 0);
-    let back = stamp(3, 1);
-    let term = Term::new(1).unwrap();
-    let (both, _b) = handed_back(&rt, job, back);
-    assert!(rt; grant(&both, job) == Some(GrantStage::Returned { term, stamp: back }));
-}
-
-#[test]
-fn new_term_stands_above_a_grant_handed_back(rt: HostRuntime) {
-    let (job, site) = (stamp(1, 0), site(1));
-    let stamp = stamp(4, 0);
-    let term = Term::new(2).unwrap();
-    let (both, b) = handed_back(&rt, job, self::stamp(3, 1));
-    let a = after(&rt, &both, stamp, &Operation::Grant { job, site, term });
-    assert!(rt; grant(&merged(&rt, &a, &b), job) == Some(GrantStage::Open { term, stamp, site }));
+fn grants_handed_back_merge(rt: HostRuntime) {
+    let (job, back, site) = (stamp(1, 0), stamp(3, 1), site(1));
+    let a = board_of(&rt, &[(job, submit(false)), granted(&rt, job, site)]);
+    let b = after(&rt, &a, &[handed_back(&rt, job, back)]);
+    see_kept(&rt, &a, &b, job, back);
+    see_granted_anew(&rt, &b, job, site);
 }
 
 /// Four nodes of the site from second 10 on to second 19.
-pub(crate) fn window(site: SiteId) -> Window {
+fn window(site: SiteId) -> Window {
     Window {
         site,
         start: 10,
@@ -195,38 +189,31 @@ pub(crate) fn window(site: SiteId) -> Window {
     }
 }
 
-/// A board with one reservation, which has this identifier.
-pub(crate) fn reserved(rt: &(impl Abort + AllocGlobal), id: Stamp) -> Board {
+/// The reservation with this identifier is made.
+pub(crate) fn reserved(id: Stamp) -> Step {
     let window = window(id.site());
-    after(
-        rt,
-        &Board::new(rt.alloc()),
-        id,
-        &Operation::Reserve { window },
-    )
+    (id, Operation::Reserve { window })
 }
 
-fn first_reservation(board: &Board) -> Option<Reservation> {
-    let (_name, found) = board.reservations().next()?;
-    Some(*found)
-}
-
-#[test]
-fn reservations_are_made(rt: HostRuntime) {
-    let id = stamp(1, 2);
+/// The reservation stands on the board as it was made.
+pub(crate) fn see_reserved(rt: &impl Abort, board: &Board, id: Stamp) {
     let made = Reservation::from_parts(id, Some(window(id.site())));
-    let board = reserved(&rt, id);
     assert!(rt; board.reservation(id).copied() == Some(made));
+    assert!(rt; board.reservation_count(id.site()) == 1);
+}
+
+/// The first reservation of what the two boards merge to is this one, and it has no other.
+fn see_last(rt: &impl Abort, a: &Board, b: &Board, last: Reservation, id: Stamp) {
+    let both = merged(rt, a, b);
+    let first = both.reservations().next().map(|(_id, found)| *found);
+    assert!(rt; first == Some(last) && both.reservation_count(id.site()) == 1);
 }
 
 #[test]
 fn reservations_stand_until_cancelled(rt: HostRuntime) {
-    let id = stamp(1, 2);
-    let at = stamp(2, 2);
-    let last = Reservation::from_parts(at, None);
-    let a = reserved(&rt, id);
-    let b = after(&rt, &a, at, &Operation::Cancel { reservation: id });
-    let both = merged(&rt, &a, &b);
-    assert!(rt; first_reservation(&both) == Some(last));
-    assert!(rt; both.reservation_count(id.site()) == 1);
+    let (id, at) = (stamp(1, 2), stamp(2, 2));
+    let a = board_of(&rt, &[reserved(id)]);
+    see_reserved(&rt, &a, id);
+    let b = after(&rt, &a, &[(at, Operation::Cancel { reservation: id })]);
+    see_last(&rt, &a, &b, Reservation::from_parts(at, None), id);
 }

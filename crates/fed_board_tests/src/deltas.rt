@@ -1,18 +1,11 @@
 //! What sites tell one another of their boards, and what they take in.
-use crate::boards::{after, letter, released, reserved, submit, submitted, window};
+use crate::boards::{act, after, board_of, letter, release, reserved, see_reserved, submit};
 use fed_board::Board;
 use fed_delta::{Absorb, Delta, absorb, delta_since};
-use fed_record::{Letter, Reservation};
+use fed_record::Letter;
 use fed_stamp::{Stamp, Version};
 use fed_test_values::{site, stamp};
 use std::process::Abort;
-
-/// A board with one job, and that board with a second.
-fn one_and_two(rt: &(impl Abort + AllocGlobal)) -> (Board, Board) {
-    let one = submitted(rt, stamp(1, 0), false);
-    let two = after(rt, &one, stamp(2, 0), &submit(false));
-    (one, two)
-}
 
 /// What the board tells one who knows what this version covers.
 fn told(rt: &(impl Abort + AllocGlobal), board: &Board, known: &Version) -> Delta {
@@ -26,29 +19,11 @@ fn passed(rt: &(impl Abort + AllocGlobal), from: &Board, known: &Version, to: &B
     later
 }
 
-/// A new board that has taken in all of this one.
-fn taken_whole(rt: &(impl Abort + AllocGlobal), board: &Board) -> Board {
-    passed(rt, board, &Version::default(), &Board::new(rt.alloc()))
-}
-
-/// The identifiers of the first two jobs that are told.
-fn first_jobs(news: &Delta) -> [Option<Stamp>; 2] {
+/// The delta tells of this job alone, or of none, and of no reservation.
+fn see_told(rt: &impl Abort, news: &Delta, job: Option<Stamp>) {
     let mut jobs = news.jobs();
-    let first = jobs.next().map(|(job, _record)| *job);
-    let second = jobs.next().map(|(job, _record)| *job);
-    [first, second]
-}
-
-/// What a board with two jobs tells one who knows the first.
-fn second_job(rt: &(impl Abort + AllocGlobal)) -> Delta {
-    let (one, two) = one_and_two(rt);
-    told(rt, &two, &one.version())
-}
-
-#[test]
-fn delta_has_what_is_new(rt: HostRuntime) {
-    let news = second_job(&rt);
-    assert!(rt; first_jobs(&news) == [Some(stamp(2, 0)), None]);
+    assert!(rt; jobs.next().map(|(id, _record)| *id) == job);
+    assert!(rt; jobs.next().is_none() && news.reservations().next().is_none());
 }
 
 /// The version that sees this much of the first site, and nothing of others.
@@ -56,112 +31,87 @@ fn seen(counter: u64) -> Version {
     Version::default().with(stamp(counter, 0))
 }
 
-#[test]
-fn delta_leads_from_one_version_to_the_other(rt: HostRuntime) {
-    let news = second_job(&rt);
-    assert!(rt; news.need() == seen(1) && news.reached() == seen(2));
-}
-
-#[test]
-fn boards_are_taken_whole(rt: HostRuntime) {
-    let board = submitted(&rt, stamp(1, 0), false);
-    assert!(rt; taken_whole(&rt, &board) == board);
-}
-
-/// A board with the first of two jobs is told of the second.
-#[test]
-fn delta_brings_what_is_new(rt: HostRuntime) {
-    let (one, two) = one_and_two(&rt);
-    let board = taken_whole(&rt, &one);
-    let later = passed(&rt, &two, &board.version(), &board);
-    assert!(rt; later == two);
-    assert!(rt; later.job_count(stamp(1, 0).site()) == 2);
-}
-
-#[test]
-fn delta_made_for_another_is_a_gap(rt: HostRuntime) {
-    let missing = stamp(1, 0).site();
+/// A board that lacks what a delta needs stays as it is.
+fn see_gap(rt: &(impl Abort + AllocGlobal), news: &Delta) {
+    let missing = site(0);
     let mut third = Board::new(rt.alloc());
-    let fault = absorb(&mut third, &second_job(&rt)).expect_err(&rt, "a gap");
+    let fault = absorb(&mut third, news).expect_err(rt, "a gap");
     assert!(rt; fault == Absorb::Gap { missing } && fault.number() == 1);
     assert!(rt; third == Board::new(rt.alloc()));
 }
 
-/// Whether the delta has no record.
-fn is_empty(news: &Delta) -> bool {
-    news.jobs().next().is_none() && news.reservations().next().is_none()
+/// One who knows the first of two jobs is told of the second.
+fn see_second_told(rt: &(impl Abort + AllocGlobal), one: &Board, two: &Board) {
+    let news = told(rt, two, &one.version());
+    see_told(rt, &news, Some(stamp(2, 0)));
+    assert!(rt; news.need() == seen(1) && news.reached() == seen(2));
+    see_gap(rt, &news);
 }
 
+/// A board is taken whole, and then what is new.
+fn see_taken(rt: &(impl Abort + AllocGlobal), one: &Board, two: &Board) {
+    let board = passed(rt, one, &Version::default(), &Board::new(rt.alloc()));
+    assert!(rt; board == *one && two.job_count(site(0)) == 2);
+    assert!(rt; passed(rt, two, &board.version(), &board) == *two);
+}
+
+/// A delta of what is known is empty, and changes nothing.
+fn see_nothing_new(rt: &(impl Abort + AllocGlobal), one: &Board, two: &Board) {
+    see_told(rt, &told(rt, one, &one.version()), None);
+    assert!(rt; passed(rt, one, &one.version(), two) == *two);
+}
+
+/// A board with one job, and that board with a second.
 #[test]
-fn delta_of_what_is_known_is_empty(rt: HostRuntime) {
-    let board = submitted(&rt, stamp(1, 0), false);
-    assert!(rt; is_empty(&told(&rt, &board, &board.version())));
+fn delta_brings_what_is_new(rt: HostRuntime) {
+    let one = board_of(&rt, &[(stamp(1, 0), submit(false))]);
+    let two = after(&rt, &one, &[(stamp(2, 0), submit(false))]);
+    see_second_told(&rt, &one, &two);
+    see_taken(&rt, &one, &two);
+    see_nothing_new(&rt, &one, &two);
 }
 
-#[test]
-fn delta_of_what_is_known_changes_nothing(rt: HostRuntime) {
-    let (one, two) = one_and_two(&rt);
-    assert!(rt; passed(&rt, &one, &one.version(), &two) == two);
-}
-
-/// A board with a held job, and that board with the job released.
-fn held_and_released(rt: &(impl Abort + AllocGlobal), job: Stamp) -> (Board, Board) {
-    let held = submitted(rt, job, true);
-    let queued = released(rt, &held, job, stamp(2, 0));
-    (held, queued)
+/// A release is told and taken.
+fn see_release(rt: &(impl Abort + AllocGlobal), held: &Board, queued: &Board, job: Stamp) {
+    see_told(rt, &told(rt, queued, &held.version()), Some(job));
+    assert!(rt; letter(held, job) == Some(Letter::Held));
+    assert!(rt; letter(queued, job) == Some(Letter::Queued));
+    assert!(rt; passed(rt, queued, &held.version(), held) == *queued);
 }
 
 #[test]
 fn release_alone_is_told(rt: HostRuntime) {
     let job = stamp(1, 0);
-    let (held, queued) = held_and_released(&rt, job);
-    let news = told(&rt, &queued, &held.version());
-    assert!(rt; first_jobs(&news) == [Some(job), None]);
+    let held = board_of(&rt, &[(job, submit(true))]);
+    let queued = after(&rt, &held, &[(stamp(2, 0), release(&rt, job))]);
+    see_release(&rt, &held, &queued, job);
 }
 
-#[test]
-fn release_alone_is_taken(rt: HostRuntime) {
-    let job = stamp(1, 0);
-    let (held, queued) = held_and_released(&rt, job);
-    let later = passed(&rt, &queued, &held.version(), &held);
-    assert!(rt; letter(&held, job) == Some(Letter::Held));
-    assert!(rt; letter(&later, job) == Some(Letter::Queued) && later == queued);
-}
-
-/// A board with a held job that has taken in a board with a reservation and no more.
-fn beside(rt: &(impl Abort + AllocGlobal), job: Stamp, id: Stamp) -> Board {
-    let board = submitted(rt, job, true);
-    let other = reserved(rt, id);
-    passed(rt, &other, &board.version(), &board)
-}
-
-#[test]
-fn what_the_sender_has_not_touched_stays(rt: HostRuntime) {
-    let job = stamp(1, 0);
-    let id = stamp(1, 2);
-    let board = beside(&rt, job, id);
-    assert!(rt; letter(&board, job) == Some(Letter::Held));
+/// What the sender has not touched stays.
+fn see_untouched(rt: &impl Abort, board: &Board, job: Stamp) {
+    assert!(rt; letter(board, job) == Some(Letter::Held));
     assert!(rt; board.job_count(job.site()) == 1);
-    assert!(rt; board.reservation_count(id.site()) == 1);
 }
 
+/// A board with a held job takes in a board with a reservation and no more.
 #[test]
 fn reservations_are_taken_in(rt: HostRuntime) {
-    let id = stamp(1, 2);
-    let board = beside(&rt, stamp(1, 0), id);
-    let made = Reservation::from_parts(id, Some(window(id.site())));
-    assert!(rt; board.reservation(id).copied() == Some(made));
+    let (job, id) = (stamp(1, 0), stamp(1, 2));
+    let held = board_of(&rt, &[(job, submit(true))]);
+    let other = board_of(&rt, &[reserved(id)]);
+    let board = passed(&rt, &other, &held.version(), &held);
+    see_untouched(&rt, &board, job);
+    see_reserved(&rt, &board, id);
 }
 
 /// Adds an operation whose stamp is the next of the site.
-fn act_next(rt: &(impl Abort + AllocGlobal), board: &mut Board, number: u8, held: bool) {
-    let at = board
-        .version()
-        .next(site(number))
-        .expect(rt, "a counter is left");
-    let operation = submit(held);
-    assert!(rt; !board.version().covers(at) && board.has_named(&operation));
-    board.apply(at, &operation).expect(rt, "memory");
+fn act_next(rt: &impl Abort, board: &mut Board, number: u8, held: bool) {
+    let next = board.version().next(site(number));
+    act(
+        rt,
+        board,
+        &[(next.expect(rt, "a counter is left"), submit(held))],
+    );
 }
 
 /// Takes in what the other board tells that this one has not seen.
@@ -169,26 +119,34 @@ fn take(rt: &(impl Abort + AllocGlobal), to: &mut Board, from: &Board) {
     absorb(to, &told(rt, from, &to.version())).expect(rt, "what is told fits");
 }
 
+/// Two sites act, and every fifth time exchange what they have.
+fn act_both(rt: &(impl Abort + AllocGlobal), one: &mut Board, other: &mut Board, round: u8) {
+    act_next(rt, one, 0, round % 2 == 0);
+    act_next(rt, other, 1, round % 3 == 0);
+    if round % 5 == 4 {
+        take(rt, one, other);
+        take(rt, other, one);
+    }
+}
+
+/// A copy of the board tells the same to all who know so much of the two sites.
+fn see_copy_tells(rt: &(impl Abort + AllocGlobal), board: &Board) {
+    let copy = board.copy().expect(rt, "memory");
+    for first in 0..16u64 {
+        for second in 0..16u64 {
+            let known = seen(3 * first + 1).with(stamp(3 * second + 1, 1));
+            assert!(rt; told(rt, board, &known) == told(rt, &copy, &known));
+        }
+    }
+}
+
+/// The copy lists no changes, and a board of 80 jobs has forgotten the first of its 40 changes by each site.
 #[test]
 fn boards_tell_what_their_copies_tell(rt: HostRuntime) {
     let mut one = Board::new(rt.alloc());
     let mut other = Board::new(rt.alloc());
     for round in 0..40u8 {
-        act_next(&rt, &mut one, 0, round % 2 == 0);
-        act_next(&rt, &mut other, 1, round % 3 == 0);
-        if round % 5 == 4 {
-            take(&rt, &mut one, &other);
-            take(&rt, &mut other, &one);
-        }
+        act_both(&rt, &mut one, &mut other, round);
     }
-    // the copy lists no changes, and a board of 80 jobs has forgotten the first of its 40 changes by each site
-    let copy = one.copy().expect(&rt, "memory");
-    for i in 0..16u64 {
-        for j in 0..16u64 {
-            let known = Version::default()
-                .with(stamp(3 * i + 1, 0))
-                .with(stamp(3 * j + 1, 1));
-            assert!(rt; told(&rt, &one, &known) == told(&rt, &copy, &known));
-        }
-    }
+    see_copy_tells(&rt, &one);
 }

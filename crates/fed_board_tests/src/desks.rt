@@ -1,141 +1,117 @@
 //! What the origin of a job decides where sites ask for the job.
-use crate::boards::{after, granted, handed_back, submitted};
-use fed_board::Board;
+use crate::boards::{Step, board_of, granted, handed_back, submit};
 use fed_desk::{Decision, decide};
 use fed_record::{Beginning, Ending, HoldKinds, Moment, Nodes, Operation, Refusal};
 use fed_stamp::Stamp;
 use fed_test_values::{site, stamp};
 use std::process::Abort;
 
-/// Whether argonne, site 0, grants its first job where this site asks.
-fn is_granted(board: &Board, asker: u8) -> bool {
-    match decide(board, site(0), stamp(1, 0), site(asker)) {
-        Decision::Grant => true,
-        Decision::Yours | Decision::Refused(_) => false,
+const HELD: Decision = Decision::Refused(Refusal::Held);
+
+const NOT_ELIGIBLE: Decision = Decision::Refused(Refusal::NotEligible);
+
+const GONE: Decision = Decision::Refused(Refusal::Gone);
+
+/// Once these operations were added, argonne, site 0, decides so where sites 0, 1 and 2 ask for its first job.
+fn see(rt: &(impl Abort + AllocGlobal), steps: &[Step], wanted: &[Decision; 3]) {
+    let board = board_of(rt, steps);
+    for (asker, wanted) in [0, 1, 2].into_iter().zip(wanted) {
+        let decided = decide(&board, site(0), stamp(1, 0), site(asker));
+        assert!(rt; decided == *wanted, "site {asker}");
     }
 }
 
-/// Why nothing is granted, where the decision is a refusal.
-fn reason(decision: Decision) -> Option<Refusal> {
-    match decision {
-        Decision::Refused(refusal) => Some(refusal),
-        Decision::Grant | Decision::Yours => None,
-    }
-}
-
-/// Why argonne's first job is refused to this site, if it is.
-fn refusal(board: &Board, asker: u8) -> Option<Refusal> {
-    reason(decide(board, site(0), stamp(1, 0), site(asker)))
-}
-
-/// Why it is refused to these sites.
-fn refusals(board: &Board, askers: [u8; 2]) -> [Option<Refusal>; 2] {
-    [refusal(board, askers[0]), refusal(board, askers[1])]
-}
-
-/// Whether argonne grants its first job where the first site asks, and where the second does.
-fn grants(board: &Board) -> [bool; 2] {
-    [is_granted(board, 0), is_granted(board, 1)]
-}
-
-fn beginning() -> Beginning {
-    Beginning {
-        moment: Moment::new(0).unwrap(),
-        nodes: Nodes::new(1).unwrap(),
+/// A Begin of the job at site 1.
+fn begun(rt: &impl Abort, job: Stamp) -> Step {
+    let beginning = Beginning {
+        moment: Moment::new(0).expect(rt, "a moment"),
+        nodes: Nodes::new(1).expect(rt, "nodes"),
         end: 60,
-    }
+    };
+    (stamp(5, 1), Operation::Begin { job, beginning })
 }
 
-fn ending() -> Ending {
-    Ending {
-        moment: Moment::new(50).unwrap(),
+/// The Finish behind it.
+fn finished(rt: &impl Abort, job: Stamp) -> Step {
+    let ending = Ending {
+        moment: Moment::new(50).expect(rt, "a moment"),
         status: 0,
-    }
+    };
+    (stamp(6, 1), Operation::Finish { job, ending })
 }
 
-/// The board with a Begin of the job at site 1, and then a Finish.
-fn finished(rt: &impl Abort, board: &Board, job: Stamp) -> Board {
-    let beginning = beginning();
-    let ending = ending();
-    let begun = after(rt, board, stamp(5, 1), &Operation::Begin { job, beginning });
-    after(rt, &begun, stamp(6, 1), &Operation::Finish { job, ending })
-}
-
+/// Jobs that are queued, and those handed back, are granted to the sites that they name.
 #[test]
 fn queued_jobs_are_granted(rt: HostRuntime) {
-    let board = submitted(&rt, stamp(1, 0), false);
-    assert!(rt; grants(&board) == [true, true]);
+    let (job, back) = (stamp(1, 0), stamp(3, 1));
+    let wanted = &[Decision::Grant, Decision::Grant, NOT_ELIGIBLE];
+    see(&rt, &[(job, submit(false))], wanted);
+    see(
+        &rt,
+        &[
+            (job, submit(false)),
+            granted(&rt, job, site(1)),
+            handed_back(&rt, job, back),
+        ],
+        wanted,
+    );
 }
 
+/// Jobs are granted to one site, and holds of a granted job are not looked at.
 #[test]
 fn jobs_are_granted_to_one_site(rt: HostRuntime) {
-    let board = granted(&rt, stamp(1, 0), site(1));
-    assert!(rt; refusals(&board, [0, 1]) == [Some(Refusal::TakenBy(site(1))), None]);
-    assert!(rt; !is_granted(&board, 1));
+    let job = stamp(1, 0);
+    let kinds = HoldKinds::USER;
+    let taken = Decision::Refused(Refusal::TakenBy(site(1)));
+    let wanted = &[taken, Decision::Yours, taken];
+    see(
+        &rt,
+        &[(job, submit(false)), granted(&rt, job, site(1))],
+        wanted,
+    );
+    see(
+        &rt,
+        &[
+            (job, submit(false)),
+            granted(&rt, job, site(1)),
+            (stamp(3, 1), Operation::Hold { job, kinds }),
+        ],
+        wanted,
+    );
 }
 
-/// Why argonne's first job is refused where its sibling at site 1 decides, and why a job that isn't there.
-fn refusals_elsewhere(board: &Board) -> [Option<Refusal>; 2] {
-    let of_a_sibling = decide(board, site(1), stamp(1, 0), site(1));
-    let of_no_job = decide(board, site(0), stamp(2, 0), site(1));
-    [reason(of_a_sibling), reason(of_no_job)]
-}
-
+/// A sibling at site 1 decides nothing on argonne's first job, nor argonne on a job that isn't there.
 #[test]
 fn other_sites_decide_nothing(rt: HostRuntime) {
-    let board = granted(&rt, stamp(1, 0), site(1));
-    let wanted = [Some(Refusal::NotOrigin), Some(Refusal::UnknownJob)];
-    assert!(rt; refusals_elsewhere(&board) == wanted);
-}
-
-#[test]
-fn held_jobs_are_refused(rt: HostRuntime) {
-    let board = submitted(&rt, stamp(1, 0), true);
-    assert!(rt; refusals(&board, [1, 2]) == [Some(Refusal::Held); 2]);
-}
-
-#[test]
-fn sites_not_named_are_refused(rt: HostRuntime) {
-    let board = submitted(&rt, stamp(1, 0), false);
-    assert_eq!(rt; refusal(&board, 2), Some(Refusal::NotEligible));
-}
-
-/// A board with one job, which is granted to site 1 and then held there.
-fn granted_and_held(rt: &(impl Abort + AllocGlobal), job: Stamp) -> Board {
-    let kinds = HoldKinds::USER;
-    let board = granted(rt, job, site(1));
-    after(rt, &board, stamp(3, 1), &Operation::Hold { job, kinds })
-}
-
-#[test]
-fn holds_of_granted_jobs_are_not_looked_at(rt: HostRuntime) {
-    let board = granted_and_held(&rt, stamp(1, 0));
-    assert!(rt; refusals(&board, [1, 2]) == [None, Some(Refusal::TakenBy(site(1)))]);
-}
-
-#[test]
-fn jobs_handed_back_are_granted_anew(rt: HostRuntime) {
     let job = stamp(1, 0);
-    let (both, _b) = handed_back(&rt, job, stamp(3, 1));
-    assert!(rt; is_granted(&both, 0));
-    assert!(rt; is_granted(&both, 1));
+    let board = board_of(&rt, &[(job, submit(false)), granted(&rt, job, site(1))]);
+    let of_a_sibling = decide(&board, site(1), job, site(1));
+    assert!(rt; of_a_sibling == Decision::Refused(Refusal::NotOrigin));
+    let of_no_job = decide(&board, site(0), stamp(2, 0), site(1));
+    assert!(rt; of_no_job == Decision::Refused(Refusal::UnknownJob));
 }
 
+/// Jobs that are held are refused, and so are those that are finished or deleted.
 #[test]
-fn finished_jobs_are_gone(rt: HostRuntime) {
+fn held_jobs_and_jobs_that_are_gone_are_refused(rt: HostRuntime) {
     let job = stamp(1, 0);
-    let board = finished(&rt, &granted(&rt, job, site(1)), job);
-    assert_eq!(rt; refusal(&board, 1), Some(Refusal::Gone));
-}
-
-/// A board with one job, which was held and is deleted.
-fn deleted(rt: &(impl Abort + AllocGlobal), job: Stamp) -> Board {
-    let board = submitted(rt, job, true);
-    after(rt, &board, stamp(2, 0), &Operation::Delete { job })
-}
-
-#[test]
-fn deleted_jobs_are_gone(rt: HostRuntime) {
-    let board = deleted(&rt, stamp(1, 0));
-    assert_eq!(rt; refusal(&board, 2), Some(Refusal::Gone));
+    see(&rt, &[(job, submit(true))], &[HELD; 3]);
+    see(
+        &rt,
+        &[
+            (job, submit(false)),
+            granted(&rt, job, site(1)),
+            begun(&rt, job),
+            finished(&rt, job),
+        ],
+        &[GONE; 3],
+    );
+    see(
+        &rt,
+        &[
+            (job, submit(true)),
+            (stamp(2, 0), Operation::Delete { job }),
+        ],
+        &[GONE; 3],
+    );
 }

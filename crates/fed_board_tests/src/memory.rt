@@ -1,7 +1,7 @@
 //! Boards and deltas where memory may be refused. A call answers as with ample memory, or by want of memory; then it leaves
 //! all as before, and answers as with ample memory when it is asked again. So the tests pass whichever allocation fails,
 //! which `rt try --test --fail-alloc N` does for the Nth.
-use crate::boards::{has_jobs, submit, submitted};
+use crate::boards::{board_of, has_jobs, submit};
 use fed_board::Board;
 use fed_delta::{Absorb, Delta, absorb, delta_since};
 use fed_record::{HoldKind, HoldKinds, Operation};
@@ -36,44 +36,52 @@ fn applied(rt: &impl Abort, board: &mut Board, at: Stamp, operation: &Operation)
     }
 }
 
-#[test]
-fn failed_allocations_of_operations(rt: HostRuntime) {
-    let (job, held) = (stamp(1, 0), stamp(2, 0));
-    let mut board = Board::new(rt.alloc());
-    applied(&rt, &mut board, job, &submit(false));
-    let hold = Operation::Hold {
-        job,
-        kinds: HoldKinds::USER,
-    };
-    applied(&rt, &mut board, held, &hold);
-    let record = board.job(job).expect(&rt, "the job");
+/// A copy of the board that has taken in all that another tells. A failed allocation leaves the board.
+fn absorbed(rt: &(impl Abort + AllocGlobal), board: &Board, other: &Board) -> Board {
+    let news = told(rt, other);
+    let mut both = copied(rt, board);
+    if let Err(fault) = absorb(&mut both, &news) {
+        assert!(rt; fault == Absorb::NoMemory && both == *board);
+        absorb(&mut both, &news).expect(rt, "memory");
+    }
+    both
+}
+
+/// The job is held at this stamp, and nothing else.
+fn see_held(rt: &impl Abort, board: &Board, job: Stamp, held: Stamp) {
+    let record = board.job(job).expect(rt, "the job");
     assert!(rt; record.hold_tags().eq([(HoldKind::User, held)]));
     assert!(rt; board.version() == Version::default().with(held));
 }
 
 #[test]
-fn failed_allocations_of_a_merge(rt: HostRuntime) {
-    let one = submitted(&rt, stamp(1, 0), false);
-    let other = submitted(&rt, stamp(1, 1), false);
-    let mut both = copied(&rt, &one);
-    if both.merge(&other).is_err() {
-        assert!(rt; both == one);
-        both.merge(&other).expect(&rt, "memory");
-    }
-    assert!(rt; has_jobs(&both, [stamp(1, 0), stamp(1, 1)]));
+fn failed_allocations_of_operations(rt: HostRuntime) {
+    let (job, held) = (stamp(1, 0), stamp(2, 0));
+    let kinds = HoldKinds::USER;
+    let mut board = Board::new(rt.alloc());
+    applied(&rt, &mut board, job, &submit(false));
+    applied(&rt, &mut board, held, &Operation::Hold { job, kinds });
+    see_held(&rt, &board, job, held);
 }
 
-#[test]
-fn failed_allocations_of_a_delta(rt: HostRuntime) {
-    let one = submitted(&rt, stamp(1, 0), false);
-    let other = submitted(&rt, stamp(1, 1), false);
-    let news = told(&rt, &other);
-    let mut both = copied(&rt, &one);
-    if let Err(fault) = absorb(&mut both, &news) {
-        assert!(rt; fault == Absorb::NoMemory && both == one);
-        absorb(&mut both, &news).expect(&rt, "memory");
+/// What two boards merge to has these jobs. A failed allocation leaves the board.
+fn see_merged(rt: &impl Abort, one: &Board, other: &Board, jobs: [Stamp; 2]) {
+    let mut both = copied(rt, one);
+    if both.merge(other).is_err() {
+        assert!(rt; both == *one);
+        both.merge(other).expect(rt, "memory");
     }
-    assert!(rt; has_jobs(&both, [stamp(1, 0), stamp(1, 1)]));
+    assert!(rt; has_jobs(&both, jobs));
+}
+
+/// The boards of two sites, each with a job, merge and take one another in.
+#[test]
+fn failed_allocations_of_a_merge_and_a_delta(rt: HostRuntime) {
+    let jobs = [stamp(1, 0), stamp(1, 1)];
+    let one = board_of(&rt, &[(jobs[0], submit(false))]);
+    let other = board_of(&rt, &[(jobs[1], submit(false))]);
+    see_merged(&rt, &one, &other, jobs);
+    assert!(rt; has_jobs(&absorbed(&rt, &one, &other), jobs));
 }
 
 /// A copy of the board, on which another site holds the job and submits another.
@@ -88,13 +96,8 @@ fn gone_on(rt: &(impl Abort + AllocGlobal), board: &Board, job: Stamp, next: Sta
 #[test]
 fn failed_allocations_of_a_delta_of_a_known_job(rt: HostRuntime) {
     let (job, next) = (stamp(1, 0), stamp(3, 1));
-    let one = submitted(&rt, job, false);
+    let one = board_of(&rt, &[(job, submit(false))]);
     let later = gone_on(&rt, &one, job, next);
-    let news = told(&rt, &later);
-    let mut both = copied(&rt, &one);
-    if let Err(fault) = absorb(&mut both, &news) {
-        assert!(rt; fault == Absorb::NoMemory && both == one);
-        absorb(&mut both, &news).expect(&rt, "memory");
-    }
-    assert!(rt; has_jobs(&both, [job, next]) && both == later);
+    assert!(rt; has_jobs(&later, [job, next]));
+    assert!(rt; absorbed(&rt, &one, &later) == later);
 }
