@@ -90,7 +90,13 @@ def page(tally, federation):
         names = [element.tag.rpartition("}")[2] for element in root.iter()]
         tally.true(f"{path} has a title and one head line", root.findtext(".//{*}title") and names.count("h1") == 1)
         tally.same(f"{path} has no script", names.count("script"), 0)
+    site.ask("grant", "2", "argonne")
+    site.ask("handback", "2")
+    site.ask("grant", "3", "argonne")
+    time.sleep(2.5)
     text = read_page("/")[1]
+    tally.same("a job whose grant was handed back waits as others", "granted to" in text, False)
+    tally.same("its own page", read_page("/jobs/2")[0], 200)
     tally.same("each job shown has its row", text.count('href="/jobs/'), 20)
     tally.true("and its reason", "held: user" in text and "starts" in text)
     told = json.loads(read_page("/jobs.json")[1])

@@ -2,6 +2,7 @@
 import json
 import os
 import pwd
+import resource
 import shutil
 import signal
 import subprocess
@@ -118,6 +119,11 @@ def runs(tally, federation):
     both = site.jobs(*jobs)
     if abs(both[jobs[0]]["begun"]["moment"] - both[jobs[1]]["begun"]["moment"]) < 1:
         tally.same("no host has two jobs", sorted(hosts[0] + hosts[1]), ["h1", "h2", "h3", "h4"])
+    limits = site.submit("ulimit -Sn\n", "-N", "limits", folder=folder)
+    tally.same("a job that tells its limits", site.finished(limits), 0)
+    most = resource.getrlimit(resource.RLIMIT_NOFILE)[0]
+    told = read(f"{folder}/limits.o{limits.split('.')[0]}").strip()
+    tally.same("has as many files as the service was started with", told, "unlimited" if most == resource.RLIM_INFINITY else str(most))
     lost = site.submit("true\n", "-N", "nowhere", folder="/does/not/exist")
     tally.same("a folder that isn't there", site.finished(lost), 0)
     for kind in "oe":

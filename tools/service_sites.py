@@ -68,6 +68,15 @@ def until(holds, seconds, what):
         time.sleep(0.05)
 
 
+def has_program(tool, program):
+    """Whether the program is there; where it isn't, that is told, and counted as failed."""
+    if os.access(program, os.X_OK):
+        return True
+    print(f"{tool}: {program} isn't there: it is built by (cd crates/nettlebeam && rt run -- --version)")
+    print("0 passed, 1 failed")
+    return False
+
+
 class ServedSite:
     """A site with its service."""
 
@@ -236,4 +245,4 @@ class ServedFederation:
                 pass
 
 
-__all__ = ["accounting", "seal", "NoEnd", "PROGRAM", "SERVICE", "ServedFederation", "ServedSite", "TOP", "Told", "Unasked", "ask", "config", "stat_of", "until"]
+__all__ = ["accounting", "has_program", "seal", "NoEnd", "PROGRAM", "SERVICE", "ServedFederation", "ServedSite", "TOP", "Told", "Unasked", "ask", "config", "stat_of", "until"]

@@ -29,7 +29,7 @@ def is_settled(job: Dict[str, Any], here: str) -> bool:
         return True
     if job["begun"] or not job["deleted"]:
         return False
-    holder = job["grant"]["site"] if job["grant"] else None
+    holder = (job["grant"] or {}).get("site")  # none where it was handed back
     return holder == here or (holder is None and str(job["id"]).partition(".")[2] == here)
 
 

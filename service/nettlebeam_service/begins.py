@@ -8,6 +8,7 @@ import time
 from typing import Any, Callable, Dict, Optional, Set
 
 from .config import Config
+from .processes import FILES_OF_JOBS
 from .runs import Runs
 from .site import Site
 from .spool import Spool
@@ -137,5 +138,6 @@ class Begins:
             "grace": keys.grace,
             "hosts": self.runs.hosts[name],
             "limit": limit,
+            "open_files": FILES_OF_JOBS,
             "stop": stop,
         }

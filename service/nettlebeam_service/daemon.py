@@ -18,6 +18,7 @@ from .house import House
 from .memory import Memory
 from .page import Page
 from .peers import Peers
+from .processes import allow_many_files
 from .requests import Requests
 from .running import Running
 from .runs import Runs
@@ -176,6 +177,7 @@ def main(words: List[str]) -> int:
         print(f"nettlebeamd: {words[0]}: {fault}", file=sys.stderr)
         return 2
     os.umask(0o077)
+    allow_many_files()
     try:
         return asyncio.run(run(words[0], config))
     except OSError as fault:

@@ -128,6 +128,11 @@ def table(caption: str, heads: Sequence[str], rows: Iterable[Sequence[str]], num
     )
 
 
+def granted(told: Dict[str, Any]) -> str:
+    """The site that a job is granted to, or nothing. A grant that was handed back names none."""
+    return str((told["grant"] or {}).get("site") or "")
+
+
 def planned(plan: str) -> Tuple[List[str], Tuple[str, int]]:
     """Of a plan the jobs that start, and the head with its second; an empty name where there is none."""
     words = [line.split() for line in plan.splitlines()]
@@ -142,8 +147,8 @@ def reason(view: View, job: Dict[str, Any], starts: Sequence[str], head: Tuple[s
         return f"since {at(begun['moment'])}, until {at(begun['end'])} at most"
     if job["holds"]:
         return "held: " + ", ".join({"u": "user", "o": "operator", "s": "system"}[kind] for kind in job["holds"])
-    if job["grant"] and job["grant"]["site"] != view.name:
-        return f"granted to {job['grant']['site']}"
+    if granted(job) not in ("", view.name):
+        return f"granted to {granted(job)}"
     if view.name not in job["sites"]:
         return f"not for {view.name}"
     if job["nodes"] > nodes:
@@ -157,7 +162,7 @@ def reason(view: View, job: Dict[str, Any], starts: Sequence[str], head: Tuple[s
 
 def job_row(view: View, job: Dict[str, Any], starts: Sequence[str], head: Tuple[str, int]) -> List[str]:
     """A job's row."""
-    site = job["begun"]["site"] if job["begun"] else job["grant"]["site"] if job["grant"] else "-"
+    site = job["begun"]["site"] if job["begun"] else granted(job) or "-"
     state = f'<abbr title="{LETTERS[job["letter"]]}">{job["letter"]}</abbr> {LETTERS[job["letter"]]}'
     values = (job["name"], job["owner"])
     numbers = (str(job["priority"]), str(job["nodes"]), long(job["limit"]))
@@ -219,7 +224,7 @@ def queue(view: View, jobs: Sequence[Dict[str, Any]], start: int, count: int, ea
 
 def job(told: Dict[str, Any], why: str) -> str:
     """The page of a job."""
-    begun, finished, grant = told["begun"], told["finished"], told["grant"]
+    begun, finished = told["begun"], told["finished"]
     facts = {
         "Why it stands where it does": why,
         "State": LETTERS[told["letter"]],
@@ -231,7 +236,7 @@ def job(told: Dict[str, Any], why: str) -> str:
         "Time limit": long(told["limit"]),
         "Sites": ", ".join(told["sites"]) or "-",
         "Holds": ", ".join(told["holds"]) or "-",
-        "Granted to": grant["site"] if grant else "-",
+        "Granted to": granted(told) or "-",
         "Begun": f"{at(begun['moment'])} at {begun['site']} on {begun['nodes']} nodes" if begun else "-",
         "Ends at the latest": at(begun["end"]) if begun else "-",
         "Finished": f"{at(finished['moment'])} with status {finished['status']}" if finished else "-",

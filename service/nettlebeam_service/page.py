@@ -35,6 +35,7 @@ REASONS = {
     403: "Forbidden",
     404: "Not Found",
     405: "Method Not Allowed",
+    500: "Internal Server Error",
     503: "Service Unavailable",
 }
 RUN_NOTICES = {
@@ -122,6 +123,9 @@ class Page:
             return await self.page(target), method == "GET"
         except Stopped as fault:
             return problem(503, f"The site stopped: {fault}."), method == "GET"
+        except Exception as fault:  # a fault of the page is told, and ends nothing else
+            self.log(f"the page {target[:100]!r} can't be made: {fault!r}")
+            return problem(500, "This page can't be made; the log of the service tells why."), method == "GET"
 
     async def page(self, target: str) -> Response:
         """The page of a path."""

@@ -91,8 +91,9 @@ class Peers:
         """Exchanges packets with a peer: soon after each change here, and every few minutes."""
         while True:
             await asyncio.sleep(max(peer.keys.soon, LEAST_PAUSE))
-            if self.site.memory.loss:
-                continue  # what this site says now might contradict what it has said
+            # what a site says that has lost its memory might contradict what it has said, and a full disk takes no packet
+            if self.site.memory.loss or not self.site.has_room():
+                continue
             try:
                 counter = await self.counter()
                 is_late = time.monotonic() >= peer.next_round

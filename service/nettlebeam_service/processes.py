@@ -3,11 +3,23 @@ from __future__ import annotations
 
 import fcntl
 import os
+import resource
 import signal
 import time
 from typing import List, Optional, Tuple
 
 LONGEST_END = 5.0
+MOST_FILES = 65_536
+# how many files a process may have open that this service starts, as it was when the service was started
+FILES_OF_JOBS = resource.getrlimit(resource.RLIMIT_NOFILE)[0]
+
+
+def allow_many_files() -> None:
+    """Lets this process have a file open for each client."""
+    soft, hard = resource.getrlimit(resource.RLIMIT_NOFILE)
+    most = MOST_FILES if hard == resource.RLIM_INFINITY else min(hard, MOST_FILES)
+    if soft != resource.RLIM_INFINITY and soft < most:
+        resource.setrlimit(resource.RLIMIT_NOFILE, (most, hard))
 
 
 def lock(path: str) -> Optional[int]:

@@ -8,6 +8,7 @@ from __future__ import annotations
 
 import json
 import os
+import resource
 import signal
 import sys
 import time
@@ -78,6 +79,7 @@ def become_script(run: Dict[str, Any]) -> None:
     signal.pthread_sigmask(signal.SIG_SETMASK, [])
     for number in (signal.SIGPIPE, signal.SIGXFSZ):
         signal.signal(number, signal.SIG_DFL)
+    resource.setrlimit(resource.RLIMIT_NOFILE, (run["open_files"], resource.getrlimit(resource.RLIMIT_NOFILE)[1]))
     os.chdir("/")
     os.execvpe(run["command"][0], run["command"], run["environment"])
 
