@@ -40,6 +40,18 @@ pub fn open_device(
     Err(Fault::InUse)
 }
 
+/// Keeps what is to be cut in the file of this number, and says so: not where the file has something.
+fn keep_in(
+    rt: &(impl Files<File = File> + AllocGlobal),
+    directory: &str,
+    number: u32,
+    cut: &[u8],
+) -> Result<bool, Fault> {
+    let name = format!(in rt.alloc(); "journal.cut-{number}")?;
+    let mut device = FileDevice::make(rt, directory, name.as_str())?;
+    Ok(keep(rt.alloc(), &mut device, cut)?)
+}
+
 /// Keeps what is to be cut in the first of the files `journal.cut-1`, `journal.cut-2` .. that isn't there, or is empty, and
 /// gives its number.
 fn keep_cut(
@@ -48,9 +60,7 @@ fn keep_cut(
     cut: &[u8],
 ) -> Result<u32, Fault> {
     for number in 1..=CUTS {
-        let name = format!(in rt.alloc(); "journal.cut-{number}")?;
-        let mut device = FileDevice::make(rt, directory, name.as_str())?;
-        if keep(rt.alloc(), &mut device, cut)? {
+        if keep_in(rt, directory, number, cut)? {
             return Ok(number);
         }
     }

@@ -10,7 +10,7 @@ use std::fmt::{self, Display, Formatter};
 use std::io::{self, ErrorKind};
 
 /// Why the program doesn't do what it is asked.
-#[derive(Clone, Copy, Debug, Drop)]
+#[derive(Clone, Copy, Drop)]
 pub enum Fault {
     /// The words of `init` name no roster that has the site.
     Roster,
