@@ -9,6 +9,7 @@ use fed_journal::{JournalFault, Memory, Tear};
 use fed_serve::{MAX_LINE_BYTES, ServeFault, heard, line_of_words, serve, take_line};
 use std::alloc::Global;
 use std::io::{self, ErrorKind, Read, Write};
+use std::process::Abort;
 use std::test::Fail;
 
 const HEADER: &[u8] = b"nettlebeam 1 argonne argonne:8 lemont:4";
@@ -255,7 +256,7 @@ fn words_make_a_line(rt: HostRuntime) -> Result<(), Fail> {
 }
 
 /// Whichever allocation fails, a second attempt answers all.
-fn answers_all(rt: &HostRuntime, input: &[u8], asked: bool, wanted: &[u8]) {
+fn answers_all(rt: &(impl Abort + AllocGlobal), input: &[u8], asked: bool, wanted: &[u8]) {
     for _ in 0..2 {
         match served(rt.alloc(), input, 9, asked) {
             Ok((output, _)) => {
