@@ -93,15 +93,20 @@ fn see_untouched(rt: &impl Abort, board: &Board, job: Stamp) {
     assert!(rt; board.job_count(job.site()) == 1);
 }
 
+/// A board takes in another's reservation, and keeps its job.
+fn see_passed(rt: &(impl Abort + AllocGlobal), from: &Board, to: &Board, job: Stamp, id: Stamp) {
+    let board = passed(rt, from, &to.version(), to);
+    see_untouched(rt, &board, job);
+    see_reserved(rt, &board, id);
+}
+
 /// A board with a held job takes in a board with a reservation and no more.
 #[test]
 fn reservations_are_taken_in(rt: HostRuntime) {
     let (job, id) = (stamp(1, 0), stamp(1, 2));
     let held = board_of(&rt, &[(job, submit(true))]);
     let other = board_of(&rt, &[reserved(id)]);
-    let board = passed(&rt, &other, &held.version(), &held);
-    see_untouched(&rt, &board, job);
-    see_reserved(&rt, &board, id);
+    see_passed(&rt, &other, &held, job, id);
 }
 
 /// Adds an operation whose stamp is the next of the site.

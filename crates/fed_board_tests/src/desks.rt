@@ -1,10 +1,13 @@
 //! What the origin of a job decides where sites ask for the job.
 use crate::boards::{Step, board_of, granted, handed_back, submit};
+use fed_board::Board;
 use fed_desk::{Decision, decide};
 use fed_record::{Beginning, Ending, HoldKinds, Moment, Nodes, Operation, Refusal};
 use fed_stamp::Stamp;
 use fed_test_values::{site, stamp};
 use std::process::Abort;
+
+const GRANT: Decision = Decision::Grant;
 
 const HELD: Decision = Decision::Refused(Refusal::Held);
 
@@ -12,13 +15,24 @@ const NOT_ELIGIBLE: Decision = Decision::Refused(Refusal::NotEligible);
 
 const GONE: Decision = Decision::Refused(Refusal::Gone);
 
-/// Once these operations were added, argonne, site 0, decides so where sites 0, 1 and 2 ask for its first job.
-fn see(rt: &(impl Abort + AllocGlobal), steps: &[Step], wanted: &[Decision; 3]) {
+/// What argonne, site 0, decides where this site asks for its first job.
+fn decided(board: &Board, asker: u8) -> Decision {
+    decide(board, site(0), stamp(1, 0), site(asker))
+}
+
+/// Once these operations were added, argonne decides so where site 0 asks for its first job, where site 1 does, and where
+/// site 2 does.
+fn see(
+    rt: &(impl Abort + AllocGlobal),
+    steps: &[Step],
+    first: Decision,
+    second: Decision,
+    third: Decision,
+) {
     let board = board_of(rt, steps);
-    for (asker, wanted) in [0, 1, 2].into_iter().zip(wanted) {
-        let decided = decide(&board, site(0), stamp(1, 0), site(asker));
-        assert!(rt; decided == *wanted, "site {asker}");
-    }
+    assert!(rt; decided(&board, 0) == first);
+    assert!(rt; decided(&board, 1) == second);
+    assert!(rt; decided(&board, 2) == third);
 }
 
 /// A Begin of the job at site 1.
@@ -44,8 +58,7 @@ fn finished(rt: &impl Abort, job: Stamp) -> Step {
 #[test]
 fn queued_jobs_are_granted(rt: HostRuntime) {
     let (job, back) = (stamp(1, 0), stamp(3, 1));
-    let wanted = &[Decision::Grant, Decision::Grant, NOT_ELIGIBLE];
-    see(&rt, &[(job, submit(false))], wanted);
+    see(&rt, &[(job, submit(false))], GRANT, GRANT, NOT_ELIGIBLE);
     see(
         &rt,
         &[
@@ -53,8 +66,15 @@ fn queued_jobs_are_granted(rt: HostRuntime) {
             granted(&rt, job, site(1)),
             handed_back(&rt, job, back),
         ],
-        wanted,
+        GRANT,
+        GRANT,
+        NOT_ELIGIBLE,
     );
+}
+
+/// The job is granted to site 1.
+fn taken() -> Decision {
+    Decision::Refused(Refusal::TakenBy(site(1)))
 }
 
 /// Jobs are granted to one site, and holds of a granted job are not looked at.
@@ -62,12 +82,12 @@ fn queued_jobs_are_granted(rt: HostRuntime) {
 fn jobs_are_granted_to_one_site(rt: HostRuntime) {
     let job = stamp(1, 0);
     let kinds = HoldKinds::USER;
-    let taken = Decision::Refused(Refusal::TakenBy(site(1)));
-    let wanted = &[taken, Decision::Yours, taken];
     see(
         &rt,
         &[(job, submit(false)), granted(&rt, job, site(1))],
-        wanted,
+        taken(),
+        Decision::Yours,
+        taken(),
     );
     see(
         &rt,
@@ -76,7 +96,9 @@ fn jobs_are_granted_to_one_site(rt: HostRuntime) {
             granted(&rt, job, site(1)),
             (stamp(3, 1), Operation::Hold { job, kinds }),
         ],
-        wanted,
+        taken(),
+        Decision::Yours,
+        taken(),
     );
 }
 
@@ -95,7 +117,7 @@ fn other_sites_decide_nothing(rt: HostRuntime) {
 #[test]
 fn held_jobs_and_jobs_that_are_gone_are_refused(rt: HostRuntime) {
     let job = stamp(1, 0);
-    see(&rt, &[(job, submit(true))], &[HELD; 3]);
+    see(&rt, &[(job, submit(true))], HELD, HELD, HELD);
     see(
         &rt,
         &[
@@ -104,7 +126,9 @@ fn held_jobs_and_jobs_that_are_gone_are_refused(rt: HostRuntime) {
             begun(&rt, job),
             finished(&rt, job),
         ],
-        &[GONE; 3],
+        GONE,
+        GONE,
+        GONE,
     );
     see(
         &rt,
@@ -112,6 +136,8 @@ fn held_jobs_and_jobs_that_are_gone_are_refused(rt: HostRuntime) {
             (job, submit(true)),
             (stamp(2, 0), Operation::Delete { job }),
         ],
-        &[GONE; 3],
+        GONE,
+        GONE,
+        GONE,
     );
 }

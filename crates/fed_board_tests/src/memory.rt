@@ -74,14 +74,19 @@ fn see_merged(rt: &impl Abort, one: &Board, other: &Board, jobs: [Stamp; 2]) {
     assert!(rt; has_jobs(&both, jobs));
 }
 
-/// The boards of two sites, each with a job, merge and take one another in.
+/// What a board has that takes in all that another tells.
+fn see_absorbed(rt: &(impl Abort + AllocGlobal), one: &Board, other: &Board, jobs: [Stamp; 2]) {
+    assert!(rt; has_jobs(&absorbed(rt, one, other), jobs));
+}
+
+/// The boards of two sites, each with a job, merge, and one takes the other in.
 #[test]
 fn failed_allocations_of_a_merge_and_a_delta(rt: HostRuntime) {
     let jobs = [stamp(1, 0), stamp(1, 1)];
     let one = board_of(&rt, &[(jobs[0], submit(false))]);
     let other = board_of(&rt, &[(jobs[1], submit(false))]);
     see_merged(&rt, &one, &other, jobs);
-    assert!(rt; has_jobs(&absorbed(&rt, &one, &other), jobs));
+    see_absorbed(&rt, &one, &other, jobs);
 }
 
 /// A copy of the board, on which another site holds the job and submits another.
@@ -93,11 +98,16 @@ fn gone_on(rt: &(impl Abort + AllocGlobal), board: &Board, job: Stamp, next: Sta
     later
 }
 
+/// A board that takes in all that this one tells is equal to it.
+fn see_equal(rt: &(impl Abort + AllocGlobal), board: &Board, later: &Board, jobs: [Stamp; 2]) {
+    assert!(rt; has_jobs(later, jobs));
+    assert!(rt; absorbed(rt, board, later) == *later);
+}
+
 #[test]
 fn failed_allocations_of_a_delta_of_a_known_job(rt: HostRuntime) {
     let (job, next) = (stamp(1, 0), stamp(3, 1));
     let one = board_of(&rt, &[(job, submit(false))]);
     let later = gone_on(&rt, &one, job, next);
-    assert!(rt; has_jobs(&later, [job, next]));
-    assert!(rt; absorbed(&rt, &one, &later) == later);
+    see_equal(&rt, &one, &later, [job, next]);
 }

@@ -1,11 +1,11 @@
 //! The limits of a replica and of the sites of a world: counters, jobs and reservations.
-use crate::events::{ask, reservation, submit as submit_at};
-use fed_record::{Command, Refusal, Reply, Who};
+use crate::events::{ask, reservation, submit};
+use fed_record::{Command, Refusal, Reply};
 use fed_replica::Replica;
 use fed_stamp::{MAX_COUNTER, Stamp};
 use fed_test_values::{root, site, stamp, submission, two_sites};
 use fed_wire::{Packet, read};
-use fed_world::{Outcome, World};
+use fed_world::{Event, Outcome, World};
 use std::process::Abort;
 
 /// An empty packet of argonne, site 0, that reaches the last counter of lemont, site 1.
@@ -21,7 +21,7 @@ pub(crate) fn replica(rt: &impl AllocGlobal, number: u8) -> Replica {
 }
 
 /// Whether the replica's board grew by the packet.
-fn grew(rt: &impl Abort, replica: &mut Replica, packet: &Packet) -> bool {
+pub(crate) fn grew(rt: &impl Abort, replica: &mut Replica, packet: &Packet) -> bool {
     replica.take(packet).expect(rt, "a packet that fits").grew
 }
 
@@ -31,50 +31,11 @@ fn grew_by(rt: &(impl Abort + AllocGlobal), replica: &mut Replica, text: &str) -
     grew(rt, replica, &packet)
 }
 
-type Answer = Option<Result<Reply, Refusal>>;
-
-/// What is answered to the last of the commands, which are asked one after another.
-fn last_answer(replica: &mut Replica, who: &Who, commands: &[Command]) -> Answer {
-    let mut last = None;
-    for command in commands {
-        last = Some(replica.act(who, command));
-    }
-    last
-}
-
-/// What is answered to the last of the commands where an administrator asks them.
-fn answer(replica: &mut Replica, commands: &[Command]) -> Answer {
-    last_answer(replica, &root(), commands)
-}
-
-// The prover has no plan for a command that a test holds outside of a list.
-fn submissions(rt: &(impl Abort + AllocGlobal)) -> Vec<Command> {
-    vec![in rt.alloc(); submission()].expect(rt, "memory")
-}
-
-fn deletions(rt: &(impl Abort + AllocGlobal)) -> Vec<Command> {
-    let job = stamp(1, 0);
-    vec![in rt.alloc(); Command::Delete { job }].expect(rt, "memory")
-}
-
-fn reservations(rt: &(impl Abort + AllocGlobal)) -> Vec<Command> {
-    vec![in rt.alloc(); reservation()].expect(rt, "memory")
-}
-
-fn cancellations(rt: &(impl Abort + AllocGlobal)) -> Vec<Command> {
-    let reservation = stamp(1, 0);
-    vec![in rt.alloc(); Command::Cancel { reservation }].expect(rt, "memory")
-}
-
-fn submit(rt: &(impl Abort + AllocGlobal), replica: &mut Replica) -> Answer {
-    answer(replica, &submissions(rt))
-}
-
 #[test]
 fn no_counter_is_above_the_last(rt: HostRuntime) {
     let mut argonne = replica(&rt, 0);
     assert!(rt; grew_by(&rt, &mut argonne, LAST_COUNTER));
-    assert!(rt; submit(&rt, &mut argonne) == Some(Err(Refusal::ClockFull)));
+    assert!(rt; argonne.act(&root(), &submission()) == Err(Refusal::ClockFull));
     assert!(rt; Refusal::ClockFull.number() == 15);
 }
 
@@ -82,7 +43,7 @@ fn no_counter_is_above_the_last(rt: HostRuntime) {
 fn shipped_with_the_last_counter(rt: &(impl Abort + AllocGlobal), last: Stamp) -> Packet {
     let mut lemont = replica(rt, 1);
     assert!(rt; grew_by(rt, &mut lemont, LAST_BUT_ONE));
-    assert!(rt; submit(rt, &mut lemont) == Some(Ok(Reply::Submitted(last))));
+    assert!(rt; lemont.act(&root(), &submission()) == Ok(Reply::Submitted(last)));
     lemont.ship(site(0)).expect(rt, "memory")
 }
 
@@ -93,87 +54,79 @@ fn last_counter_is_used(rt: HostRuntime) {
     let mut argonne = replica(&rt, 0);
     assert!(rt; grew(&rt, &mut argonne, &packet));
     assert!(rt; argonne.board().job(last).is_some());
-    assert!(rt; submit(&rt, &mut argonne) == Some(Err(Refusal::ClockFull)));
+    assert!(rt; argonne.act(&root(), &submission()) == Err(Refusal::ClockFull));
 }
 
-/// How often the commands are asked until the answer is not the identifier of the next counter of argonne.
-fn times_until_another(replica: &mut Replica, who: &Who, commands: &[Command]) -> Option<u64> {
-    for counter in 1..=20_000 {
-        let next = stamp(counter, 0);
-        let answer = last_answer(replica, who, commands);
-        if answer != Some(Ok(Reply::Submitted(next))) && answer != Some(Ok(Reply::Reserved(next))) {
-            return Some(counter);
-        }
+/// The reply to a command of argonne that gets this counter: a job is submitted, or a reservation made.
+fn reply(counter: u64, is_job: bool) -> Reply {
+    let id = stamp(counter, 0);
+    if is_job {
+        Reply::Submitted(id)
+    } else {
+        Reply::Reserved(id)
     }
-    None
 }
 
-/// The site is full once so many of the commands were done, and stays full when the first is undone.
-fn see_full_after(
-    rt: &impl Abort,
-    replica: &mut Replica,
+/// A site is full once so many of the commands were done, and stays full when the first is undone.
+fn see_full(
+    rt: &(impl Abort + AllocGlobal),
     count: u64,
-    more: &[Command],
-    undoing: &[Command],
+    is_job: bool,
+    more: &Command,
+    undoing: &Command,
 ) {
-    let full = Some(Err(Refusal::SiteFull));
     let who = root();
-    assert!(rt; times_until_another(replica, &who, more) == Some(count.saturating_add(1)));
-    assert!(rt; answer(replica, more) == full);
-    assert!(rt; answer(replica, undoing) == Some(Ok(Reply::Done)));
-    assert!(rt; answer(replica, more) == full);
+    let mut argonne = replica(rt, 0);
+    for counter in 1..=count {
+        assert!(rt; argonne.act(&who, more) == Ok(reply(counter, is_job)));
+    }
+    let full = Err(Refusal::SiteFull);
+    assert!(rt; argonne.act(&who, more) == full && argonne.act(&who, more) == full);
+    assert!(rt; argonne.act(&who, undoing) == Ok(Reply::Done));
+    assert!(rt; argonne.act(&who, more) == full);
 }
 
 #[test]
 fn site_has_10_000_jobs(rt: HostRuntime) {
-    let mut argonne = replica(&rt, 0);
-    see_full_after(
-        &rt,
-        &mut argonne,
-        10_000,
-        &submissions(&rt),
-        &deletions(&rt),
-    );
+    let job = stamp(1, 0);
+    see_full(&rt, 10_000, true, &submission(), &Command::Delete { job });
     assert!(rt; Refusal::SiteFull.number() == 14);
 }
 
 #[test]
 fn site_has_1_000_reservations(rt: HostRuntime) {
-    let mut argonne = replica(&rt, 0);
-    see_full_after(
+    let reservation = stamp(1, 0);
+    see_full(
         &rt,
-        &mut argonne,
         1_000,
-        &reservations(&rt),
-        &cancellations(&rt),
+        false,
+        &self::reservation(),
+        &Command::Cancel { reservation },
     );
 }
 
-/// A refusal of a world's site is an outcome, which changes nothing; a site that is not full goes on.
+/// A refusal of a world's site is an outcome, which changes nothing: the site of the world is full once so many of the
+/// events happened.
+fn see_world_full(rt: &impl Abort, world: &mut World, count: u64, is_job: bool, event: &Event) {
+    for counter in 1..=count {
+        assert!(rt; world.step(event) == Ok(Outcome::Replied(reply(counter, is_job))));
+    }
+    let full = Ok(Outcome::Refused(Refusal::SiteFull));
+    assert!(rt; world.step(event) == full && world.step(event) == full);
+}
+
+/// A site that is not full goes on.
 #[test]
 fn a_site_of_a_world_has_10_000_jobs(rt: HostRuntime) {
     let mut world = World::new(rt.alloc(), &two_sites()).expect(&rt, "memory");
-    let event = submit_at(0);
-    for counter in 1..=10_000 {
-        let submitted = Outcome::Replied(Reply::Submitted(stamp(counter, 0)));
-        assert!(rt; world.step(&event) == Ok(submitted));
-    }
-    let full = Outcome::Refused(Refusal::SiteFull);
-    assert!(rt; world.step(&event) == Ok(full) && world.step(&event) == Ok(full));
+    see_world_full(&rt, &mut world, 10_000, true, &submit(0));
     let submitted = Outcome::Replied(Reply::Submitted(stamp(1, 1)));
-    assert!(rt; world.step(&submit_at(1)) == Ok(submitted));
+    assert!(rt; world.step(&submit(1)) == Ok(submitted));
     assert!(rt; world.events().len() == 10_003);
 }
 
-/// So for reservations.
 #[test]
 fn a_site_of_a_world_has_1_000_reservations(rt: HostRuntime) {
     let mut world = World::new(rt.alloc(), &two_sites()).expect(&rt, "memory");
-    let event = ask(0, reservation());
-    for counter in 1..=1_000 {
-        let reserved = Outcome::Replied(Reply::Reserved(stamp(counter, 0)));
-        assert!(rt; world.step(&event) == Ok(reserved));
-    }
-    let full = Outcome::Refused(Refusal::SiteFull);
-    assert!(rt; world.step(&event) == Ok(full) && world.step(&event) == Ok(full));
+    see_world_full(&rt, &mut world, 1_000, false, &ask(0, reservation()));
 }

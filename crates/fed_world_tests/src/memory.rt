@@ -9,7 +9,7 @@ use fed_delta::Absorb;
 use fed_lattice::NoMemory;
 use fed_record::{Changes, Command, HoldKinds, Refusal, Reply, Who};
 use fed_replica::Replica;
-use fed_stamp::{Roster, SiteId, SiteSet};
+use fed_stamp::{SiteId, SiteSet};
 use fed_test_values::{UNCHANGED, root, site, stamp, submission, two_sites};
 use fed_wire::Packet;
 use fed_world::{Event, Outcome, World, run};
@@ -30,46 +30,26 @@ fn twin(rt: &impl Abort, replica: &Replica) -> Replica {
     }
 }
 
-fn moved(number: u8) -> Changes {
-    Changes {
-        sites: SiteSet::new(&[site(number)]),
-        ..UNCHANGED
-    }
-}
-
-/// Commands of which each adds an operation.
-fn commands() -> [Command; 9] {
+/// Commands of which each adds an operation, and the replies to them.
+fn questions() -> [(Command, Reply); 9] {
     let job = stamp(1, 0);
     let kinds = HoldKinds::USER | HoldKinds::SYSTEM;
-    let changes = moved(1);
-    let cancelled = stamp(5, 0);
+    let changes = Changes {
+        sites: SiteSet::new(&[site(1)]),
+        ..UNCHANGED
+    };
+    let made = stamp(5, 0);
     let asker = site(1);
     [
-        submission(),
-        Command::Hold { job, kinds },
-        Command::Release { job, kinds },
-        Command::Alter { job, changes },
-        reservation(),
-        Command::Cancel {
-            reservation: cancelled,
-        },
-        Command::Grant { job, asker },
-        Command::Delete { job },
-        submission(),
-    ]
-}
-
-fn replies() -> [Reply; 9] {
-    [
-        Reply::Submitted(stamp(1, 0)),
-        Reply::Done,
-        Reply::Done,
-        Reply::Done,
-        Reply::Reserved(stamp(5, 0)),
-        Reply::Done,
-        Reply::Granted,
-        Reply::Done,
-        Reply::Submitted(stamp(9, 0)),
+        (submission(), Reply::Submitted(job)),
+        (Command::Hold { job, kinds }, Reply::Done),
+        (Command::Release { job, kinds }, Reply::Done),
+        (Command::Alter { job, changes }, Reply::Done),
+        (reservation(), Reply::Reserved(made)),
+        (Command::Cancel { reservation: made }, Reply::Done),
+        (Command::Grant { job, asker }, Reply::Granted),
+        (Command::Delete { job }, Reply::Done),
+        (submission(), Reply::Submitted(stamp(9, 0))),
     ]
 }
 
@@ -107,30 +87,28 @@ fn grown(rt: &impl Abort, replica: &mut Replica, packet: &Packet) -> bool {
 /// Each of the commands is replied to as with ample memory.
 fn see_done(rt: &impl Abort, replica: &mut Replica) {
     let who = root();
-    for (command, wanted) in commands().iter().zip(replies()) {
-        assert!(rt; replied(rt, replica, &who, command) == wanted);
+    for (command, wanted) in &questions() {
+        assert!(rt; replied(rt, replica, &who, command) == *wanted);
     }
+}
+
+/// Lemont has what argonne has, and so has a copy of it.
+fn see_same(rt: &impl Abort, lemont: &Replica, argonne: &Replica) {
+    let version = argonne.board().version();
+    assert!(rt; *lemont.board() == *argonne.board() && lemont.heard(site(0)) == version);
+    let copy = twin(rt, lemont);
+    assert!(rt; *copy.board() == *argonne.board() && copy.heard(site(0)) == version);
 }
 
 #[test]
 fn failed_allocations_of_a_replica(rt: HostRuntime) {
     let mut argonne = replica(&rt, 0);
     see_done(&rt, &mut argonne);
-    let mut lemont = replica(&rt, 1);
     let packet = shipped(&rt, &argonne, site(1));
+    let mut lemont = replica(&rt, 1);
     assert!(rt; grown(&rt, &mut lemont, &packet));
     assert!(rt; !grown(&rt, &mut lemont, &packet));
-    assert!(rt; *lemont.board() == *argonne.board());
-    assert!(rt; lemont.heard(site(0)) == argonne.board().version());
-    let copy = twin(&rt, &lemont);
-    assert!(rt; *copy.board() == *argonne.board() && copy.heard(site(0)) == lemont.heard(site(0)));
-}
-
-fn new_world(alloc: Global, roster: &Roster) -> Result<World, NoMemory> {
-    match World::new(alloc, roster) {
-        Ok(world) => Ok(world),
-        Err(NoMemory) => World::new(alloc, roster),
-    }
+    see_same(&rt, &lemont, &argonne);
 }
 
 /// The texts of all packets, one behind another.
@@ -154,28 +132,55 @@ fn board(rt: &impl Abort, world: &World, number: u8) -> Board {
     copied(rt, world.board(site(number)).expect(rt, "a board"))
 }
 
-/// What is answered to the event. A refused step leaves the events, the boards and the texts.
+/// All that a world of two sites keeps.
+#[derive(Drop)]
+struct Kept {
+    events: usize,
+    argonne: Board,
+    lemont: Board,
+    texts: Vec<u8>,
+}
+
+fn kept_by(rt: &(impl Abort + AllocGlobal), world: &World) -> Kept {
+    Kept {
+        events: world.events().len(),
+        argonne: board(rt, world, 0),
+        lemont: board(rt, world, 1),
+        texts: texts(rt, world),
+    }
+}
+
+/// The world is as before.
+fn see_kept(rt: &(impl Abort + AllocGlobal), world: &World, before: &Kept) {
+    assert!(rt; world.events().len() == before.events && texts(rt, world) == before.texts);
+    assert!(rt; world.board(site(0)) == Some(&before.argonne));
+    assert!(rt; world.board(site(1)) == Some(&before.lemont));
+}
+
+/// What is answered to the event. A refused step leaves the world.
 fn answered(rt: &(impl Abort + AllocGlobal), world: &mut World, event: &Event) -> Outcome {
-    let before = world.events().len();
-    let boards = [board(rt, world, 0), board(rt, world, 1)];
-    let made = texts(rt, world);
+    let before = kept_by(rt, world);
     if let Ok(outcome) = world.step(event) {
         return outcome;
     }
-    assert!(rt; world.events().len() == before);
-    assert!(rt; [board(rt, world, 0), board(rt, world, 1)] == boards);
-    assert!(rt; texts(rt, world) == made);
+    see_kept(rt, world, &before);
     world.step(event).expect(rt, "memory")
+}
+
+fn new_world(rt: &(impl Abort + AllocGlobal)) -> World {
+    match World::new(rt.alloc(), &two_sites()) {
+        Ok(world) => world,
+        Err(NoMemory) => World::new(rt.alloc(), &two_sites()).expect(rt, "memory"),
+    }
 }
 
 #[test]
 fn failed_allocations_of_a_world(rt: HostRuntime) {
-    let mut world = new_world(rt.alloc(), &two_sites()).expect(&rt, "memory");
+    let mut world = new_world(&rt);
     for (event, wanted) in events().iter().zip(outcomes()) {
         assert!(rt; answered(&rt, &mut world, event) == wanted);
     }
-    assert!(rt; world.events() == events().as_slice());
-    assert!(rt; are_equal(&world));
+    assert!(rt; world.events() == events().as_slice() && are_equal(&world));
 }
 
 /// The events are answered as with ample memory where they are run at once, or memory is refused.

@@ -3,9 +3,9 @@ use crate::events::{ship, submit, take, three_sites};
 use crate::story::{Step, steps, world_of};
 use fed_record::Reply;
 use fed_replica::Taken;
-use fed_stamp::Roster;
 use fed_test_values::{site, stamp, two_sites};
 use fed_world::{Event, Outcome, World, run};
+use std::process::Abort;
 
 /// Events of which some name a packet that was not made or a site that is not there.
 pub(crate) fn events() -> [Event; 8] {
@@ -47,41 +47,36 @@ fn events_without_a_packet_or_a_site(rt: HostRuntime) {
     let ran = run(rt.alloc(), &two_sites(), &events());
     let (world, answered) = ran.expect(&rt, "memory");
     assert!(rt; answered.as_slice() == outcomes().as_slice());
-    assert!(rt; world.events().len() == 8);
-    assert!(rt; are_equal(&world));
-    assert!(rt; world.board(site(2)).is_none());
+    assert!(rt; world.events().len() == 8 && world.board(site(2)).is_none() && are_equal(&world));
 }
 
-/// Whether each site of the roster has the same board in both worlds.
-fn have_same_boards(roster: &Roster, world: &World, other: &World) -> bool {
-    for number in 0..roster.len() as u8 {
-        let board = world.board(site(number));
-        if board.is_none() || board != other.board(site(number)) {
-            return false;
-        }
-    }
-    true
-}
-
-/// Whether the outcomes are those of the steps.
-fn are_answered(answered: &[Outcome], steps: &[Step]) -> bool {
+/// The outcomes are those of the steps.
+fn see_answered(rt: &impl Abort, answered: &[Outcome], steps: &[Step]) {
+    assert!(rt; answered.len() == steps.len());
     for (outcome, (_event, wanted)) in answered.iter().zip(steps) {
-        if outcome != wanted {
-            return false;
-        }
+        assert!(rt; outcome == wanted);
     }
-    answered.len() == steps.len()
+}
+
+/// Three sites have the same boards in both worlds, and the same events happened.
+fn see_same(rt: &impl Abort, world: &World, again: &World) {
+    for number in 0..3u8 {
+        let board = world.board(site(number));
+        assert!(rt; board.is_some() && board == again.board(site(number)));
+    }
+    assert!(rt; *again.events() == *world.events());
 }
 
 /// Events that are run at once are answered as one after another, and leave the same boards.
+fn see_run_at_once(rt: &(impl Abort + AllocGlobal), steps: &[Step], world: &World) {
+    let ran = run(rt.alloc(), &three_sites(rt), world.events());
+    let (again, answered) = ran.expect(rt, "memory");
+    see_answered(rt, &answered, steps);
+    see_same(rt, world, &again);
+}
+
 #[test]
 fn a_story_is_run_at_once(rt: HostRuntime) {
     let steps = steps(&rt);
-    let world = world_of(&rt, &steps);
-    let roster = three_sites(&rt);
-    let ran = run(rt.alloc(), &roster, world.events());
-    let (again, answered) = ran.expect(&rt, "memory");
-    assert!(rt; are_answered(&answered, &steps));
-    assert!(rt; have_same_boards(&roster, &again, &world));
-    assert!(rt; *again.events() == *world.events());
+    see_run_at_once(&rt, &steps, &world_of(&rt, &steps));
 }

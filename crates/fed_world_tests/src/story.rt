@@ -32,7 +32,7 @@ fn job() -> JobId {
 
 fn alteration() -> Command {
     let changes = Changes {
-        priority: Some(Priority::new(7).unwrap()),
+        priority: Priority::new(7),
         ..UNCHANGED
     };
     Command::Alter {

@@ -1,10 +1,9 @@
 //! The texts of packets.
 use crate::events::{hold, release, ship, submit, take, world_after};
 use crate::story::{PACKETS, steps, world_of};
-use fed_stamp::{JobId, SITES, SiteId, Stamp, Version};
-use fed_test_values::two_sites;
-use fed_wire::{Packet, read, write};
-use fed_world::{Event, World};
+use fed_stamp::{JobId, Stamp, Version};
+use fed_test_values::{stamp, two_sites};
+use fed_wire::{read, write};
 use std::process::Abort;
 
 /// The text, in format 2, of a packet of site 0 that tells of one job, which nobody altered since ann submitted it there.
@@ -14,14 +13,6 @@ pub(crate) const ONE_JOB: &str =
      \"priority\":[0,[1,0]],\"progress\":null,\"sites\":[[0,[1,0]],[1,[1,0]]],\
      \"touched\":[1,0,0,0,0,0,0,0,0,0,0,0,0,0,0,0]}],\"need\":[0,0,0,0,0,0,0,0,0,0,0,0,0,0,0,0],\
      \"reached\":[1,0,0,0,0,0,0,0,0,0,0,0,0,0,0,0],\"reservations\":[],\"sender\":0}";
-
-/// The version that has seen these counters of the first two sites, and nothing of the others.
-fn version(rt: &impl Abort, first: u64, second: u64) -> Version {
-    let mut counters = [0; SITES];
-    counters[0] = first;
-    counters[1] = second;
-    Version::new(counters).expect(rt, "a version")
-}
 
 /// Whether the text is read as a packet of which the text is the same.
 fn is_written_again(rt: &(impl Abort + AllocGlobal), text: &[u8]) -> bool {
@@ -49,27 +40,34 @@ fn one_job_is_told(rt: HostRuntime) {
     assert!(rt; world.text(u64::MAX).is_none());
 }
 
-fn told(rt: &(impl Abort + AllocGlobal), world: &World, packet: u64) -> Packet {
-    let text = world.text(packet).expect(rt, "a text");
-    read(rt.alloc(), text).expect(rt, "a packet")
-}
-
-/// The job that the packet tells of, where it tells of one alone.
-fn only_job(packet: &Packet) -> Option<JobId> {
-    let mut jobs = packet.delta().jobs();
-    let (job, _record) = jobs.next()?;
-    jobs.next().is_none().then_some(*job)
-}
-
-/// Whether the packet needs and reaches these versions and tells of this job alone.
-fn tells(packet: &Packet, need: Version, reached: Version, job: Option<JobId>) -> bool {
+/// The packet needs what covers these stamps, reaches what covers those, and tells of this job alone.
+fn see_told(
+    rt: &(impl Abort + AllocGlobal),
+    text: Option<&[u8]>,
+    need: &[Stamp],
+    reached: &[Stamp],
+    job: JobId,
+) {
+    let packet = read(rt.alloc(), text.expect(rt, "a text")).expect(rt, "a packet");
     let delta = packet.delta();
-    delta.need() == need && delta.reached() == reached && only_job(packet) == job && job.is_some()
+    assert!(rt; delta.need() == version(need) && delta.reached() == version(reached));
+    let mut jobs = delta.jobs();
+    assert!(rt; jobs.next().map(|(id, _record)| *id) == Some(job) && jobs.next().is_none());
+}
+
+/// The version that has seen these stamps, and nothing else.
+fn version(stamps: &[Stamp]) -> Version {
+    let mut version = Version::default();
+    for stamp in stamps {
+        version = version.with(*stamp);
+    }
+    version
 }
 
 /// lemont says that it has heard of the first job, and a second one is told to it.
-fn heard() -> [Event; 7] {
-    [
+#[test]
+fn what_was_heard_is_not_told(rt: HostRuntime) {
+    let events = [
         submit(0),
         ship(0, 1),
         take(1, 1),
@@ -77,20 +75,16 @@ fn heard() -> [Event; 7] {
         take(0, 2),
         submit(0),
         ship(0, 1),
-    ]
-}
-
-#[test]
-fn what_was_heard_is_not_told(rt: HostRuntime) {
-    let world = world_after(&rt, &two_sites(), &heard());
-    let packet = told(&rt, &world, 3);
-    let second = Stamp::new(2, SiteId::default());
-    assert!(rt; tells(&packet, version(&rt, 1, 0), version(&rt, 2, 0), second));
+    ];
+    let world = world_after(&rt, &two_sites(), &events);
+    let (first, second) = (stamp(1, 0), stamp(2, 0));
+    see_told(&rt, world.text(3), &[first], &[second], second);
 }
 
 /// Each of two sites holds a job, and hears of the other's hold; then the job is released, which is told.
-fn released() -> [Event; 11] {
-    [
+#[test]
+fn release_alone_is_told(rt: HostRuntime) {
+    let events = [
         submit(0),
         ship(0, 1),
         take(1, 1),
@@ -102,13 +96,14 @@ fn released() -> [Event; 11] {
         take(1, 3),
         release(0),
         ship(0, 1),
-    ]
-}
-
-#[test]
-fn release_alone_is_told(rt: HostRuntime) {
-    let world = world_after(&rt, &two_sites(), &released());
-    let packet = told(&rt, &world, 4);
-    let first = Stamp::new(1, SiteId::default());
-    assert!(rt; tells(&packet, version(&rt, 1, 2), version(&rt, 3, 2), first));
+    ];
+    let world = world_after(&rt, &two_sites(), &events);
+    let (job, other) = (stamp(1, 0), stamp(2, 1));
+    see_told(
+        &rt,
+        world.text(4),
+        &[job, other],
+        &[stamp(3, 0), other],
+        job,
+    );
 }
