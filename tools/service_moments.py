@@ -99,6 +99,7 @@ def page(tally, federation):
     tally.same("its own page", read_page("/jobs/2")[0], 200)
     tally.same("each job shown has its row", text.count('href="/jobs/'), 20)
     tally.true("and its reason", "held: user" in text and "starts" in text)
+    tally.true("the chart tells times of the day", re.search(r"from [0-9]{2}:[0-9]{2} on", text) and "viewBox" in text)
     told = json.loads(read_page("/jobs.json")[1])
     tally.same("all jobs as JSON", [job["id"] for job in told], list(site.jobs()))
     for path in ("/nothing", "/jobs/900.argonne", "/jobs/1.nowhere", "/jobs/<b>", "/?from=x", "/..%2f"):
