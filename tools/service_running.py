@@ -2,7 +2,7 @@
 import os
 import time
 
-from service_scenes import OPERATOR, OTHER, as_user, is_root, read
+from service_scenes import ME, OPERATOR, OTHER, as_user, is_root, read
 from service_sites import until
 
 TRAPPING = "trap 'echo usr1 >> {0}' USR1\ntrap 'echo term >> {0}; exit 9' TERM\necho began > {0}\nwhile :; do sleep 0.1; done\n"
@@ -98,7 +98,7 @@ def choices(tally, federation):
         (("-l", "sites=lemont"), [3]),
         (("-l", "sites.ne.lemont"), [0, 1, 2, 4]),
         (("-q", "argonne"), [0, 1, 2, 4]),
-        (("-u", "root"), [0, 1, 2, 3, 4]),
+        (("-u", ME), [0, 1, 2, 3, 4]),
         (("-u", "ann,bob"), []),
     ):
         tally.same(f"qselect {words}", selected(*words), wanted)
