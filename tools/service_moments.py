@@ -143,6 +143,9 @@ def keys(tally, federation):
         text = file.read()
     given = text.replace("/srv/argonne", f"{site.home}/site")
     path = f"{federation.folder}/example.conf"
+    tally.same("what is wrong is told", site.utility("nettlebeamd", "--check", "/nowhere")[0], 2)
+    done = site.utility("nettlebeamd", "--check", site.config)
+    tally.same("a right configuration", (done[0], "of argonne, with 0 of 1 other sites" in done[1]), (0, True))
     plain = config_of(path, given)
     wanted = {section.__name__: section() for section in (config.ClientKeys, config.JobKeys, config.PageKeys, config.HouseKeys)}
     tally.same("without the defaults", [plain.clients, plain.jobs, plain.page, dataclasses.replace(plain.house, accounting="{spool}/accounting")], list(wanted.values()))

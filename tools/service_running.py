@@ -31,8 +31,9 @@ def signals(tally, federation):
     tally.same("one that hasn't begun", argonne.utility("qsig", held)[:2], (1, "refused 11\n"))
     tally.same("one of another site", lemont.utility("qsig", job)[:2], (1, "refused 9\n"))
     tally.true("which is told", "runs at argonne" in lemont.utility("qsig", job)[2])
+    tally.same("one of no site", argonne.utility("qsig", "1.nowhere")[:2], (1, "refused 1\n"))
     tally.same("several", argonne.utility("qsig", "-s", "0", "900", job, held)[:2], (1, "refused 1\ndone\nrefused 11\n"))
-    for words in (("-s", "NONE", job), ("-s", "65", job), ("-s",), (), ("-x", job), ("not-a-job",)):
+    for words in (("-s", "NONE", job), ("-s", "65", job), ("-s", "9" * 5000, job), ("-s",), (), ("-x", job), ("not-a-job",)):
         tally.same(f"qsig {words} can't be asked", argonne.utility("qsig", *words)[:2], (2, ""))
     before = read(heard).count("term")
     tally.same("without -s it is TERM", argonne.utility("qsig", job)[:2], (0, "done\n"))
