@@ -99,6 +99,7 @@ def page(tally, federation):
     tally.same("its own page", read_page("/jobs/2")[0], 200)
     tally.same("each job shown has its row", text.count('href="/jobs/'), 20)
     tally.true("and its reason", "held: user" in text and "starts" in text)
+    tally.true("the chart tells times of the day", re.search(r"from [0-9]{2}:[0-9]{2} on", text) and "viewBox" in text)
     told = json.loads(read_page("/jobs.json")[1])
     tally.same("all jobs as JSON", [job["id"] for job in told], list(site.jobs()))
     for path in ("/nothing", "/jobs/900.argonne", "/jobs/1.nowhere", "/jobs/<b>", "/?from=x", "/..%2f"):
@@ -142,6 +143,9 @@ def keys(tally, federation):
         text = file.read()
     given = text.replace("/srv/argonne", f"{site.home}/site")
     path = f"{federation.folder}/example.conf"
+    tally.same("what is wrong is told", site.utility("nettlebeamd", "--check", "/nowhere")[0], 2)
+    done = site.utility("nettlebeamd", "--check", site.config)
+    tally.same("a right configuration", (done[0], "of argonne, with 0 of 1 other sites" in done[1]), (0, True))
     plain = config_of(path, given)
     wanted = {section.__name__: section() for section in (config.ClientKeys, config.JobKeys, config.PageKeys, config.HouseKeys)}
     tally.same("without the defaults", [plain.clients, plain.jobs, plain.page, dataclasses.replace(plain.house, accounting="{spool}/accounting")], list(wanted.values()))

@@ -2,7 +2,7 @@
 import os
 import time
 
-from service_scenes import OPERATOR, OTHER, as_user, is_root, read
+from service_scenes import ME, OPERATOR, OTHER, as_user, is_root, read
 from service_sites import until
 
 TRAPPING = "trap 'echo usr1 >> {0}' USR1\ntrap 'echo term >> {0}; exit 9' TERM\necho began > {0}\nwhile :; do sleep 0.1; done\n"
@@ -31,8 +31,9 @@ def signals(tally, federation):
     tally.same("one that hasn't begun", argonne.utility("qsig", held)[:2], (1, "refused 11\n"))
     tally.same("one of another site", lemont.utility("qsig", job)[:2], (1, "refused 9\n"))
     tally.true("which is told", "runs at argonne" in lemont.utility("qsig", job)[2])
+    tally.same("one of no site", argonne.utility("qsig", "1.nowhere")[:2], (1, "refused 1\n"))
     tally.same("several", argonne.utility("qsig", "-s", "0", "900", job, held)[:2], (1, "refused 1\ndone\nrefused 11\n"))
-    for words in (("-s", "NONE", job), ("-s", "65", job), ("-s",), (), ("-x", job), ("not-a-job",)):
+    for words in (("-s", "NONE", job), ("-s", "65", job), ("-s", "9" * 5000, job), ("-s",), (), ("-x", job), ("not-a-job",)):
         tally.same(f"qsig {words} can't be asked", argonne.utility("qsig", *words)[:2], (2, ""))
     before = read(heard).count("term")
     tally.same("without -s it is TERM", argonne.utility("qsig", job)[:2], (0, "done\n"))
@@ -98,7 +99,7 @@ def choices(tally, federation):
         (("-l", "sites=lemont"), [3]),
         (("-l", "sites.ne.lemont"), [0, 1, 2, 4]),
         (("-q", "argonne"), [0, 1, 2, 4]),
-        (("-u", "root"), [0, 1, 2, 3, 4]),
+        (("-u", ME), [0, 1, 2, 3, 4]),
         (("-u", "ann,bob"), []),
     ):
         tally.same(f"qselect {words}", selected(*words), wanted)

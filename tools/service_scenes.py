@@ -11,6 +11,7 @@ import time
 from service_sites import SERVICE, Unasked, stat_of, until
 
 OTHER, OPERATOR = "nobody", "games"
+ME = pwd.getpwuid(os.getuid()).pw_name
 
 
 def as_user(name):
@@ -86,7 +87,7 @@ def runs(tally, federation):
     job = site.jobs("1")["1.argonne"]
     tally.same("its values", (job["name"], job["nodes"], job["limit"]), ("first", 2, 200))
     lines = read(f"{folder}/first.o1").splitlines()
-    wanted = ["PBS_ENVIRONMENT=PBS_BATCH", "PBS_JOBID=1.argonne", "PBS_JOBNAME=first", "PBS_O_LOGNAME=root", f"PBS_O_WORKDIR={folder}"]
+    wanted = ["PBS_ENVIRONMENT=PBS_BATCH", "PBS_JOBID=1.argonne", "PBS_JOBNAME=first", f"PBS_O_LOGNAME={ME}", f"PBS_O_WORKDIR={folder}"]
     tally.same("its environment", [it for it in wanted if it not in lines], [])
     tally.same("its folder, umask and hosts", lines[-4:], [folder, "0027", "h1", "h2"])
     tally.same("its errors", read(f"{folder}/first.e1"), "bad\n")

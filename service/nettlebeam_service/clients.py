@@ -91,6 +91,11 @@ class Clients:
         self.own_bytes = Meter(16 * LONGEST_LINE)
         self.gates = Gates()
 
+    def use(self, keys: ClientKeys) -> None:
+        """Goes on with other bounds."""
+        self.keys = keys
+        self.connections.most, self.own_connections.most, self.bytes.most = keys.most_of_user, keys.most, keys.user_bytes
+
     def places(self, uid: int) -> Meter:
         """What counts the connections of this user."""
         return self.own_connections if uid == self.own else self.connections

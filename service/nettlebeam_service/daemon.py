@@ -30,6 +30,7 @@ from .users import Users
 FIRST_INHERITED = 3
 FIXED_KEYS = ("directory", "program", "spool", "socket", "backup", "free_bytes")
 ORDERLY_SECONDS = 10
+USAGE = "usage: nettlebeamd CONFIG, or nettlebeamd --check CONFIG, which reads the configuration and ends"
 
 
 def log(text: str) -> None:
@@ -110,8 +111,7 @@ class Service:
         if fixed:
             log(f"a new {', '.join(fixed)} is used when the service starts anew")
         self.users.keys, self.users.known = config.site, {}
-        self.clients.keys = config.clients
-        self.memory.look()
+        self.clients.use(config.clients)
         self.page.config = replace(self.page.config, jobs=config.jobs)
         self.scheduler.use(config)
         log("the configuration is read anew")
@@ -168,18 +168,27 @@ class Service:
 
 def main(words: List[str]) -> int:
     """The program."""
-    if len(words) != 1 or words[0].startswith("-"):
-        print("usage: nettlebeamd CONFIG", file=sys.stderr)
+    if words == ["--help"]:
+        print(USAGE)
+        return 0
+    is_check = words[:1] == ["--check"]
+    paths = words[1:] if is_check else words
+    if len(paths) != 1 or paths[0].startswith("-"):
+        print(USAGE, file=sys.stderr)
         return 2
+    path = paths[0]
     try:
-        config = read_config(words[0])
+        config = read_config(path)
     except ConfigFault as fault:
-        print(f"nettlebeamd: {words[0]}: {fault}", file=sys.stderr)
+        print(f"nettlebeamd: {path}: {fault}", file=sys.stderr)
         return 2
+    if is_check:
+        print(f"{path}: the configuration of {config.name}, with {len(config.peers)} of {len(config.roster) - 1} other sites")
+        return 0
     os.umask(0o077)
     allow_many_files()
     try:
-        return asyncio.run(run(words[0], config))
+        return asyncio.run(run(path, config))
     except OSError as fault:
         log(f"the service can't run: {fault}")
         return 3

@@ -26,7 +26,7 @@ th, td { text-align: left; padding: .35rem .7rem; border-top: 1px solid var(--li
 td.why { white-space: normal; min-width: 12rem; } .number { text-align: right; }
 figure { margin: 0; background: #fff; color: #000; border: 1px solid var(--line); border-radius: .5rem; }
 figure { padding: .5rem; overflow-x: auto; }
-figure svg { display: block; max-width: 100%; height: auto; } .bad { color: #c0392b; }
+figure svg { display: block; width: 100%; min-width: 40rem; height: auto; } .bad { color: #c0392b; }
 dl { display: grid; grid-template-columns: max-content 1fr; gap: .2rem 1rem; }
 dt { opacity: .75; } dd { margin: 0; overflow-wrap: anywhere; }
 @media (max-width: 48rem) {
@@ -41,8 +41,9 @@ dt { opacity: .75; } dd { margin: 0; overflow-wrap: anywhere; }
 """
 LETTERS = {"Q": "waits", "H": "held", "T": "granted", "R": "runs", "E": "is ended", None: "gone"}
 PROLOG = re.compile(r"<\?xml[^>]*\?>\s*")
+CHART_SIZE = re.compile(r"(<svg [^>]*?)width='([0-9]+)' height='([0-9]+)'")
 CHART_SECOND = re.compile(r">([0-9]{9,12})<")
-CHART_HEAD = re.compile(r"from second ([0-9]{9,12}) on")
+CHART_SPAN = re.compile(r"\b(from|to)(?: second)? ([0-9]{9,12})\b")
 DAY = 86_400
 
 
@@ -90,6 +91,12 @@ def long(seconds: int) -> str:
     return f"{hours}:{rest // 60:02}:{rest % 60:02}"
 
 
+def fitted(chart: str) -> str:
+    """A chart that is as wide as its place."""
+    text = PROLOG.sub("", chart)
+    return text if "viewBox" in text else CHART_SIZE.sub(r"\1viewBox='0 0 \2 \3'", text, count=1)
+
+
 def clocked(chart: str) -> str:
     """A chart whose seconds are times of the day, with the date where it tells of more than a day."""
     seconds = [int(text) for text in CHART_SECOND.findall(chart)]
@@ -98,7 +105,7 @@ def clocked(chart: str) -> str:
     def told(second: str) -> str:
         return time.strftime(form, time.localtime(int(second))) if int(second) < 2**33 else second
 
-    text = CHART_HEAD.sub(lambda found: f"from {told(found.group(1))} on", PROLOG.sub("", chart))
+    text = CHART_SPAN.sub(lambda found: f"{found.group(1)} {told(found.group(2))}", chart)
     return CHART_SECOND.sub(lambda found: f">{told(found.group(1))}<", text).replace(">seconds<", ">time<" if seconds else ">seconds<")
 
 
@@ -208,8 +215,8 @@ def queue(view: View, jobs: Sequence[Dict[str, Any]], start: int, count: int, ea
         '<a href="#sites">Other sites</a></nav>\n',
         "<h2>The queue</h2>\n" + pages(start, count, each),
         table("Jobs that wait or run, of all sites", heads, rows, (4, 5, 6)) if rows else "<p>No job waits or runs.</p>\n",
-        '<h2 id="machine">The machine</h2>\n<figure aria-label="The machine from now on, as a chart">',
-        clocked(view.chart) + "</figure>\n",
+        '<h2 id="machine">The machine</h2>\n<figure tabindex="0" aria-label="The machine from now on, as a chart">',
+        clocked(fitted(view.chart)) + "</figure>\n",
         '<h2 id="reservations">Reservations</h2>\n',
         table("Reservations that stand", ("Reservation", "Site", "From", "To", "Nodes"),
               [[escape(it[0]), escape(it[1]), at(int(it[2])), at(int(it[3])), it[4]] for it in reserved])

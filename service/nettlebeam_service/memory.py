@@ -23,7 +23,7 @@ class Memory:
         self.loss = ""
 
     def look(self) -> None:
-        """Reads the note anew, at the start and at a reload."""
+        """Reads the note, at the start."""
         self.loss = read_text(self.path).strip()
         if self.loss:
             self.log(f"nothing changes this site: {self.loss}")
@@ -33,7 +33,7 @@ class Memory:
         moment = time.strftime("%Y-%m-%d %H:%M:%S", time.localtime())
         self.loss = (
             f"at {moment} a packet of {sender} was answered `forgotten`: this directory is an old copy, or two have one name. "
-            f"Find the newest journal; then remove {self.path} and reload the service"
+            f"Stop the service, put the newest journal back and remove {self.path}; then start it"
         )
         self.log(f"nothing changes this site any more: {self.loss}")
         write(self.path, self.loss.encode() + b"\n")

@@ -2,7 +2,7 @@
 from __future__ import annotations
 
 from .ask import Told, ask
-from .options import Fault, parse
+from .options import OPTIONS, Fault, parse
 
 TYPE_CHECKING = False
 if TYPE_CHECKING:
@@ -16,13 +16,10 @@ def read_words(utility: str, words: List[str], letters: str) -> Tuple[Dict[str, 
     for letter, argument in options:
         if letter not in letters:
             raise Fault(f"there is no option -{letter} here")
-        if argument is None and letter in TAKING.get(utility, ""):
+        if argument is None and letter in OPTIONS.get(utility, ""):
             raise Fault(f"-{letter} needs an argument")
         found[letter] = argument or ""
     return found, operands
-
-
-TAKING = {"qselect": "AhlNpqsu", "qsig": "s"}
 
 
 def some(operands: List[str], what: str) -> List[str]:

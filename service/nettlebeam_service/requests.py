@@ -47,7 +47,7 @@ class Requests:
         except NoBackup as fault:
             return Reply(3, words=f"the backup failed, so that no packet may leave: {fault}")
         except OSError as fault:
-            return Reply(3, words=f"the spool: {fault.strerror}")
+            return Reply(3, words=f"the spool: {fault.strerror or fault}")
 
     async def do(self, client: Client, request: Request) -> Reply:
         """Does what is asked."""

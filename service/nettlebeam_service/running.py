@@ -32,7 +32,7 @@ class Refusal(NamedTuple):
 
 def signal_of(word: str) -> int:
     """The number of a signal: `TERM`, `SIGTERM` or `15`."""
-    if word.isascii() and word.isdigit() and int(word) <= MOST_SIGNAL:
+    if word.isascii() and word.isdigit() and len(word) <= 2 and int(word) <= MOST_SIGNAL:
         return int(word)
     name = word.upper()
     try:

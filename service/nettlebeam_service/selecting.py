@@ -7,7 +7,7 @@ import re
 
 from .ask import Told, ask
 from .more_utilities import read_words
-from .options import Fault, seconds_of
+from .options import OPTIONS, Fault, seconds_of
 
 TYPE_CHECKING = False
 if TYPE_CHECKING:
@@ -91,7 +91,7 @@ def condition(letter: str, text: str) -> List[Condition]:
 
 def qselect(words: List[str], path: str) -> Told:
     """Selects jobs."""
-    options, operands = read_words("qselect", words, "AhlNpqsu")
+    options, operands = read_words("qselect", words, OPTIONS["qselect"])
     if operands:
         raise Fault("it has no operands")
     wanted = [holds for letter, text in options.items() for holds in condition(letter, text)]

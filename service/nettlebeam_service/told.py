@@ -32,7 +32,8 @@ async def told_of(site: Site, names: Sequence[str]) -> Dict[str, Job]:
     if not names:
         return {}
     told = (await site.ask("jobs " + " ".join(names))).text
-    return {job["id"]: job for job in map(json.loads, told.splitlines())}
+    jobs = [json.loads(line) for line in told.splitlines() if line.startswith("{")]  # of a site that there isn't it tells none
+    return {job["id"]: job for job in jobs}
 
 
 async def listed(site: Site) -> List[List[str]]:
