@@ -156,7 +156,7 @@ class ServedSite:
         """Calls a utility as a user does: its status, its output and its words."""
         environment = {**os.environ, "NETTLEBEAM_SOCKET": self.socket, **how.pop("environment", {})}
         done = subprocess.run(
-            [*how.pop("before", []), f"{SERVICE}/{name}", *words],
+            [*how.pop("before", []), f"{SERVICE}/qask", *(["--as", name] if name != "qask" else []), *words],
             input=given, capture_output=True, text=True, env=environment, check=False, **how,
         )
         return done.returncode, done.stdout, done.stderr
