@@ -2,7 +2,7 @@
 
 It leaves the service's process behind, keeps the lock as long as it lives, starts the script once, ends it when its time is
 over or when it is told so by SIGTERM, and writes how it ended. It needs no other module of the service, so that it stays
-small, and so that an update of the service under a running job does no harm.
+small, and so that an update of the service under a running job does no harm. What only newer services tell it may be missing.
 """
 from __future__ import annotations
 
@@ -79,7 +79,8 @@ def become_script(run: Dict[str, Any]) -> None:
     signal.pthread_sigmask(signal.SIG_SETMASK, [])
     for number in (signal.SIGPIPE, signal.SIGXFSZ):
         signal.signal(number, signal.SIG_DFL)
-    resource.setrlimit(resource.RLIMIT_NOFILE, (run["open_files"], resource.getrlimit(resource.RLIMIT_NOFILE)[1]))
+    if "open_files" in run:
+        resource.setrlimit(resource.RLIMIT_NOFILE, (run["open_files"], resource.getrlimit(resource.RLIMIT_NOFILE)[1]))
     os.chdir("/")
     os.execvpe(run["command"][0], run["command"], run["environment"])
 
@@ -210,7 +211,7 @@ def main() -> None:
     script = Script(start(run), run["stop"])
     status = wait(script, run["limit"], run["grace"])
     insist(lambda: write_exit(status))
-    if status >= LEAST_KILLED:
+    if status >= LEAST_KILLED and "clean" in run:
         clean(run["clean"], run["environment"])
 
 
