@@ -8,11 +8,11 @@ use fed_wire::Packet;
 use fed_world::{Event, Outcome};
 use std::process::Abort;
 
-/// The journals of two sites, and the claims of one seat.
+/// The journals of two sites, and the claims of two seats.
 #[derive(Drop)]
 struct Scene {
-    journals: Vec<Vec<Entry>>,
-    seats: Vec<Vec<Claim>>,
+    journals: [Vec<Entry>; 2],
+    seats: [Vec<Claim>; 2],
 }
 
 /// What argonne ships to lemont once it was asked this alone.
@@ -63,7 +63,7 @@ pub(crate) fn taken(place: u64, packet: Packet) -> Entry {
 }
 
 /// The claim of an entry.
-pub(crate) fn claim(number: u8, index: u64, entry: &Entry) -> Claim {
+fn claim(number: u8, index: u64, entry: &Entry) -> Claim {
     Claim {
         site: site(number),
         index,
@@ -71,78 +71,127 @@ pub(crate) fn claim(number: u8, index: u64, entry: &Entry) -> Claim {
     }
 }
 
-/// The claim of what lemont took.
-fn taken_claim() -> Claim {
-    Claim {
-        site: site(1),
-        index: 0,
-        outcome: Outcome::Taken(Taken { grew: true }),
+/// The seat claims all entries of the journal of the site with this number.
+pub(crate) fn claim_all(rt: &impl Abort, claims: &mut Vec<Claim>, number: u8, journal: &[Entry]) {
+    for (index, entry) in journal.iter().enumerate() {
+        let claim = claim(number, index as u64, entry);
+        claims.push(claim).expect(rt, "memory");
     }
 }
 
-/// A job is submitted at argonne and shipped to lemont twice, and lemont takes the second packet. One seat did it all.
-fn settled_scene(rt: &(impl Abort + AllocGlobal)) -> Scene {
+/// The journals once a job is submitted at argonne and shipped to lemont twice, and lemont has taken the second packet.
+pub(crate) fn settled_journals(rt: &(impl Abort + AllocGlobal)) -> [Vec<Entry>; 2] {
     let alloc = rt.alloc();
     let packet = shipped_after(rt, &submitted(rt));
     let argonne = vec![in alloc; submitted(rt), ship_at(1), ship_at(2)].expect(rt, "memory");
     let lemont = vec![in alloc; taken(2, packet)].expect(rt, "memory");
-    let mut claims = Vec::new(alloc);
-    for (index, entry) in argonne.iter().enumerate() {
-        claims
-            .push(claim(0, index as u64, entry))
-            .expect(rt, "memory");
-    }
-    claims.push(taken_claim()).expect(rt, "memory");
-    Scene {
-        journals: vec![in alloc; argonne, lemont].expect(rt, "memory"),
-        seats: vec![in alloc; claims].expect(rt, "memory"),
-    }
+    [argonne, lemont]
 }
 
-/// The journals of the two sites once argonne has done that and lemont has taken the second packet.
-pub(crate) fn settled_journals(rt: &(impl Abort + AllocGlobal)) -> Vec<Vec<Entry>> {
-    let Scene { journals, .. } = settled_scene(rt);
-    journals
+/// These journals, and what the first seat claims, which did it all.
+fn settled_scene(rt: &(impl Abort + AllocGlobal)) -> Scene {
+    let journals = settled_journals(rt);
+    let mut claims = Vec::new(rt.alloc());
+    claim_all(rt, &mut claims, 0, &journals[0]);
+    claim_all(rt, &mut claims, 1, &journals[1]);
+    let seats = [claims, Vec::new(rt.alloc())];
+    Scene { journals, seats }
 }
 
-/// The entry of a site's journal.
-fn entry_of<'a>(
-    rt: &impl Abort,
-    scene: &'a mut Scene,
-    number: usize,
-    index: usize,
-) -> &'a mut Entry {
-    let journal = scene.journals.get_mut(number).expect(rt, "a journal");
-    journal.get_mut(index).expect(rt, "an entry")
-}
-
-/// The claims of the first seat.
-fn claims_of<'a>(rt: &impl Abort, scene: &'a mut Scene) -> &'a mut Vec<Claim> {
-    scene.seats.get_mut(0).expect(rt, "a seat")
-}
-
-/// The entry has another outcome.
-fn refuse_entry(rt: &impl Abort, scene: &mut Scene, number: usize, index: usize) {
-    entry_of(rt, scene, number, index).outcome = Outcome::Refused(Refusal::Gone);
-}
-
-/// The first claim has another outcome.
-fn refuse_claim(rt: &impl Abort, scene: &mut Scene) {
-    let claim = claims_of(rt, scene).get_mut(0).expect(rt, "a claim");
-    claim.outcome = Outcome::Refused(Refusal::Gone);
+/// What is altered of the scene.
+#[derive(Clone, Copy)]
+enum Alteration {
+    /// The first seat claims an entry that argonne doesn't have.
+    ClaimFurther,
+    /// The first seat leaves out its last claim.
+    LeaveClaimOut,
+    /// The first two claims of the first seat are exchanged.
+    ExchangeClaims,
+    /// The second seat claims what the first does.
+    ClaimTwice,
+    /// The first entry of argonne has another outcome.
+    RefuseEntry,
+    /// It has another outcome, and so has its claim.
+    RefuseEntryAndClaim,
+    /// The last entry of argonne is a shipment to a site outside the roster.
+    ShipOutside,
+    /// Lemont's journal is empty.
+    EmptyLemont,
+    /// Lemont takes what argonne has at this place.
+    TakeFrom(u64),
+    /// What lemont took is the packet of a site that has nothing.
+    TakeEmptyPacket,
 }
 
 /// The first two claims are exchanged.
-fn exchange_claims(rt: &impl Abort, scene: &mut Scene) {
-    let claims = claims_of(rt, scene);
+fn exchange(rt: &impl Abort, claims: &mut Vec<Claim>) {
     assert!(rt; claims.len() >= 2);
     claims.swap(0, 1);
 }
 
-/// What lemont took is the packet of a site that has nothing.
-fn take_the_empty_packet(rt: &(impl Abort + AllocGlobal), scene: &mut Scene) {
-    let packet = shipped_after(rt, &ship_at(1));
-    entry_of(rt, scene, 1, 0).packet = Some(packet);
+/// Alters what the first seat claims.
+fn alter_claims(rt: &impl Abort, claims: &mut Vec<Claim>, alteration: Alteration) {
+    match alteration {
+        Alteration::ClaimFurther => {
+            let further = claim(0, 3, &ship_at(3));
+            claims.push(further).expect(rt, "memory");
+        }
+        Alteration::LeaveClaimOut => {
+            claims.pop();
+        }
+        Alteration::ExchangeClaims => exchange(rt, claims),
+        Alteration::RefuseEntryAndClaim => {
+            let claim = claims.get_mut(0).expect(rt, "a claim");
+            claim.outcome = Outcome::Refused(Refusal::Gone);
+        }
+        _ => {}
+    }
+}
+
+/// Alters argonne's journal.
+fn alter_argonne(rt: &impl Abort, journal: &mut Vec<Entry>, alteration: Alteration) {
+    match alteration {
+        Alteration::RefuseEntry | Alteration::RefuseEntryAndClaim => {
+            let entry = journal.get_mut(0).expect(rt, "an entry");
+            entry.outcome = Outcome::Refused(Refusal::Gone);
+        }
+        Alteration::ShipOutside => {
+            let (site, to) = (site(0), site(2));
+            journal.get_mut(2).expect(rt, "an entry").asked = Asked::Ship { site, to };
+        }
+        _ => {}
+    }
+}
+
+/// Alters lemont's journal, of one entry.
+fn alter_lemont(rt: &(impl Abort + AllocGlobal), journal: &mut Vec<Entry>, alteration: Alteration) {
+    let (site, sender) = (site(1), site(0));
+    let entry = journal.get_mut(0).expect(rt, "an entry");
+    match alteration {
+        Alteration::TakeFrom(place) => {
+            entry.asked = Asked::Take {
+                site,
+                sender,
+                place,
+            };
+        }
+        Alteration::TakeEmptyPacket => {
+            entry.packet = Some(shipped_after(rt, &ship_at(1)));
+        }
+        Alteration::EmptyLemont => journal.clear(),
+        _ => {}
+    }
+}
+
+/// Alters the scene.
+fn alter(rt: &(impl Abort + AllocGlobal), scene: &mut Scene, alteration: Alteration) {
+    if matches!(alteration, Alteration::ClaimTwice) {
+        let claims = Vec::from_slice(rt.alloc(), &scene.seats[0]);
+        scene.seats[1] = claims.expect(rt, "memory");
+    }
+    alter_claims(rt, &mut scene.seats[0], alteration);
+    alter_argonne(rt, &mut scene.journals[0], alteration);
+    alter_lemont(rt, &mut scene.journals[1], alteration);
 }
 
 /// The events that the scene is settled to, or its fault.
@@ -155,6 +204,15 @@ fn events_of(rt: &(impl Abort + AllocGlobal), scene: &Scene) -> Result<Vec<Event
 /// The fault of a scene that can't be settled.
 fn fault_of(rt: &(impl Abort + AllocGlobal), scene: &Scene) -> CloseFault {
     events_of(rt, scene).err().expect(rt, "a fault")
+}
+
+/// The scene has this fault once it is altered, and also where it is altered further.
+fn see(rt: &(impl Abort + AllocGlobal), alterations: &[Alteration], fault: &CloseFault) {
+    let mut scene = settled_scene(rt);
+    for alteration in alterations {
+        alter(rt, &mut scene, *alteration);
+        assert!(rt; fault_of(rt, &scene) == *fault);
+    }
 }
 
 /// So many entries of the two sites have an order.
@@ -179,104 +237,66 @@ fn the_scene_is_settled(rt: HostRuntime) {
     assert!(rt; events.get(3) == Some(&take));
 }
 
+/// A claim of no entry, of an empty journal, or of another outcome than the entry's is strange, and told before an entry
+/// that isn't claimed.
 #[test]
-fn a_claim_of_no_entry_is_strange(rt: HostRuntime) {
-    let mut scene = settled_scene(&rt);
-    let further = claim(0, 3, &ship_at(3));
-    claims_of(&rt, &mut scene)
-        .push(further)
-        .expect(&rt, "memory");
-    assert!(rt; fault_of(&rt, &scene) == CloseFault::Strange { seat: 0, place: 4 });
+fn claims_are_strange(rt: HostRuntime) {
+    let seat = 0;
+    let further = CloseFault::Strange { seat, place: 4 };
+    see(&rt, &[Alteration::ClaimFurther], &further);
+    let empty = CloseFault::Strange { seat, place: 3 };
+    see(&rt, &[Alteration::EmptyLemont], &empty);
+    let other = CloseFault::Strange { seat, place: 0 };
+    see(
+        &rt,
+        &[Alteration::RefuseEntry, Alteration::LeaveClaimOut],
+        &other,
+    );
 }
 
+/// An entry that is claimed twice, or not at all, is told before claims of which there is no order of the entries.
 #[test]
-fn a_claim_of_an_empty_journal_is_strange(rt: HostRuntime) {
-    let mut scene = settled_scene(&rt);
-    scene.journals.get_mut(1).expect(&rt, "a journal").clear();
-    assert!(rt; fault_of(&rt, &scene) == CloseFault::Strange { seat: 0, place: 3 });
-}
-
-#[test]
-fn a_claim_of_another_outcome_is_strange(rt: HostRuntime) {
-    let mut scene = settled_scene(&rt);
-    refuse_entry(&rt, &mut scene, 0, 0);
-    let strange = CloseFault::Strange { seat: 0, place: 0 };
-    assert!(rt; fault_of(&rt, &scene) == strange);
-    // an entry that isn't claimed comes after it
-    claims_of(&rt, &mut scene).pop();
-    assert!(rt; fault_of(&rt, &scene) == strange);
-}
-
-#[test]
-fn an_entry_is_claimed_twice(rt: HostRuntime) {
-    let mut scene = settled_scene(&rt);
-    let Scene { seats, .. } = settled_scene(&rt);
-    for claims in seats {
-        scene.seats.push(claims).expect(&rt, "memory");
-    }
-    let (site, index) = (site(0), 0);
-    assert!(rt; fault_of(&rt, &scene) == CloseFault::Twice { site, index });
-}
-
-#[test]
-fn an_entry_is_not_claimed(rt: HostRuntime) {
-    let mut scene = settled_scene(&rt);
-    claims_of(&rt, &mut scene).pop();
-    let (site, index) = (site(1), 0);
+fn entries_are_claimed_once(rt: HostRuntime) {
+    let index = 0;
+    let (first, site) = (site(0), site(1));
+    let twice = CloseFault::Twice { site: first, index };
+    see(&rt, &[Alteration::ClaimTwice], &twice);
     let unclaimed = CloseFault::Unclaimed { site, index };
-    assert!(rt; fault_of(&rt, &scene) == unclaimed);
-    // claims in another order, of which there is no order of the entries, come after it
-    exchange_claims(&rt, &mut scene);
-    assert!(rt; fault_of(&rt, &scene) == unclaimed);
+    see(
+        &rt,
+        &[Alteration::LeaveClaimOut, Alteration::ExchangeClaims],
+        &unclaimed,
+    );
 }
 
-/// The fault where lemont takes what argonne has at the place.
-fn taken_from(rt: &(impl Abort + AllocGlobal), place: u64) -> CloseFault {
-    let mut scene = settled_scene(rt);
-    let (site, sender) = (site(1), site(0));
-    entry_of(rt, &mut scene, 1, 0).asked = Asked::Take {
-        site,
-        sender,
-        place,
-    };
-    fault_of(rt, &scene)
-}
-
+/// A take of no shipment has no place. Exchanged claims have no order, which is told before an entry that differs.
 #[test]
-fn a_take_of_no_shipment_has_no_place(rt: HostRuntime) {
-    assert!(rt; taken_from(&rt, 0) == no_order(3, 0));
-    assert!(rt; taken_from(&rt, 7) == no_order(3, 0));
+fn entries_have_no_order(rt: HostRuntime) {
+    let places = [Alteration::TakeFrom(0), Alteration::TakeFrom(7)];
+    see(&rt, &places, &no_order(3, 0));
+    see(
+        &rt,
+        &[Alteration::ExchangeClaims, Alteration::TakeEmptyPacket],
+        &no_order(0, 0),
+    );
 }
 
+/// Another packet, another outcome and a shipment outside the roster differ from what a run of the events does.
 #[test]
-fn exchanged_claims_have_no_order(rt: HostRuntime) {
-    let mut scene = settled_scene(&rt);
-    exchange_claims(&rt, &mut scene);
-    assert!(rt; fault_of(&rt, &scene) == no_order(0, 0));
-    // an entry that differs comes after it
-    take_the_empty_packet(&rt, &mut scene);
-    assert!(rt; fault_of(&rt, &scene) == no_order(0, 0));
-}
-
-#[test]
-fn another_packet_differs(rt: HostRuntime) {
-    let mut scene = settled_scene(&rt);
-    take_the_empty_packet(&rt, &mut scene);
-    assert!(rt; fault_of(&rt, &scene) == CloseFault::Differs { event: 3 });
-}
-
-#[test]
-fn another_outcome_differs(rt: HostRuntime) {
-    let mut scene = settled_scene(&rt);
-    refuse_entry(&rt, &mut scene, 0, 0);
-    refuse_claim(&rt, &mut scene);
-    assert!(rt; fault_of(&rt, &scene) == CloseFault::Differs { event: 0 });
-}
-
-#[test]
-fn a_shipment_outside_the_roster_differs(rt: HostRuntime) {
-    let mut scene = settled_scene(&rt);
-    let (site, to) = (site(0), site(2));
-    entry_of(&rt, &mut scene, 0, 2).asked = Asked::Ship { site, to };
-    assert!(rt; fault_of(&rt, &scene) == CloseFault::Differs { event: 2 });
+fn entries_differ(rt: HostRuntime) {
+    see(
+        &rt,
+        &[Alteration::TakeEmptyPacket],
+        &CloseFault::Differs { event: 3 },
+    );
+    see(
+        &rt,
+        &[Alteration::RefuseEntryAndClaim],
+        &CloseFault::Differs { event: 0 },
+    );
+    see(
+        &rt,
+        &[Alteration::ShipOutside],
+        &CloseFault::Differs { event: 2 },
+    );
 }

@@ -41,21 +41,36 @@ fn a_look_shows_the_site_itself(rt: HostRuntime) {
     assert!(rt; !shows_the_job(&rt, &federation, 1));
 }
 
+/// Argonne ships to lemont, and an end mark goes to each queue, so that no take waits for ever.
+fn ship_and_end<R: Abort + Wait>(rt: &R, federation: &Federation<OpenGate>, seat: &mut Seat) {
+    let (argonne, lemont) = (site(0), site(1));
+    submit(rt, federation, 0, 1, seat);
+    let sent = federation.ship(rt, argonne, lemont, seat);
+    assert!(rt; sent.expect(rt, "a shipment").queued);
+    federation.end(rt, argonne).expect(rt, "memory");
+    federation.end(rt, lemont).expect(rt, "memory");
+}
+
+/// What is next in the queue of the site of this number.
+fn see_next<R: Abort + Wait>(
+    rt: &R,
+    federation: &Federation<OpenGate>,
+    number: u8,
+    seat: &mut Seat,
+    wanted: Next,
+) {
+    assert!(rt; federation.take_next(rt, site(number), seat) == Ok(wanted));
+}
+
 #[test]
 fn a_parcel_goes_to_its_addressee(rt: HostRuntime) {
-    let (argonne, lemont) = (site(0), site(1));
     let federation = Federation::open(rt.alloc(), &two_sites(), OpenGate).expect(&rt, "memory");
     let mut seat = federation.seat();
-    submit(&rt, &federation, 0, 1, &mut seat);
-    let sent = federation.ship(&rt, argonne, lemont, &mut seat);
-    assert!(rt; sent.expect(&rt, "a shipment").queued);
-    // with an end mark in each queue no take waits for ever
-    federation.end(&rt, argonne).expect(&rt, "memory");
-    federation.end(&rt, lemont).expect(&rt, "memory");
+    ship_and_end(&rt, &federation, &mut seat);
     let taken = Next::Taken(Taken { grew: true });
-    assert!(rt; federation.take_next(&rt, lemont, &mut seat) == Ok(taken));
-    assert!(rt; federation.take_next(&rt, lemont, &mut seat) == Ok(Next::Ended));
-    assert!(rt; federation.take_next(&rt, argonne, &mut seat) == Ok(Next::Ended));
+    see_next(&rt, &federation, 1, &mut seat, taken);
+    see_next(&rt, &federation, 1, &mut seat, Next::Ended);
+    see_next(&rt, &federation, 0, &mut seat, Next::Ended);
 }
 
 #[test]
@@ -110,22 +125,31 @@ impl Gate for NotedGate<'_> {
     }
 }
 
+/// The gate is told of each command, and of no shipment.
+fn see_told<G: Gate, R: Abort + Wait>(
+    rt: &R,
+    told: &Told,
+    federation: &Federation<G>,
+    seat: &mut Seat,
+) {
+    submit(rt, federation, 0, 1, seat);
+    assert!(rt; told.is(1, 0, 0));
+    submit(rt, federation, 0, 2, seat);
+    assert!(rt; told.is(2, 0, 1));
+    let sent = federation.ship(rt, site(0), site(1), seat);
+    assert!(rt; sent.expect(rt, "a shipment").place == 2);
+    submit(rt, federation, 0, 3, seat);
+    assert!(rt; told.is(3, 0, 3));
+    submit(rt, federation, 1, 1, seat);
+    assert!(rt; told.is(4, 1, 0));
+}
+
 #[test]
 fn a_gate_is_told_of_each_place(rt: HostRuntime) {
     let told = Told::nothing();
     let gate = NotedGate { told: &told };
     let federation = Federation::open(rt.alloc(), &two_sites(), gate).expect(&rt, "memory");
-    let mut seat = federation.seat();
-    submit(&rt, &federation, 0, 1, &mut seat);
-    assert!(rt; told.is(1, 0, 0));
-    submit(&rt, &federation, 0, 2, &mut seat);
-    assert!(rt; told.is(2, 0, 1));
-    let sent = federation.ship(&rt, site(0), site(1), &mut seat);
-    assert!(rt; sent.expect(&rt, "a shipment").place == 2);
-    submit(&rt, &federation, 0, 3, &mut seat);
-    assert!(rt; told.is(3, 0, 3));
-    submit(&rt, &federation, 1, 1, &mut seat);
-    assert!(rt; told.is(4, 1, 0));
+    see_told(&rt, &told, &federation, &mut federation.seat());
 }
 
 /// How many turns a call stays at its gate.

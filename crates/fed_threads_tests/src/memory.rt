@@ -2,40 +2,43 @@
 //! seat as before, and answers as with ample memory when it is asked again. That it leaves the journals as before is seen
 //! at the end: only journals whose entries are just those that the seats claim are settled. So the tests pass whichever
 //! allocation fails, which `rt try --test --fail-alloc N` does for the Nth.
-use crate::altered::{claim, ship_at, submitted, taken};
+use crate::altered::{claim_all, ship_at, submitted, taken};
 use fed_board::Board;
 use fed_lattice::NoMemory;
 use fed_record::{Command, Reply};
 use fed_replica::{Replica, Taken};
-use fed_stamp::{Roster, SiteId, Version};
+use fed_stamp::{SiteId, Version};
 use fed_test_values::{ann, site, stamp, submission, two_sites};
 use fed_threads::{
     Asked, CallFault, Claim, CloseFault, Dropped, Entry, Federation, Next, OpenGate, Seat, Sent,
     settle,
 };
 use fed_wire::Packet;
-use std::alloc::{AllocError, Global};
+use std::alloc::Global;
 use std::process::Abort;
 use std::sync::Wait;
 
 /// A list with room for so many items.
-fn room<T>(alloc: Global, count: usize) -> Result<Vec<T>, AllocError> {
-    match Vec::with_capacity(alloc, count) {
-        Ok(list) => Ok(list),
-        Err(_) => Vec::with_capacity(alloc, count),
+fn room<T>(rt: &(impl Abort + AllocGlobal), count: usize) -> Vec<T> {
+    match Vec::with_capacity(rt.alloc(), count) {
+        Ok(list) => list,
+        Err(_) => Vec::with_capacity(rt.alloc(), count).expect(rt, "memory"),
     }
 }
 
-fn opened(alloc: Global, roster: &Roster) -> Result<Federation<OpenGate>, NoMemory> {
-    match Federation::open(alloc, roster, OpenGate) {
-        Ok(federation) => Ok(federation),
-        Err(NoMemory) => Federation::open(alloc, roster, OpenGate),
+fn opened(rt: &(impl Abort + AllocGlobal)) -> Federation<OpenGate> {
+    match Federation::open(rt.alloc(), &two_sites(), OpenGate) {
+        Ok(federation) => federation,
+        Err(NoMemory) => {
+            let federation = Federation::open(rt.alloc(), &two_sites(), OpenGate);
+            federation.expect(rt, "memory")
+        }
     }
 }
 
 /// All that a seat of a federation of two sites keeps: what it was answered and what it asked, and how far it has seen
 /// each site.
-#[derive(PartialEq, Eq, Drop)]
+#[derive(Drop)]
 struct Kept {
     claims: Vec<Claim>,
     asked: Vec<Asked>,
@@ -43,26 +46,27 @@ struct Kept {
     versions: [Version; 2],
 }
 
-fn read_seat(alloc: Global, seat: &Seat) -> Result<Kept, AllocError> {
-    let mut claims = room(alloc, seat.claims().len())?;
-    claims.extend_from_slice(seat.claims())?;
-    let mut asked = room(alloc, seat.asked().len())?;
-    asked.extend_from_slice(seat.asked())?;
-    Ok(Kept {
+fn kept_by(rt: &(impl Abort + AllocGlobal), seat: &Seat) -> Kept {
+    let mut claims = room(rt, seat.claims().len());
+    claims.extend_from_slice(seat.claims()).expect(rt, "room");
+    let mut asked = room(rt, seat.asked().len());
+    asked.extend_from_slice(seat.asked()).expect(rt, "room");
+    Kept {
         claims,
         asked,
         seen: [seat.seen(site(0)), seat.seen(site(1))],
         versions: [seat.version(site(0)), seat.version(site(1))],
-    })
-}
-
-fn kept_by(rt: &(impl Abort + AllocGlobal), seat: &Seat) -> Kept {
-    read_seat(rt.alloc(), seat).expect(rt, "memory")
+    }
 }
 
 /// Fails where a call was not answered for anything but want of memory, or left the seat other than before.
-fn see_refused(rt: &impl Abort, fault: CallFault, before: &Kept, after: &Kept) {
-    assert!(rt; fault == CallFault::NoMemory && before == after);
+fn see_refused(rt: &impl Abort, fault: CallFault, before: &Kept, seat: &Seat) {
+    assert!(rt; fault == CallFault::NoMemory);
+    assert!(rt;
+        seat.claims() == before.claims.as_slice() && seat.asked() == before.asked.as_slice()
+    );
+    assert!(rt; [seat.seen(site(0)), seat.seen(site(1))] == before.seen);
+    assert!(rt; [seat.version(site(0)), seat.version(site(1))] == before.versions);
 }
 
 fn called<R: Abort + AllocGlobal + Wait>(
@@ -77,7 +81,7 @@ fn called<R: Abort + AllocGlobal + Wait>(
     match federation.call(rt, site, &who, command, seat) {
         Ok(said) => said.ok(),
         Err(fault) => {
-            see_refused(rt, fault, &before, &kept_by(rt, seat));
+            see_refused(rt, fault, &before, seat);
             let again = federation.call(rt, site, &who, command, seat);
             again.expect(rt, "an answer").ok()
         }
@@ -94,7 +98,7 @@ fn looked<R: Abort + AllocGlobal + Wait>(
     match federation.look(rt, site, seat) {
         Ok(board) => board,
         Err(fault) => {
-            see_refused(rt, fault, &before, &kept_by(rt, seat));
+            see_refused(rt, fault, &before, seat);
             federation.look(rt, site, seat).expect(rt, "a board")
         }
     }
@@ -111,7 +115,7 @@ fn shipped<R: Abort + AllocGlobal + Wait>(
     match federation.ship(rt, argonne, lemont, seat) {
         Ok(sent) => sent,
         Err(fault) => {
-            see_refused(rt, fault, &before, &kept_by(rt, seat));
+            see_refused(rt, fault, &before, seat);
             federation
                 .ship(rt, argonne, lemont, seat)
                 .expect(rt, "a shipment")
@@ -130,7 +134,7 @@ fn taken_next<R: Abort + AllocGlobal + Wait>(
     match federation.take_next(rt, lemont, seat) {
         Ok(next) => (next, 1),
         Err(fault) => {
-            see_refused(rt, fault, &before, &kept_by(rt, seat));
+            see_refused(rt, fault, &before, seat);
             let next = federation.take_next(rt, lemont, seat);
             (next.expect(rt, "a parcel"), 2)
         }
@@ -151,6 +155,19 @@ fn emptied<R: Abort + Wait>(rt: &R, federation: &Federation<OpenGate>, site: Sit
     panic!(rt; "no end mark")
 }
 
+/// A job is submitted at argonne, and seen there.
+fn submit<R: Abort + AllocGlobal + Wait>(
+    rt: &R,
+    federation: &Federation<OpenGate>,
+    seat: &mut Seat,
+) {
+    let (argonne, job) = (site(0), stamp(1, 0));
+    let said = called(rt, federation, argonne, &submission(), seat);
+    assert!(rt; said == Some(Reply::Submitted(job)));
+    let board = looked(rt, federation, argonne, seat);
+    assert!(rt; board.job(job).is_some());
+}
+
 /// Submits a job at argonne, ships it to lemont three times, takes one parcel and drops the others; all is answered as
 /// with ample memory. The journals have five entries then.
 fn answered<R: Abort + AllocGlobal + Wait>(
@@ -158,11 +175,7 @@ fn answered<R: Abort + AllocGlobal + Wait>(
     federation: &Federation<OpenGate>,
     seat: &mut Seat,
 ) {
-    let (argonne, lemont, job) = (site(0), site(1), stamp(1, 0));
-    let said = called(rt, federation, argonne, &submission(), seat);
-    assert!(rt; said == Some(Reply::Submitted(job)));
-    let board = looked(rt, federation, argonne, seat);
-    assert!(rt; board.job(job).is_some());
+    submit(rt, federation, seat);
     let mut queued = 0usize;
     for place in 1..4 {
         // where the queue alone is refused memory, the shipment stands and only its parcel is missing
@@ -172,8 +185,8 @@ fn answered<R: Abort + AllocGlobal + Wait>(
     }
     let (next, gone) = taken_next(rt, federation, seat);
     assert!(rt; queued >= 2 && next == Next::Taken(Taken { grew: true }));
-    assert!(rt; emptied(rt, federation, lemont).saturating_add(gone) == queued);
-    assert!(rt; emptied(rt, federation, argonne) == 0);
+    assert!(rt; emptied(rt, federation, site(1)).saturating_add(gone) == queued);
+    assert!(rt; emptied(rt, federation, site(0)) == 0);
 }
 
 /// The fault with which the federation is closed, or `None` where it has so many events.
@@ -194,24 +207,21 @@ fn closed(
 
 #[test]
 fn failed_allocations_of_calls(rt: HostRuntime) {
-    let alloc = rt.alloc();
-    let federation = opened(alloc, &two_sites()).expect(&rt, "memory");
+    let federation = opened(&rt);
     let mut seat = federation.seat();
     answered(&rt, &federation, &mut seat);
-    let mut seats = room(alloc, 1).expect(&rt, "memory");
-    seats.push(seat).expect(&rt, "memory");
+    let mut seats = room(&rt, 1);
+    seats.push(seat).expect(&rt, "room");
     let fault = closed(&rt, federation, seats, 5);
     assert!(rt; fault.is_none() || fault == Some(CloseFault::NoMemory));
 }
 
 #[test]
 fn failed_allocations_of_a_fault(rt: HostRuntime) {
-    let alloc = rt.alloc();
-    let federation = opened(alloc, &two_sites()).expect(&rt, "memory");
-    let mut seat = federation.seat();
-    answered(&rt, &federation, &mut seat);
+    let federation = opened(&rt);
+    answered(&rt, &federation, &mut federation.seat());
     // no seat claims the entries
-    let fault = closed(&rt, federation, room(alloc, 0).expect(&rt, "memory"), 5);
+    let fault = closed(&rt, federation, room(&rt, 0), 5);
     let (site, index) = (site(0), 0);
     let unclaimed = CloseFault::Unclaimed { site, index };
     assert!(rt; fault == Some(unclaimed) || fault == Some(CloseFault::NoMemory));
@@ -226,55 +236,58 @@ fn shipped_after(alloc: Global, entry: &Entry) -> Option<Packet> {
     argonne.ship(site(1)).ok()
 }
 
-fn packet_after(rt: &impl Abort, alloc: Global, entry: &Entry) -> Packet {
-    match shipped_after(alloc, entry) {
+fn packet_after(rt: &(impl Abort + AllocGlobal), entry: &Entry) -> Packet {
+    match shipped_after(rt.alloc(), entry) {
         Some(packet) => packet,
-        None => shipped_after(alloc, entry).expect(rt, "a packet"),
+        None => shipped_after(rt.alloc(), entry).expect(rt, "a packet"),
     }
 }
 
-/// The journals of a job that is submitted, shipped and taken.
-fn journals(rt: &impl Abort, alloc: Global) -> Result<Vec<Vec<Entry>>, AllocError> {
-    let packet = packet_after(rt, alloc, &submitted(rt));
-    let mut argonne = room(alloc, 2)?;
-    argonne.push(submitted(rt))?;
-    argonne.push(ship_at(1))?;
-    let mut lemont = room(alloc, 1)?;
-    lemont.push(taken(1, packet))?;
-    let mut journals = room(alloc, 2)?;
-    journals.push(argonne)?;
-    journals.push(lemont)?;
-    Ok(journals)
+/// Argonne's journal once a job is submitted and shipped.
+fn journal_of_argonne(rt: &(impl Abort + AllocGlobal)) -> Vec<Entry> {
+    let mut journal = room(rt, 2);
+    journal.push(submitted(rt)).expect(rt, "room");
+    journal.push(ship_at(1)).expect(rt, "room");
+    journal
+}
+
+/// Lemont's journal once it has taken the job.
+fn journal_of_lemont(rt: &(impl Abort + AllocGlobal)) -> Vec<Entry> {
+    let packet = packet_after(rt, &submitted(rt));
+    let mut journal = room(rt, 1);
+    journal.push(taken(1, packet)).expect(rt, "room");
+    journal
 }
 
 /// The claims of the one seat that did it all.
-fn claims(alloc: Global, journals: &[Vec<Entry>]) -> Result<Vec<Vec<Claim>>, AllocError> {
-    let mut claims = room(alloc, 3)?;
-    let mut number = 0u8;
-    for journal in journals {
-        for (index, entry) in journal.iter().enumerate() {
-            claims.push(claim(number, index as u64, entry))?;
-        }
-        number = number.saturating_add(1);
+fn claims(rt: &(impl Abort + AllocGlobal), journals: &[Vec<Entry>]) -> Vec<Claim> {
+    let mut claims = room(rt, 3);
+    for (number, journal) in (0..2u8).zip(journals) {
+        claim_all(rt, &mut claims, number, journal);
     }
-    let mut seats = room(alloc, 1)?;
-    seats.push(claims)?;
-    Ok(seats)
+    claims
 }
 
 #[test]
 fn failed_allocations_of_settling(rt: HostRuntime) {
-    let alloc = rt.alloc();
-    let roster = two_sites();
-    let journals = journals(&rt, alloc).expect(&rt, "memory");
-    let seats = claims(alloc, &journals).expect(&rt, "memory");
-    assert!(rt; journals.len() == roster.len());
-    match settle(alloc, &roster, &journals, &seats) {
-        Ok(events) => assert!(rt; events.len() == 3),
+    let journals = [journal_of_argonne(&rt), journal_of_lemont(&rt)];
+    let seats = [claims(&rt, &journals)];
+    match settled(&rt, &journals, &seats) {
+        Ok(count) => assert!(rt; count == 3),
         Err(fault) => {
             assert!(rt; fault == CloseFault::NoMemory);
-            let again = settle(alloc, &roster, &journals, &seats);
-            assert!(rt; again.expect(&rt, "events").len() == 3);
+            assert!(rt; settled(&rt, &journals, &seats) == Ok(3));
         }
     }
+}
+
+/// How many events the journals are settled to.
+fn settled(
+    rt: &(impl Abort + AllocGlobal),
+    journals: &[Vec<Entry>],
+    seats: &[Vec<Claim>],
+) -> Result<usize, CloseFault> {
+    let roster = two_sites();
+    assert!(rt; journals.len() == roster.len());
+    settle(rt.alloc(), &roster, journals, seats).map(|events| events.len())
 }

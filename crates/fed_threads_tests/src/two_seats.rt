@@ -92,6 +92,34 @@ fn sees_priority<G: Gate, R: Abort + Wait>(
     job.priority().1.get() == priority
 }
 
+/// A change that both seats see.
+fn see_change<G: Gate, R: Abort + Wait>(
+    rt: &R,
+    federation: &Federation<G>,
+    first: &mut Seat,
+    second: &mut Seat,
+) {
+    let command = new_priority(rt, stamp(1, 0), 9);
+    let said = federation.call(rt, site(0), &ann(), &command, first);
+    assert!(rt; said == Ok(Ok(Reply::Done)));
+    assert!(rt; sees_priority(rt, federation, first, 9));
+    assert!(rt; sees_priority(rt, federation, second, 9));
+}
+
+/// How many events the federation of the first seat, or of both, has, or the fault with which it is closed.
+fn closed<G: Gate>(
+    rt: &(impl Abort + AllocGlobal),
+    federation: Federation<G>,
+    first: Seat,
+    second: Option<Seat>,
+) -> Result<usize, CloseFault> {
+    let mut seats = vec![in rt.alloc(); first].expect(rt, "memory");
+    if let Some(second) = second {
+        seats.push(second).expect(rt, "memory");
+    }
+    federation.close(seats).map(|run| run.order().len())
+}
+
 /// Both seats, of which the first is held until the second is through, which begins once the first is held; then a change
 /// that both see. How many events the federation of these seats has, or the fault with which it is closed.
 fn run_both<R: Abort + AllocGlobal + Threads + Wait + Sync>(
@@ -120,16 +148,9 @@ fn run_both<R: Abort + AllocGlobal + Threads + Wait + Sync>(
         },
     );
     assert!(rt; held.is_some() && through.is_some() && !ran_out.load(Ordering::SeqCst));
-    let command = new_priority(rt, stamp(1, 0), 9);
-    let said = federation.call(rt, site(0), &ann, &command, &mut first);
-    assert!(rt; said == Ok(Ok(Reply::Done)));
-    assert!(rt; sees_priority(rt, &federation, &mut first, 9));
-    assert!(rt; sees_priority(rt, &federation, &mut second, 9));
-    let mut seats = vec![in rt.alloc(); first].expect(rt, "memory");
-    if with_second {
-        seats.push(second).expect(rt, "memory");
-    }
-    federation.close(seats).map(|run| run.order().len())
+    see_change(rt, &federation, &mut first, &mut second);
+    let second = with_second.then_some(second);
+    closed(rt, federation, first, second)
 }
 
 #[test]
@@ -154,6 +175,14 @@ fn see_behind<R: Abort + Wait>(rt: &R, federation: &Federation<OpenGate>, seat: 
     assert!(rt; said == Err(behind));
 }
 
+/// The federation is behind the seat, and is closed by the fault that the seat's claim is strange.
+fn see_strange<R: Abort + AllocGlobal + Wait>(rt: &R, other: Federation<OpenGate>, seat: Seat) {
+    let mut seat = seat;
+    see_behind(rt, &other, &mut seat);
+    let closed = closed(rt, other, seat, None);
+    assert!(rt; closed == Err(CloseFault::Strange { seat: 0, place: 0 }));
+}
+
 #[test]
 fn a_seat_of_another_federation(rt: HostRuntime) {
     let alloc = rt.alloc();
@@ -162,10 +191,7 @@ fn a_seat_of_another_federation(rt: HostRuntime) {
     let done = at_argonne(&rt, &federation, &ann(), &submission(), &mut seat);
     assert!(rt; done.is_some());
     let other = Federation::open(alloc, &two_sites(), OpenGate).expect(&rt, "memory");
-    see_behind(&rt, &other, &mut seat);
-    let seats = vec![in alloc; seat].expect(&rt, "memory");
-    let closed = other.close(seats).map(|run| run.order().len());
-    assert!(rt; closed == Err(CloseFault::Strange { seat: 0, place: 0 }));
+    see_strange(&rt, other, seat);
 }
 
 /// A job is submitted at the site of this number, as its first.
@@ -180,6 +206,19 @@ fn see_submitted<R: Abort + Wait>(
     assert!(rt; said == Ok(Ok(Reply::Submitted(stamp(1, number)))));
 }
 
+/// ann submits a job, bob submits one at the other site, and one at a site of the other federation.
+fn submit_all<R: Abort + Wait>(
+    rt: &R,
+    federation: &Federation<OpenGate>,
+    other: &Federation<OpenGate>,
+    first: &mut Seat,
+    second: &mut Seat,
+) {
+    see_submitted(rt, federation, 0, &ann(), first);
+    see_submitted(rt, federation, 1, &bob(), second);
+    see_submitted(rt, other, 0, &bob(), second);
+}
+
 /// The second claim of the second seat names an entry that has its outcome, and another event.
 #[test]
 fn a_claim_of_another_event(rt: HostRuntime) {
@@ -187,10 +226,7 @@ fn a_claim_of_another_event(rt: HostRuntime) {
     let federation = Federation::open(alloc, &two_sites(), OpenGate).expect(&rt, "memory");
     let other = Federation::open(alloc, &two_sites(), OpenGate).expect(&rt, "memory");
     let (mut first, mut second) = (federation.seat(), federation.seat());
-    see_submitted(&rt, &federation, 0, &ann(), &mut first);
-    see_submitted(&rt, &federation, 1, &bob(), &mut second);
-    see_submitted(&rt, &other, 0, &bob(), &mut second);
-    let seats = vec![in alloc; first, second].expect(&rt, "memory");
-    let closed = federation.close(seats).map(|run| run.order().len());
+    submit_all(&rt, &federation, &other, &mut first, &mut second);
+    let closed = closed(&rt, federation, first, Some(second));
     assert!(rt; closed == Err(CloseFault::Strange { seat: 1, place: 1 }));
 }
