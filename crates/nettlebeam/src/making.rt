@@ -84,9 +84,11 @@ pub fn make_home<'x, R: Files<File = File> + AllocGlobal + Clone + Drop>(
         return Err(Fault::Roster);
     }
     make_directory(rt, directory, header.len() as u64 + FRAME_BYTES)?;
+    // before anything is written: a later call finds a site, and syncs nothing more
+    sync_parent(rt, directory).map_err(Fault::Directory)?;
     let device = FileDevice::make(rt, directory, JOURNAL)?;
     match Home::make(rt.alloc(), device, &header) {
-        Ok(_) => sync_parent(rt, directory).map_err(Fault::Directory),
+        Ok(_) => Ok(()),
         Err(unopened) => Err(Fault::Home(unopened.fault)),
     }
 }
