@@ -3,8 +3,6 @@
 Whatever a process answered must be what the model says, and must stand in the journal. Where a process was killed or
 the disk was full, the journal says how far it came, and the model follows it.
 """
-import glob
-import hashlib
 import os
 import re
 import shutil
@@ -15,26 +13,14 @@ import threading
 from itertools import zip_longest
 from typing import NamedTuple
 
+from disk_journals import Damaged, Directory, Wrong, read_journal, shown
 from plain_model import Answer, Packet, Site
 from plain_words import READABLE
 
 LONGEST_WAIT = 120
 PIPE_BYTES = 65_536
-DISK_BYTES = 268_435_456
-FIRST_DIGEST = b"0" * 16
 FAULTS = ("refused", "usage", "gap", "unread", "foreign", "forgotten", "cannot be read")
-
-
-class Wrong(Exception):
-    """Something isn't what the model says."""
-
-
-class Damaged(Exception):
-    """A line of a journal isn't an entry."""
-
-    def __init__(self, line):
-        super().__init__(line)
-        self.line = line
+NOT_KEPT = Answer("not kept\n")
 
 
 class Line(NamedTuple):
@@ -67,51 +53,6 @@ class Cut(NamedTuple):
         if self.kill_after is not None and status == -signal.SIGKILL:
             return True
         return status == 3 and (self.most_bytes is not None or self.is_full or self.is_deaf)
-
-
-class SmallDisk:
-    """A file system in memory that can be filled. An OSError where none may be mounted here."""
-
-    def __init__(self, folder):
-        self.folder = folder
-        os.mkdir(folder)
-        command = ["mount", "-t", "tmpfs", "-o", f"size={DISK_BYTES}", "tmpfs", folder]
-        if subprocess.run(command, stderr=subprocess.DEVNULL, check=False).returncode:
-            raise OSError("no file system in memory may be mounted")
-
-    def fill(self, free):
-        """Takes all room but so many bytes."""
-        state = os.statvfs(self.folder)
-        room = state.f_bavail * state.f_frsize
-        with open(f"{self.folder}/filler", "wb") as file:
-            os.posix_fallocate(file.fileno(), 0, max(1, room - free))
-
-    def is_used(self):
-        """Whether a quarter of it is used, so that the lines of a few more steps, and a last exchange, still fit."""
-        state = os.statvfs(self.folder)
-        return state.f_bavail * 4 < state.f_blocks * 3
-
-    def empty(self):
-        """Gives the room back."""
-        os.remove(f"{self.folder}/filler")
-
-    def unmount(self):
-        """Ends the file system."""
-        subprocess.run(["umount", self.folder], check=True)
-
-
-def read_journal(file):
-    """The entries of a journal's bytes, and what stands behind its closed gate."""
-    entries, digest, place = [], FIRST_DIGEST, 0
-    while file and file[place : place + 1] != b"-":
-        end = file.find(b"\n", place)
-        line = file[place:end] if end >= 0 else file[place:]
-        digest = hashlib.sha256(digest + line[19:]).hexdigest()[:16].encode()
-        if end < 0 or line[:19] != b"+ " + digest + b" ":
-            raise Damaged(len(entries) + 1)
-        entries.append(line[19:])
-        place = end + 1
-    return entries, file[place + 1 :]
 
 
 # No file of the program gets longer than the first word says, and a write that would is an error and no signal. The shell
@@ -187,60 +128,17 @@ def is_fault(answer):
     return any(line.startswith(FAULTS) for line in answer.text.splitlines())
 
 
-def shown(text, most=300):
-    """The front of a text, for a message."""
-    return repr(text if len(text) <= most else text[:most] + b"..")
-
-
 class DiskSite:
-    """A site: its directory, its model, and the entries that its journal must have."""
+    """A site: its directory, and its model."""
 
-    def __init__(self, program, directory, roster, number):
+    def __init__(self, program, path, roster, number):
         self.program = program
-        self.directory = directory
         self.roster = roster
         self.model = Site(roster, number)
         self.name = roster.names[number]
-        self.entries = [" ".join(["nettlebeam 1", self.name, *roster.words()]).encode()]
-        self.tail = b""
+        self.directory = Directory(path, self.name, " ".join(["nettlebeam 1", self.name, *roster.words()]).encode())
         self.disk = None
-
-    # What is on the disk
-
-    def file(self):
-        """The bytes of the journal; none where there is no file."""
-        try:
-            with open(f"{self.directory}/journal", "rb") as file:
-                return file.read()
-        except FileNotFoundError:
-            return b""
-
-    def note_tail(self, tail):
-        """Sees that what an earlier process left behind the closed gate is kept beside the journal, once it was cut."""
-        if self.tail and tail != self.tail and not any(self.tail in text for text in self.cut_files()):
-            raise Wrong(f"{self.name}: what was cut is in no file beside the journal: {shown(self.tail)}")
-        self.tail = tail
-
-    def cut_files(self):
-        """What was cut from the journal by all openings."""
-        for name in glob.glob(f"{glob.escape(self.directory)}/journal.cut-*"):
-            with open(name, "rb") as file:
-                yield file.read()
-
-    def journal(self):
-        """The entries of the journal, and what stands behind its gate."""
-        try:
-            return read_journal(self.file())
-        except Damaged as damage:
-            raise Wrong(f"{self.name}: the journal is damaged at line {damage.line}") from None
-
-    def new_entries(self):
-        """The entries that the journal has beyond those that it had."""
-        entries, tail = self.journal()
-        if entries[: len(self.entries)] != self.entries:
-            raise Wrong(f"{self.name}: the journal has lost entries, or changed them")
-        self.note_tail(tail)
-        return entries[len(self.entries) :]
+        self.not_kept = 0
 
     def replayed(self, entries, packets):
         """A site of the model that was told these entries, the first being the header."""
@@ -256,17 +154,17 @@ class DiskSite:
 
     def make(self, cut=Cut()):
         """Makes the directory, at the second attempt where the first was cut short."""
-        words = ["init", self.directory, self.name, *self.roster.words()]
+        words = ["init", self.directory.path, self.name, *self.roster.words()]
         ended = run(self.program, words, cut=cut)
-        if self.journal()[0] != self.entries:
+        if self.directory.journal()[0] != self.directory.entries:
             if ended.status == 0:
                 raise Wrong(f"{self.name}: init ended with status 0 and left no header")
             ended = run(self.program, words)
             self.expect_status(ended, 0, "init")
-        if self.journal()[0] != self.entries:
-            raise Wrong(f"{self.name}: init left another journal: {shown(self.file())}")
-        self.tail = self.journal()[1]
-        if os.stat(f"{self.directory}/journal").st_mode & 0o077:
+        if self.directory.journal()[0] != self.directory.entries:
+            raise Wrong(f"{self.name}: init left another journal: {shown(self.directory.file())}")
+        self.directory.tail = self.directory.journal()[1]
+        if os.stat(f"{self.directory.path}/journal").st_mode & 0o077:
             raise Wrong(f"{self.name}: others than the owner may use the journal")
         self.expect_status(run(self.program, words), 3, "a second init")
 
@@ -305,7 +203,7 @@ class DiskSite:
         """Sees that the journal has what was answered, and takes the model back to what the journal has. Lines that
         came as one group are all there or none."""
         kept = [line.text for line, answer in answers if answer.kept]
-        new = self.new_entries()
+        new = self.directory.new_entries()
         for found, wanted in zip_longest(new, kept[: len(new)], fillvalue=b"nothing"):
             if found != wanted:
                 raise Wrong(f"{self.name}: the journal has {shown(found)}, and not {shown(wanted)}")
@@ -314,12 +212,13 @@ class DiskSite:
             raise Wrong(f"{self.name}: {needed} lines that change something were answered, the journal has {len(new)}")
         if is_group and 0 < len(new) < len(kept):
             raise Wrong(f"{self.name}: of a group of {len(kept)} lines the journal has {len(new)}")
-        self.entries += new
+        self.directory.entries += new
         if len(new) < len(kept):
             self.model, left = before, list(answers)
             count = len(new)
             while count:
-                count -= self.expected(left.pop(0)[0]).kept
+                line, answer = left.pop(0)
+                count -= answer is not NOT_KEPT and self.expected(line).kept
 
     def asked(self, make_line, count):
         """So many lines with the model's answers, and the input that has these lines."""
@@ -329,11 +228,23 @@ class DiskSite:
             answers.append((line, self.expected(line)))
         return answers, b"".join(line.text + b"\n" for line, _ in answers)
 
+    def behind_lines_not_kept(self, before, answers, out):
+        """The lines with their answers where some came out as not kept, which then change nothing."""
+        self.model, place, told = before.copy(), 0, []
+        block = NOT_KEPT.text.encode() + b"\n"
+        for line, _ in answers:
+            told.append((line, NOT_KEPT if out.startswith(block, place) else self.expected(line)))
+            place += len(told[-1][1].text) + 1
+        return told
+
     def serve(self, make_line, count, cut=Cut(), pieces=1):
-        """Pipes lines into `serve`. Gives those that were answered, with their answers."""
+        """Pipes lines into `serve`. Gives those that were answered, with their answers, but for lines that aren't kept."""
         before = None if cut == Cut() else self.model.copy()
         answers, given = self.asked(make_line, count)
-        ended = run(self.program, ["serve", self.directory], given, cut, pieces)
+        ended = run(self.program, ["serve", self.directory.path], given, cut, pieces)
+        if cut.is_full or cut.most_bytes is not None:
+            answers = self.behind_lines_not_kept(before, answers, ended.out)
+            self.not_kept += sum(answer is NOT_KEPT for _, answer in answers)
         is_whole = ended.status == 0
         if not cut.explains(ended.status):
             self.expect_status(ended, 0, "serve")
@@ -341,7 +252,7 @@ class DiskSite:
         # what is written at once, and fits into the pipe, comes together
         is_group = pieces == 1 and len(given) <= PIPE_BYTES
         self.follow(answers, before, said, is_whole, is_group)
-        return ended, answers[:whole]
+        return ended, [it for it in answers[:whole] if it[1] is not NOT_KEPT]
 
     def at(self, line, cut=Cut()):
         """Asks one line by `at`. Gives it with its answer, where that came out."""
@@ -361,8 +272,8 @@ class DiskSite:
     def words_at(self, line):
         """The words of a call of `at`, and its standard input."""
         if line.text.startswith(b"take "):
-            return ["at", self.directory, "take"], line.text[5:] + b"\n"
-        return ["at", self.directory, *line.text.split()], b""
+            return ["at", self.directory.path, "take"], line.text[5:] + b"\n"
+        return ["at", self.directory.path, *line.text.split()], b""
 
     @staticmethod
     def is_for_at(line):
@@ -377,7 +288,7 @@ class DiskSite:
         """Asks two lines at the same moment. Either may come first, and both are answered."""
         processes = [start(self.program, self.words_at(line)[0]) for line in lines]
         ends = [finish(process) for process in processes]
-        new = self.new_entries()
+        new = self.directory.new_entries()
         before = self.model
         for order in ((0, 1), (1, 0)):
             self.model = before.copy()
@@ -385,14 +296,14 @@ class DiskSite:
             kept = [lines[index].text for index in order if answers[index].kept]
             wanted = [(answers[index].text.encode(), int(is_fault(answers[index]))) for index in (0, 1)]
             if kept == new and [(end.out, end.status) for end in ends] == wanted:
-                self.entries += new
+                self.directory.entries += new
                 return [(lines[index], answers[index]) for index in order]
         raise Wrong(f"{self.name}: two at once: {[line.text for line in lines]} ended so: {ends}, and kept {new}")
 
     def at_beside_serve(self, make_line, count, last):
         """Asks a line by `at` while `serve` has the directory, so that it has to wait until that ends."""
         answers, given = self.asked(make_line, count)
-        serving = start(self.program, ["serve", self.directory])
+        serving = start(self.program, ["serve", self.directory.path])
         out = ask(serving, given, sum(len(answer.text) + 1 for _, answer in answers))
         asking = start(self.program, self.words_at(last)[0])
         rest = finish(serving)
@@ -408,23 +319,23 @@ class DiskSite:
 
     def check(self):
         """Calls `check`, which must tell what the model has, and change nothing."""
-        before = self.file()
-        ended = run(self.program, ["check", self.directory])
+        before = self.directory.file()
+        ended = run(self.program, ["check", self.directory.path])
         self.expect_status(ended, 0, "check")
         seen = " ".join(f"{name} {counter}" for name, counter in zip(self.roster.names, self.model.version))
-        front = f"entries {len(self.entries)}, seen {seen}, jobs {len(self.model.jobs())}, "
-        wanted = f"{front}unfinished bytes {len(self.tail)}\n".encode()
+        front = f"entries {len(self.directory.entries)}, seen {seen}, jobs {len(self.model.jobs())}, "
+        wanted = f"{front}unfinished bytes {len(self.directory.tail)}\n".encode()
         if ended.out != wanted:
             raise Wrong(f"{self.name}: check: {shown(ended.out)}, and not {shown(wanted)}")
-        if self.file() != before:
+        if self.directory.file() != before:
             raise Wrong(f"{self.name}: check changed the journal")
 
     def damage(self, pick, packets):
         """Damages a copy of the directory; an opening must name the first damaged line, or show what is left."""
-        with tempfile.TemporaryDirectory(dir=os.path.dirname(self.directory)) as folder:
+        with tempfile.TemporaryDirectory(dir=os.path.dirname(self.directory.path)) as folder:
             copy = f"{folder}/copy"
-            shutil.copytree(self.directory, copy)
-            file = bytearray(self.file())
+            shutil.copytree(self.directory.path, copy)
+            file = bytearray(self.directory.file())
             place = pick.randrange(len(file))
             if pick.random() < 0.3:
                 del file[place:]

@@ -1,7 +1,8 @@
 /* Records the calls by which the program that it is loaded into by LD_PRELOAD changes what a disk has: each is one record
  * behind the others in the file that CALLS_RECORD names. A record is a line of numbers, `KIND DESCRIPTOR OFFSET LENGTH`, and
  * LENGTH bytes: those that were written, or a path. Where KILL_AFTER gives a number, the program is killed once it has made
- * so many of them. Calls that failed, and bytes that weren't taken, are in no record. */
+ * so many of them. Locks that were taken and reads are recorded too, and aren't counted. Calls that failed, and bytes that
+ * weren't taken, are in no record. */
 #define _GNU_SOURCE
 #include <dlfcn.h>
 #include <fcntl.h>
@@ -29,8 +30,8 @@ __attribute__((constructor)) static void begin(void)
     close(made);
 }
 
-/* Adds a record, and ends the program where it is the last one that it may make. */
-static void record(const char *kind, int descriptor, long offset, const void *bytes, size_t length)
+/* Adds a record. */
+static void add(const char *kind, int descriptor, long offset, const void *bytes, size_t length)
 {
     char line[80];
     int size = snprintf(line, sizeof line, "%s %d %ld %zu\n", kind, descriptor, offset, length);
@@ -38,7 +39,13 @@ static void record(const char *kind, int descriptor, long offset, const void *by
         return;
     if (syscall(SYS_write, file, line, size) != size || syscall(SYS_write, file, bytes, length) != (long)length)
         abort();
-    if (left > 0 && --left == 0)
+}
+
+/* Adds a record of a call that changes what a disk has, and ends the program where it is the last one that it may make. */
+static void record(const char *kind, int descriptor, long offset, const void *bytes, size_t length)
+{
+    add(kind, descriptor, offset, bytes, length);
+    if (file >= 0 && left > 0 && --left == 0)
         raise(SIGKILL);
 }
 
@@ -125,4 +132,22 @@ int fdatasync(int descriptor)
 {
     NEXT(int, "fdatasync");
     return synced(next(descriptor), descriptor);
+}
+
+int flock(int descriptor, int operation)
+{
+    NEXT(int, "flock");
+    int status = next(descriptor, operation);
+    if (status == 0)
+        add("lock", descriptor, 0, "", 0);
+    return status;
+}
+
+ssize_t read(int descriptor, void *bytes, size_t length)
+{
+    NEXT(ssize_t, "read");
+    ssize_t done = next(descriptor, bytes, length);
+    if (done >= 0)
+        add("read", descriptor, 0, "", 0);
+    return done;
 }

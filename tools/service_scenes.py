@@ -250,6 +250,7 @@ def passing(tally, federation):
     for job in near:
         tally.same("a job of the site itself runs while the link is down", lemont.finished(job, 60), 4)
     tally.same("the other waits", lemont.jobs(far)[far]["letter"], "Q")
+    tally.true("by a plan without it", "knows no plan" not in lemont.logged())
     federation.join("lemont", "argonne")
     federation.join("argonne", "lemont")
     tally.same("until the link is up", lemont.finished(far, 60), 3)
@@ -258,14 +259,15 @@ def passing(tally, federation):
 def backups(tally, federation):
     """No packet leaves that a backup is behind of."""
     federation.has_links = True
-    copy, broken, command = (f"{federation.folder}/{name}" for name in ("copy", "broken", "backup"))
+    broken, command = (f"{federation.folder}/{name}" for name in ("broken", "backup"))
     with open(command, "w", encoding="ascii") as file:
-        file.write(f"#!/bin/sh\n[ ! -e {broken} ] && cp {federation.folder}/argonne/site/journal {copy}\n")
+        file.write(f'#!/bin/sh\n[ ! -e {broken} ] && cp "$1" "$2.new" && mv "$2.new" "$2"\n')
     os.chmod(command, 0o755)
-    argonne, lemont = federation.make("argonne:1", "lemont:2", jobs="run = no", site=f"[site]\nbackup = {command}")
+    backup = f"backup = {command} {{home}}/site/journal {{home}}/copy"
+    argonne, lemont = federation.make("argonne:1", "lemont:2", jobs="run = no", site=f"[site]\n{backup}")
     job = argonne.submit("true\n")
     until(lambda: job in lemont.jobs(), 20, "lemont knows of the job")
-    tally.true("the backup has the job", " qsub" in read(copy))
+    tally.true("the backup has the job", " qsub" in read(f"{argonne.home}/copy"))
     with open(broken, "w", encoding="ascii"):
         pass
     job = argonne.submit("true\n")

@@ -7,11 +7,11 @@ import subprocess
 import sys
 import time
 
-TOP = os.path.dirname(os.path.dirname(os.path.abspath(__file__)))
+from playing import PROGRAM, TOP
+
 SERVICE = f"{TOP}/service"
 # another interpreter for the daemons, such as the oldest that is to do
 PYTHON = [os.environ["NETTLEBEAM_PYTHON"], "-IS"] if "NETTLEBEAM_PYTHON" in os.environ else []
-PROGRAM = f"{TOP}/crates/nettlebeam/out/nettlebeam"
 sys.path.insert(0, SERVICE)
 
 from nettlebeam_service import accounting, config, seal  # noqa: E402
@@ -68,15 +68,6 @@ def until(holds, seconds, what):
         time.sleep(0.05)
 
 
-def has_program(tool, program):
-    """Whether the program is there; where it isn't, that is told, and counted as failed."""
-    if os.access(program, os.X_OK):
-        return True
-    print(f"{tool}: {program} isn't there: it is built by (cd crates/nettlebeam && rt run -- --version)")
-    print("0 passed, 1 failed")
-    return False
-
-
 class ServedSite:
     """A site with its service."""
 
@@ -90,10 +81,11 @@ class ServedSite:
         self.process = None
 
     def make(self, program, roster, jobs, more, operators="", admins="", site="[site]"):
-        """Makes the site, and its configuration."""
+        """Makes the site, and its configuration, where `site` names the folder of the site as `{home}`."""
         os.makedirs(self.home, exist_ok=True)
         subprocess.run([program, "init", f"{self.home}/site", self.name, *roster], check=True)
         folder = self.federation.folder
+        site = site.format(home=self.home)
         text = CONFIG.format(
             home=self.home, folder=folder, name=self.name, program=program, jobs=jobs, operators=operators, admins=admins, site=site
         )
@@ -247,4 +239,4 @@ class ServedFederation:
                 pass
 
 
-__all__ = ["accounting", "has_program", "seal", "NoEnd", "PROGRAM", "SERVICE", "ServedFederation", "ServedSite", "TOP", "Told", "Unasked", "ask", "config", "stat_of", "until"]
+__all__ = ["accounting", "seal", "NoEnd", "SERVICE", "ServedFederation", "ServedSite", "Told", "Unasked", "ask", "config", "stat_of", "until"]

@@ -1,9 +1,9 @@
 """Plans around jobs that can't be had now: the origin of one can't be asked, its owner has no account here, or it was refused.
 
 The site's plan starts such a job all the same, and keeps its nodes from others for as long as it stays so. A program that
-knows the line `plan MOMENT but ID ..` is asked for the plan without these jobs. One that doesn't is brought to another plan:
-since the jobs that are granted to this site stand first in it, some that would fit are granted to this site, and what the
-plan doesn't start even so is handed back.
+knows the line `plan MOMENT but ID ..` is asked for the plan without these jobs. One that doesn't, or jobs beyond those that
+the line may name, are met by another plan: since the jobs that are granted to this site stand first in it, some that would
+fit are granted to this site, and what the plan doesn't start even so is handed back.
 """
 from __future__ import annotations
 
@@ -31,6 +31,7 @@ class Passing:
         self.begins = begins
         self.log = log
         self.knows_but = True  # until the site can't read such a line
+        self.names_all = True  # whether the last such line had all jobs that can't be had
         self.last = 0.0
         self.tried: Dict[str, float] = {}
 
@@ -39,6 +40,7 @@ class Passing:
         if not blocked:
             return await starts_of(self.site, f"plan {now()}")
         if self.knows_but:
+            self.names_all = len(blocked) <= MOST_BUT
             words = " ".join(blocked[:MOST_BUT])
             answer = (await self.site.ask(f"plan {now()} but {words}")).text
             if not answer.startswith("cannot be read"):
@@ -50,7 +52,7 @@ class Passing:
     async def try_others(self, starts: Sequence[str], free: int) -> List[str]:
         """Without such a line: grants some jobs to this site that fit its free nodes, in place of those which the plan starts
         and that can't be had, and hands back those that the plan doesn't start even so; the jobs that start now."""
-        if self.knows_but or time.monotonic() - self.last < LEAST_GAP:
+        if (self.knows_but and self.names_all) or time.monotonic() - self.last < LEAST_GAP:
             return []
         self.last = time.monotonic()
         mine = await self.grant_others(starts, free)

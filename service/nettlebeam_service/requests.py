@@ -10,7 +10,7 @@ from .files import remove
 from .lines import CHANGING, FOR_ALL, Client, Denied, asker, check_words, is_complaint, line_of
 from .packets import BadPacket, line_of_packet
 from .running import TO_RUNNING, Running
-from .site import Answer, Lost, Site, Stopped
+from .site import Answer, Lost, NotKept, Site, Stopped
 from .spool import IDENTIFIER, Spool
 from .wire import Reply, Request
 
@@ -42,6 +42,8 @@ class Requests:
             return Reply(2, words=str(fault))
         except Lost as fault:
             return Reply(3, words=f"nothing changes this site now: {fault}")
+        except NotKept as fault:
+            return Reply(3, words=str(fault))
         except Stopped as fault:
             return Reply(3, words=f"the site stopped: {fault}")
         except NoBackup as fault:

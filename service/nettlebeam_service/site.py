@@ -15,10 +15,15 @@ CHUNK = 1 << 20
 USAGE_SECONDS = 10
 WORDS_FLAG = "--words"
 WORDS_MARK = "# "
+NOT_KEPT = "not kept\n"
 
 
 class Stopped(Exception):
     """The site gives no answer. What was asked may be kept or not."""
+
+
+class NotKept(Stopped):
+    """The site's disk has no room for what the line would change. Nothing of it is kept, so it may be asked again."""
 
 
 class Lost(Stopped):
@@ -65,6 +70,14 @@ def read_answer(data: bytes) -> Answer:
     if not text.startswith(WORDS_MARK, start):
         return Answer(text)
     return Answer(text[:start], text[start + len(WORDS_MARK) :].rstrip("\n"))
+
+
+def settle(asked: "asyncio.Future[Answer]", answer: Answer) -> None:
+    """Hands an answer to the one who asked: as a fault where the line isn't kept."""
+    if answer.text == NOT_KEPT:
+        asked.set_exception(NotKept(answer.words or "nothing of the line is kept"))
+    else:
+        asked.set_result(answer)
 
 
 class Site:
@@ -176,7 +189,7 @@ class Site:
                     return
                 asked = self.waiting.popleft()
                 if not asked.done():
-                    asked.set_result(read_answer(answer))
+                    settle(asked, read_answer(answer))
 
     async def read_errors(self, process: asyncio.subprocess.Process) -> None:
         """Logs what the child tells on standard error, and keeps the last of it."""

@@ -12,5 +12,5 @@ mod site_plans;
 
 pub use listings::listing_text;
 pub use outcomes::{AnswerText, outcome_line, usage_line};
-pub use plan_texts::{plan_line, plan_lines};
-pub use site_plans::{nodes_of, plan_at};
+pub use plan_texts::{plan_line, plan_lines, plan_text_without};
+pub use site_plans::{nodes_of, plan_at, plan_at_without};

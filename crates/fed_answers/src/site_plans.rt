@@ -4,14 +4,14 @@ ghost use Rattle.fed_stamp.specs.Roster.{nodes_at};
 ghost use Rattle.fed_board.specs.Board.{board_reads};
 ghost use Rattle.fed_easy.specs.declared.machines.MachineFault.TheVariants.{NoMemory as OutOfMemory};
 ghost use Rattle.fed_easy.specs.Plan.{plan_reads};
-ghost use Rattle.fed_easy.specs.SitePlan.{site_plan};
-ghost use Rattle.fed_answers.specs.Planned.{plan_in};
+ghost use Rattle.fed_easy.specs.SitePlan.{plan_without as others_planned, site_plan};
+ghost use Rattle.fed_answers.specs.Planned.{plan_in, plan_in_without};
 
 use fed_board::Board;
-use fed_easy::{Machine, MachineFault, Plan, PlanFault, machine_of, plan};
+use fed_easy::{Machine, MachineFault, Plan, PlanFault, machine_of, plan, plan_without};
 use fed_lattice::NoMemory;
 use fed_record::Moment;
-use fed_stamp::{Roster, SiteId};
+use fed_stamp::{JobId, Roster, SiteId};
 use std::alloc::Global;
 
 /// The nodes of a site of the roster.
@@ -36,6 +36,26 @@ fn machine_plan(
         Ok(plan) => Ok(plan),
         Err(fault) => {
             // a moment is in range, so that want of memory is all that is left
+            prove!(matches!(&fault, PlanFault::NoMemory));
+            Err(NoMemory)
+        }
+    }
+}
+
+/// The plan of a site's machine where these jobs are left out.
+fn machine_plan_without(
+    alloc: Global,
+    board: &Board,
+    site: SiteId,
+    moment: Moment,
+    machine: &Machine,
+    jobs: &[JobId],
+) -> Result<Plan, NoMemory>
+    ensures { IfOk result (λ plan. plan_reads plan ≡ others_planned jobs.now (board_reads board.now) site moment machine.now) }
+{
+    match plan_without(alloc, board, site, moment.get(), machine, jobs) {
+        Ok(plan) => Ok(plan),
+        Err(fault) => {
             prove!(matches!(&fault, PlanFault::NoMemory));
             Err(NoMemory)
         }
@@ -67,6 +87,26 @@ pub fn plan_at(
 {
     match machine_of(alloc, board, site, nodes_of(roster, site)) {
         Ok(machine) => Ok(Some(machine_plan(alloc, board, site, moment, &machine)?)),
+        Err(fault) => unplanned(fault),
+    }
+}
+
+/// The plan of a site at a moment as `plan_at` makes it, where these jobs are left out of the queue. The only error is
+/// `NoMemory`.
+pub fn plan_at_without(
+    alloc: Global,
+    roster: &Roster,
+    board: &Board,
+    site: SiteId,
+    moment: Moment,
+    jobs: &[JobId],
+) -> Result<Option<Plan>, NoMemory>
+    requires { site < length roster.now }
+    ensures { IfOk result (λ plan. option_map plan_reads plan ≡
+        plan_in_without jobs.now roster.now (board_reads board.now) site moment) }
+{
+    match machine_of(alloc, board, site, nodes_of(roster, site)) {
+        Ok(machine) => Ok(Some(machine_plan_without(alloc, board, site, moment, &machine, jobs)?)),
         Err(fault) => unplanned(fault),
     }
 }

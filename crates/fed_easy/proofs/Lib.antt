@@ -13,6 +13,7 @@ pub mod BoardEntries
 pub mod BadEntries
 pub mod QueueMembers
 pub mod InOrder
+pub mod LeftOut
 pub mod EventSums
 pub mod Sweep
 pub mod NoDelay
@@ -20,4 +21,6 @@ pub mod Within
 pub mod PlanFacts
 pub mod ByExtra
 pub mod Falls
+pub mod Sized
 pub mod Scenes
+pub mod UsedNodes

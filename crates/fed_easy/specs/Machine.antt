@@ -1,5 +1,5 @@
 -- A site's machine.
-use Rattle.std.specs.Prelude.{◌≡◌, ℕ, ◌⊎◌, Bool, not, ◌&&◌, nat_eq, nat_le, if◌then◌else◌, List, length, slice_index_or, Option, Some, None, is_some, Result, Err}
+use Rattle.std.specs.Prelude.{◌≡◌, ℕ, ◌+◌, ◌⊎◌, Bool, not, ◌&&◌, nat_eq, nat_le, if◌then◌else◌, List, [], ◌∷◌, length, slice_index_or, Option, Some, None, is_some, Result, Err}
 use Rattle.std.specs.List.{filter_map}
 use Rattle.std.specs.Option.{option_map}
 use Rattle.fed_stamp.specs.Indexes.{least_index}
@@ -59,3 +59,13 @@ running_of site j = if is_some j.finished then None else entry_of site j.begun
 -- the entries of the jobs that the site has begun and that are not finished, in the order of their stamps
 abbrev pub running_in : ℕ → View → List Running
 running_in site v = filter_map (λ job. running_of site (v.job job)) (jobs_in v)
+
+-- the nodes that the entries have
+abbrev pub nodes_of : List Running → ℕ
+nodes_of [] = 0
+nodes_of (r ∷ rs) = r.nodes + nodes_of rs
+
+-- those that an entry has, if there is one
+abbrev pub nodes_of_any : Option Running → ℕ
+nodes_of_any None = 0
+nodes_of_any (Some r) = r.nodes

@@ -1,8 +1,8 @@
 -- The queue at a site. All is computed of what is read of a board.
-use Rattle.std.specs.Prelude.{ℕ, ℤ, Bool, not, ◌&&◌, ◌||◌, List, [], ◌∷◌, if◌then◌else◌, nat_le, Option, Some, None, is_none}
+use Rattle.std.specs.Prelude.{ℕ, ℤ, Bool, not, ◌&&◌, ◌||◌, List, [], ◌∷◌, filter, if◌then◌else◌, nat_le, Option, Some, None, is_none}
 use Rattle.std.specs.BTreeSet.{insert_key}
-use Rattle.std.specs.List.{filter_map}
-use Rattle.fed_stamp.specs.Stamp.{StampValue}
+use Rattle.std.specs.List.{filter_map, list_any}
+use Rattle.fed_stamp.specs.Stamp.{StampValue, same_stamp}
 use Rattle.fed_model.specs.JobView.{JobView}
 use Rattle.fed_model.specs.Letter.{has_site, is_gone, is_granted, is_granted_to, is_held, is_submitted}
 use Rattle.fed_model.specs.Identifiers.{jobs_in}
@@ -40,3 +40,11 @@ in_order queue (j ∷ js) = in_order (insert_key queue_cmp queue j) js
 -- the queue at a site of so many nodes
 abbrev pub queue_in : ℕ → ℕ → View → List QueuedJob
 queue_in site capacity v = in_order [] (waiting_in site capacity v)
+
+-- the job is one of those of these identifiers
+abbrev pub is_among : List StampValue → QueuedJob → Bool
+is_among jobs j = list_any (same_stamp j.id) jobs
+
+-- the queue, with these jobs left out
+abbrev pub queue_without : List StampValue → ℕ → ℕ → View → List QueuedJob
+queue_without jobs site capacity v = filter (λ j. not (is_among jobs j)) (queue_in site capacity v)

@@ -1,5 +1,5 @@
 -- The use of a machine at each second, and where there is room in it.
-use Rattle.std.specs.Prelude.{ℕ, zero, suc, ◌+◌, ◌-◌, ◌≤◌, ◌<◌, ◌&&◌, List, [], ◌∷◌, Bool, true, max, nat_le, nat_lt, if◌then◌else◌}
+use Rattle.std.specs.Prelude.{ℕ, zero, suc, ◌+◌, ◌-◌, ◌≤◌, ◌<◌, ◌&&◌, List, [], ◌∷◌, Bool, true, max, nat_le, nat_lt, Option, Some, None, if◌then◌else◌}
 use Rattle.fed_easy.specs.declared.bookings.Booking.{Booking}
 use Rattle.fed_easy.specs.declared.queues.QueuedJob.{QueuedJob}
 
@@ -15,6 +15,11 @@ with_nodes from until nodes used u = (if is_during from until u then nodes else 
 abbrev pub use_at : List Booking → ℕ → ℕ
 use_at [] u = 0
 use_at (b ∷ bs) u = with_nodes b.from b.until b.nodes (use_at bs) u
+
+-- those that a booking uses, if there is one
+abbrev pub use_by : Option Booking → ℕ → ℕ
+use_by None u = 0
+use_by (Some b) u = if is_during b.from b.until u then b.nodes else 0
 
 -- the last end of the bookings, from which on they use nothing
 abbrev pub last_end : List Booking → ℕ

@@ -12,13 +12,13 @@ use std::alloc::Global;
 
 /// Nodes that are in use from one second until before another.
 #[derive(Clone, Copy)]
-pub(crate) struct Booking {
+pub struct Booking {
     /// The first second at which they are in use.
-    pub(crate) from: u64,
+    pub from: u64,
     /// The second from which on they are not.
-    pub(crate) until: u64,
+    pub until: u64,
     /// How many nodes.
-    pub(crate) nodes: u64,
+    pub nodes: u64,
 }
 
 // The time of an entry that runs: until its end, and now in any case.
@@ -45,8 +45,8 @@ fn running_bookings(alloc: Global, now: u64, running: &[Running]) -> Result<Vec<
     Ok(bookings)
 }
 
-// The time of a reservation, if it stands and is the site's.
-fn reserved_time(reservation: &Reservation, site: SiteId) -> Option<Booking>
+/// The time of a reservation, if it stands and is the site's.
+pub fn reserved_time(reservation: &Reservation, site: SiteId) -> Option<Booking>
     ensures { result ≡ booked_at site reservation.now }
 {
     if !reservation.is_made() {

@@ -3,10 +3,12 @@
 
 /// Times at which nodes are in use.
 mod bookings;
-/// Laws of queues and of shadows.
+/// Laws of queues, of shadows and of plans.
 pub mod laws;
 /// The machine of a site.
 pub mod machines;
+/// How many nodes of a site are in use.
+mod nodes_in_use;
 /// What plans tell.
 pub mod plans;
 /// The use of a machine as a step function.
@@ -22,6 +24,8 @@ mod sweeps;
 /// The seconds at which the use of a machine changes.
 mod use_changes;
 
-pub use machines::{MAX_RUNNING, Machine, MachineFault, Running, machine_of};
+pub use bookings::{Booking, reserved_time};
+pub use machines::{MAX_RUNNING, Machine, MachineFault, Running, machine_of, running_job};
+pub use nodes_in_use::used_nodes;
 pub use plans::Plan;
-pub use site_planning::{PlanFault, plan};
+pub use site_planning::{PlanFault, plan, plan_without};

@@ -111,8 +111,8 @@ fn first_fault(nodes: u64, running: &[Running]) -> Option<MachineFault>
     }
 }
 
-// The entry of the job, if the site has begun it and it is not finished.
-fn running_job(job: &JobRecord, site: SiteId) -> Option<Running>
+/// The entry of the job, if the site has begun it and it is not finished.
+pub fn running_job(job: &JobRecord, site: SiteId) -> Option<Running>
     ensures { result ≡ running_of site (job_reads job.now) }
 {
     let progress = job.progress();

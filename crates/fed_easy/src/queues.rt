@@ -1,13 +1,16 @@
 //! The jobs that wait at a site.
 ghost use Rattle.std.specs.Prelude.{◌≡◌, ◌&&◌, ◌||◌, All, IfOk, IfSome, IsTrue, Some, not, refl};
 ghost use Rattle.std.specs.Cmp.{partial_equiv_from_equiv, eq_by_cmp_equiv, po};
-ghost use Rattle.std.specs.List.{IsDistinct};
+ghost use Rattle.std.specs.List.{IsDistinct, list_any};
+ghost use Rattle.std.specs.List.Sorted.{IsSorted};
 ghost use Rattle.std.specs.Ordering.{eq_by_cmp};
+ghost use Rattle.fed_stamp.specs.Stamp.{StampValue, same_stamp};
+ghost use Rattle.fed_lattice.specs.Latest.{stamp_cmp};
 ghost use Rattle.fed_record.specs.JobRecord.{job_reads};
 ghost use Rattle.fed_model.specs.Letter.{is_granted, is_granted_to};
 ghost use Rattle.fed_board.specs.Board.{board_reads};
 ghost use Rattle.fed_easy.specs.Promises.{IsSized};
-ghost use Rattle.fed_easy.specs.Queue.{is_waiting as is_job_waiting, queue_in, queued as job_queued, waiting_in};
+ghost use Rattle.fed_easy.specs.Queue.{is_waiting as is_job_waiting, queue_in, queue_without as others_in, queued as job_queued, waiting_in};
 ghost use Rattle.fed_easy.specs.QueueLaws.{queue_total};
 ghost use Rattle.fed_easy.specs.QueueOrder.{queue_cmp};
 
@@ -100,8 +103,8 @@ fn is_waiting(job: &JobRecord, site: SiteId) -> bool
         && job.has_site(site)
 }
 
-// The job as it stands in the queue of the site, if it does.
-fn queued(id: JobId, job: &JobRecord, site: SiteId, capacity: u64) -> Option<QueuedJob>
+/// The job as it stands in the queue of the site, if it does.
+pub(crate) fn queued(id: JobId, job: &JobRecord, site: SiteId, capacity: u64) -> Option<QueuedJob>
     ensures job { result ≡ job_queued site capacity id (job_reads job.now) }
     ensures sized { IfSome result (λ job. IsSized capacity job) }
 {
@@ -155,5 +158,41 @@ pub(crate) fn queue_of(
 {
     let mut queue = waiting_jobs(alloc, board, site, capacity)?;
     queue.sort()?;
+    Ok(queue)
+}
+
+// Whether the job is one of these, by a binary search.
+fn is_one_of(jobs: &[JobId], job: JobId) -> bool
+    requires { IsSorted stamp_cmp jobs.now }
+    ensures { result ≡ list_any (same_stamp job) jobs.now }
+{
+    jobs.binary_search(&job).is_ok()
+}
+
+// The jobs, in the order of their stamps.
+fn sorted(alloc: Global, jobs: &[JobId]) -> Result<Vec<JobId>, NoMemory>
+    ensures sorted { IfOk result (λ sorted. IsSorted stamp_cmp sorted.items) }
+    ensures same { IfOk result (λ sorted. (job : StampValue) →
+        list_any (same_stamp job) sorted.items ≡ list_any (same_stamp job) jobs.now) }
+{
+    let mut sorted = jobs.to_vec(alloc)?;
+    sorted.sort()?;
+    Ok(sorted)
+}
+
+/// The queue at the site, of jobs that need at most so many nodes, with these jobs left out.
+pub(crate) fn queue_without(
+    alloc: Global,
+    board: &Board,
+    site: SiteId,
+    capacity: u64,
+    jobs: &[JobId],
+) -> Result<Vec<QueuedJob>, NoMemory>
+    ensures queue { IfOk result (λ queue. queue.items ≡ others_in jobs.now site capacity (board_reads board.now)) }
+    ensures sized { IfOk result (λ queue. All (IsSized capacity) queue.items) }
+{
+    let mut queue = queue_of(alloc, board, site, capacity)?;
+    let left_out = sorted(alloc, jobs)?;
+    queue.retain(|job| !is_one_of(&left_out, job.id));
     Ok(queue)
 }

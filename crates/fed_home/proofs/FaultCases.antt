@@ -1,21 +1,27 @@
 -- What the faults of a journal are to its home.
 use Rattle.std.specs.Prelude.{◌==◌, Vec}
-use Rattle.std.proofs.Common.{◌≡◌, ℕ, false, List, [], ◌∷◌, length, Ok, None, ap, sym, ◌∙◌}
+use Rattle.std.proofs.Common.{◌≡◌, ℕ, false, List, [], ◌∷◌, length, Ok, None, refl, ap, sym, ◌∙◌}
 use Rattle.std.specs.declared.alloc.Global.{Global}
 use Rattle.std.specs.declared.io.Error.{Error}
-use Rattle.fed_journal.specs.Fault.{StopsGroup}
+use Rattle.fed_journal.specs.Device.{LeavesOnly}
+use Rattle.fed_journal.specs.Fault.{StopsGroup, is_in_doubt as in_doubt}
+use Rattle.fed_journal.specs.Journal.{IsSettled, entries_in}
 use Rattle.fed_journal.specs.Lines.{at_rest, recovered, texts_of}
+use Rattle.fed_journal.specs.declared.journals.Journal.{Journal}
+use Rattle.fed_journal.proofs.Crash.{recovered_stands}
+use Rattle.fed_journal.proofs.Moments.{still, weaker}
 use Rattle.fed_journal.specs.declared.faults.JournalFault.{JournalFault}
-use Rattle.fed_journal.specs.declared.faults.JournalFault.TheVariants.{NoMemory, Failed, Damaged, Full}
-use Rattle.fed_home.specs.Fault.{StopsMaking, fault_of}
+use Rattle.fed_journal.specs.declared.faults.JournalFault.TheVariants.{NoMemory, Failed, Damaged, Full, InDoubt}
+use Rattle.fed_home.specs.Fault.{StopsMaking, fault_of, is_in_doubt}
 use Rattle.fed_home.specs.Header.{header_in}
 
 -- an append of the header that failed
-pub stops_header : (before now : List Error) (file header : List ℕ) (fault : JournalFault) → StopsGroup before now (length (at_rest (header ∷ []))) fault → StopsMaking now file header (fault_of fault)
-stops_header before now file header NoMemory e = tt
-stops_header before now file header (Failed error) e = (before, e)
+pub stops_header : (before now : List Error) (file header : List ℕ) (fault : JournalFault) → StopsGroup before now (length (at_rest (header ∷ []))) fault → StopsMaking before now file header (fault_of fault)
+stops_header before now file header NoMemory e = e
+stops_header before now file header (Failed error) e = e
 stops_header before now file header (Damaged line) e = absurd e
 stops_header before now file header Full e = e
+stops_header before now file header (InDoubt error) e = e
 
 -- entries that are there
 pub has_entries : (file : List ℕ) (entries : List (Vec ℕ Global)) → (length entries == 0) ≡ false → recovered file ≡ Ok (texts_of entries)
@@ -27,3 +33,28 @@ has_entries file (entry ∷ entries) e r = (entry.items, texts_of entries, r)
 pub unread_first : (entries rest : List (Vec ℕ Global)) (first : Vec ℕ Global) (line : List ℕ) → entries ≡ first ∷ rest → line ≡ first.items → header_in line ≡ None
     → (x : List ℕ) × (xs : List (List ℕ)) × (texts_of entries ≡ x ∷ xs) × (header_in x ≡ None)
 unread_first entries rest first line e l n = (first.items, texts_of rest, ap texts_of e, ap header_in (sym l) ∙ n)
+
+-- a fault of a journal leaves its home in doubt where it leaves the journal so
+same_doubt : (fault : JournalFault) → in_doubt fault ≡ is_in_doubt (fault_of fault)
+same_doubt NoMemory = refl
+same_doubt (Failed error) = refl
+same_doubt (Damaged line) = refl
+same_doubt Full = refl
+same_doubt (InDoubt error) = refl
+
+module _ {D : Type 0} (moment : D → ℕ) (left_since : D → ℕ → List ℕ → Type 0) (seen : D → List ℕ) (may_leave : D → List ℕ → Type 0) (journal : Journal D) (s : IsSettled seen may_leave journal) where
+  known : recovered (seen journal.device) ≡ Ok (entries_in (seen journal.device))
+  known = recovered_stands (seen journal.device) (entries_in (seen journal.device)) [] s.read.has.lines s.read.has.stands
+
+  -- nothing was done
+  pub untouched : ((file : D) (c : List ℕ) → left_since file (moment file) c → may_leave file c) → LeavesOnly moment left_since journal.device journal.device (λ c. recovered c ≡ Ok (entries_in (seen journal.device)))
+  untouched only_now =
+      still moment left_since journal.device (λ c. recovered c ≡ Ok (entries_in (seen journal.device)))
+      (λ c left. ap recovered (s.read.durable c (only_now journal.device c left)) ∙ known)
+
+  -- an append that failed and leaves no doubt
+  pub nothing_kept : (new : D) (fault : JournalFault) → (in_doubt fault ≡ false → LeavesOnly moment left_since journal.device new (λ c. recovered c ≡ recovered (seen journal.device)))
+      → is_in_doubt (fault_of fault) ≡ false → LeavesOnly moment left_since journal.device new (λ c. recovered c ≡ Ok (entries_in (seen journal.device)))
+  nothing_kept new fault nothing sure =
+      weaker moment left_since journal.device new (λ c. recovered c ≡ recovered (seen journal.device)) (λ c. recovered c ≡ Ok (entries_in (seen journal.device)))
+      (λ c same. same ∙ known) (nothing (same_doubt fault ∙ sure))

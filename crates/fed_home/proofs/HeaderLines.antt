@@ -1,22 +1,18 @@
 -- What headers name.
 use Rattle.std.specs.Prelude.{Some, None, Option, option_map, ◌&&◌, codes, if◌then◌else◌}
-use Rattle.std.proofs.Common.{◌≡◌, ℕ, ◌<◌, Bool, true, false, List, [], ◌∷◌, ◌++◌, length, refl, subst, arith}
+use Rattle.std.proofs.Common.{◌≡◌, ℕ, ◌<◌, Bool, true, false, List, [], ◌∷◌, length, refl, subst, arith}
 use Rattle.std.specs.Str.{bytes_eq}
 use Rattle.fed_stamp.specs.Roster.{is_named}
 use Rattle.fed_words.proofs.SiteNames.{found_in_range}
 use Rattle.fed_words.specs.Site.{site_named}
 use Rattle.fed_script.specs.Forms.{◌>>=◌}
-use Rattle.fed_script.specs.Line.{begins, first_line_in}
+use Rattle.fed_script.specs.Line.{told, words_in}
 use Rattle.fed_script.specs.Lines.{is_readable, words_of}
 use Rattle.fed_script.specs.Rosters.{roster_of}
 use Rattle.fed_journal.specs.Lines.{IsLine}
 use Rattle.fed_home.specs.declared.headers.Header.{Header}
 use Rattle.fed_home.specs.Header.{header_in, header_of, site_among}
 use Rattle.fed_home.proofs.Lines.{readable_line}
-
--- the words of a roster behind the word of a script's first line
-pub first_of_roster : (sites : List ℕ) → is_readable sites ≡ true → first_line_in (codes "roster " ++ sites) ≡ option_map begins (roster_of (words_of sites))
-first_of_roster sites e = rw e refl
 
 some_same : (x y : Header) → Some x ≡ Some y → x ≡ y
 some_same x y e = cc
@@ -44,13 +40,17 @@ words_below (format ∷ []) h e = cc
 words_below (format ∷ version ∷ []) h e = cc
 words_below (format ∷ version ∷ name ∷ sites) h e = tested_below name h (bytes_eq format (codes "nettlebeam") && bytes_eq version (codes "1")) sites e
 
--- a line that is read can be kept, and names a site of its roster
-read_line : (line : List ℕ) (readable : Bool) (h : Header) → is_readable line ≡ readable → (if readable then header_of (words_of line) else None) ≡ Some h → IsLine line × (h.site < length h.roster)
-read_line line true h r e = (readable_line line r, words_below (words_of line) h e)
+read_below : (words : Option (List (List ℕ))) (h : Header) → (words >>= header_of) ≡ Some h → h.site < length h.roster
+read_below None h e = cc
+read_below (Some words) h e = words_below words h e
+
+read_line : (line : List ℕ) (readable : Bool) (h : Header) → is_readable line ≡ readable → ((if readable then Some (told (words_of line)) else None) >>= header_of) ≡ Some h → IsLine line
+read_line line true h r e = readable_line line r
 read_line line false h r e = cc
 
+-- a line that is read can be kept, and names a site of its roster
 pub header_line : (line : List ℕ) (h : Header) → header_in line ≡ Some h → IsLine line
-header_line line h e = (read_line line (is_readable line) h refl e).0
+header_line line h e = read_line line (is_readable line) h refl e
 
 pub header_site : (line : List ℕ) (h : Header) → header_in line ≡ Some h → h.site < length h.roster
-header_site line h e = (read_line line (is_readable line) h refl e).1
+header_site line h e = read_below (words_in line) h e

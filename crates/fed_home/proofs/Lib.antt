@@ -2,4 +2,5 @@ pub mod Answering
 pub mod FaultCases
 pub mod HeaderLines
 pub mod Lines
+pub mod Looking
 pub mod Replays

@@ -1,12 +1,12 @@
 -- Why a site on a disk fails.
-use Rattle.std.specs.Prelude.{◌≡◌, ◌<◌, ℕ, List, [], ◌∷◌, length, None, Ok, Err, ⊤}
+use Rattle.std.specs.Prelude.{◌≡◌, ◌<◌, ℕ, Bool, true, false, List, [], ◌∷◌, length, None, Ok, Err, ⊤}
 use Rattle.std.specs.declared.io.Error.{Error}
+use Rattle.fed_journal.specs.Fault.{most_bytes}
 use Rattle.fed_journal.specs.Lines.{at_rest, recovered}
 use Rattle.fed_journal.specs.declared.faults.JournalFault.{JournalFault}
 use Rattle.fed_journal.specs.declared.faults.JournalFault.TheVariants as journal
-use Rattle.fed_journal.specs.declared.journals.TheConstants.{MAX_BYTES}
 use Rattle.fed_home.specs.declared.faults.HomeFault.{HomeFault}
-use Rattle.fed_home.specs.declared.faults.HomeFault.TheVariants.{NoMemory, Failed, Damaged, Full, NoHeader, UnreadHeader, HasEntries}
+use Rattle.fed_home.specs.declared.faults.HomeFault.TheVariants.{NoMemory, Failed, Damaged, Full, NoHeader, UnreadHeader, HasEntries, InDoubt}
 use Rattle.fed_home.specs.Header.{header_in}
 
 abbrev pub number_of : HomeFault → ℕ
@@ -17,6 +17,12 @@ number_of Full = 4
 number_of NoHeader = 5
 number_of UnreadHeader = 6
 number_of HasEntries = 7
+number_of (InDoubt error) = 8
+
+-- whether the journal may have the group that was to be added
+abbrev pub is_in_doubt : HomeFault → Bool
+is_in_doubt (InDoubt error) = true
+is_in_doubt _ = false
 
 -- what a home says where its journal fails
 abbrev pub fault_of : JournalFault → HomeFault
@@ -24,6 +30,7 @@ fault_of journal.NoMemory = NoMemory
 fault_of (journal.Failed error) = Failed error
 fault_of (journal.Damaged line) = Damaged line
 fault_of journal.Full = Full
+fault_of (journal.InDoubt error) = InDoubt error
 
 -- why entries are no site's
 abbrev pub StopsReplay : List (List ℕ) → HomeFault → Type 0
@@ -35,23 +42,25 @@ StopsReplay entries _ = ⊥
 -- Why a home isn't opened: the disk has had this error, by its errors before and now, the newest first; the line of this
 -- number is damaged; or the entries are no site's. Or there was no memory.
 abbrev pub StopsOpening : List Error → List Error → List ℕ → HomeFault → Type 0
-StopsOpening before now file NoMemory = ⊤
+StopsOpening before now file NoMemory = now ≡ before
 StopsOpening before now file (Failed error) = now ≡ error ∷ before
 StopsOpening before now file (Damaged line) = recovered file ≡ Err line
 StopsOpening before now file NoHeader = recovered file ≡ Ok []
 StopsOpening before now file UnreadHeader = (first : List ℕ) × (lines : List (List ℕ)) × (recovered file ≡ Ok (first ∷ lines)) × (header_in first ≡ None)
 StopsOpening before now file _ = ⊥
 
--- Why a home isn't made: this is the newest of the disk's errors; the line of this number is damaged; the file would have too
--- many bytes; the file has entries; or it has none, and the header can't be read. Or there was no memory.
-abbrev pub StopsMaking : List Error → List ℕ → List ℕ → HomeFault → Type 0
-StopsMaking now file header NoMemory = ⊤
-StopsMaking now file header (Failed error) = (earlier : List Error) × (now ≡ error ∷ earlier)
-StopsMaking now file header (Damaged line) = recovered file ≡ Err line
-StopsMaking now file header Full = MAX_BYTES < length (at_rest (header ∷ []))
-StopsMaking now file header UnreadHeader = (recovered file ≡ Ok []) × (header_in header ≡ None)
-StopsMaking now file header HasEntries = (first : List ℕ) × (lines : List (List ℕ)) × (recovered file ≡ Ok (first ∷ lines))
-StopsMaking now file header NoHeader = ⊥
+-- Why a home isn't made: the disk has had this error, by its errors before and now, the newest first; the line of this number
+-- is damaged; the file would have too many bytes; the file has entries; or it has none, and the header can't be read. Or there
+-- was no memory.
+abbrev pub StopsMaking : List Error → List Error → List ℕ → List ℕ → HomeFault → Type 0
+StopsMaking before now file header NoMemory = now ≡ before
+StopsMaking before now file header (Failed error) = now ≡ error ∷ before
+StopsMaking before now file header (Damaged line) = recovered file ≡ Err line
+StopsMaking before now file header Full = most_bytes < length (at_rest (header ∷ []))
+StopsMaking before now file header UnreadHeader = (recovered file ≡ Ok []) × (header_in header ≡ None)
+StopsMaking before now file header HasEntries = (first : List ℕ) × (lines : List (List ℕ)) × (recovered file ≡ Ok (first ∷ lines))
+StopsMaking before now file header NoHeader = ⊥
+StopsMaking before now file header (InDoubt error) = now ≡ error ∷ before
 
 -- why a file isn't brought to rest
 abbrev pub StopsRepair : List Error → List Error → HomeFault → Type 0
@@ -63,5 +72,6 @@ StopsRepair before now _ = ⊥
 abbrev pub StopsAnswers : List Error → List Error → ℕ → HomeFault → Type 0
 StopsAnswers before now bytes NoMemory = now ≡ before
 StopsAnswers before now bytes (Failed error) = now ≡ error ∷ before
-StopsAnswers before now bytes Full = MAX_BYTES < bytes
+StopsAnswers before now bytes Full = most_bytes < bytes
+StopsAnswers before now bytes (InDoubt error) = now ≡ error ∷ before
 StopsAnswers before now bytes _ = ⊥

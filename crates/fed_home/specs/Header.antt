@@ -3,7 +3,7 @@ use Rattle.std.specs.Prelude.{ℕ, ◌&&◌, List, ◌∷◌, codes, Option, Non
 use Rattle.std.specs.Str.{bytes_eq}
 use Rattle.fed_words.specs.Site.{site_named}
 use Rattle.fed_script.specs.Forms.{◌>>=◌}
-use Rattle.fed_script.specs.Lines.{is_readable, words_of}
+use Rattle.fed_script.specs.Line.{words_in}
 use Rattle.fed_script.specs.Rosters.{roster_of}
 use Rattle.fed_home.specs.declared.headers.Header.{Header}
 
@@ -19,4 +19,4 @@ header_of _ = None
 
 -- what a line says, if it can be read
 abbrev pub header_in : List ℕ → Option Header
-header_in line = if is_readable line then header_of (words_of line) else None
+header_in line = words_in line >>= header_of

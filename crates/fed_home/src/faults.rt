@@ -31,13 +31,16 @@ pub enum HomeFault {
     /// 7: the journal has entries, so that no site can be made there.
     #[error("the journal has entries")]
     HasEntries,
+    /// 8: the disk failed with this error as the first gate of a group was opened. The journal may have the group or not.
+    #[error("{0}")]
+    InDoubt(io::Error),
 }
 
 impl HomeFault {
-    ghost use Rattle.fed_home.specs.Fault.{number_of};
+    ghost use Rattle.fed_home.specs.Fault.{is_in_doubt, number_of};
 
     /// The number of the fault: 1 for `NoMemory`, 2 for `Failed`, 3 for `Damaged`, 4 for `Full`, 5 for `NoHeader`, 6 for
-    /// `UnreadHeader` and 7 for `HasEntries`.
+    /// `UnreadHeader`, 7 for `HasEntries` and 8 for `InDoubt`.
     pub fn number(self) -> u8
         ensures { result ≡ number_of self }
     {
@@ -49,7 +52,15 @@ impl HomeFault {
             HomeFault::NoHeader => 5,
             HomeFault::UnreadHeader => 6,
             HomeFault::HasEntries => 7,
+            HomeFault::InDoubt(_) => 8,
         }
+    }
+
+    /// Whether the journal may have the group that was to be added. After any other fault it has nothing of the group.
+    pub fn is_in_doubt(self) -> bool
+        ensures { result ≡ is_in_doubt self }
+    {
+        matches!(self, HomeFault::InDoubt(_))
     }
 }
 
@@ -64,6 +75,7 @@ impl From<JournalFault> for HomeFault {
             JournalFault::Failed(error) => HomeFault::Failed(error),
             JournalFault::Damaged { line } => HomeFault::Damaged { line },
             JournalFault::Full => HomeFault::Full,
+            JournalFault::InDoubt(error) => HomeFault::InDoubt(error),
         }
     }
 }

@@ -1,12 +1,12 @@
 //! Sites on a disk. Whatever a site says rests on entries that the disk has had before.
-ghost use Rattle.std.specs.Prelude.{◌≡◌, ◌++◌, ◌∷◌, [], List, ℕ, Ok, length, map, IfErr, IfOk, MatchResult, OnOk};
+ghost use Rattle.std.specs.Prelude.{◌≡◌, ◌≢◌, ◌++◌, ◌∷◌, [], List, ℕ, Ok, false, length, map, IfErr, IfOk, IfSome, MatchOption, MatchResult, OnOk};
 ghost use Rattle.std.specs.List.{All};
 ghost use Rattle.fed_site.specs.Journal.{after_lines, kept_lines};
 ghost use Rattle.fed_reasons.specs.Told.{IsTold, answers_in};
 ghost use Rattle.fed_journal.specs.Device.{LeavesJust, LeavesOnly};
 ghost use Rattle.fed_journal.specs.Journal.{IsBeforeOrAfter, IsRead, IsSettled, device_of, entries_in};
 ghost use Rattle.fed_journal.specs.Lines.{Stands, at_rest, recovered, texts_of};
-ghost use Rattle.fed_home.specs.Fault.{StopsAnswers, StopsMaking, StopsOpening, StopsRepair};
+ghost use Rattle.fed_home.specs.Fault.{StopsAnswers, StopsMaking, StopsOpening, StopsRepair, is_in_doubt};
 ghost use Rattle.fed_home.specs.Home.{IsBeforeOrHeader};
 ghost use Rattle.fed_home.specs.Replay.{AreReplies, replay as replay_of, replayed_of};
 
@@ -14,6 +14,7 @@ use crate::faults::HomeFault;
 use crate::headers::read_header;
 use crate::runs::{answer_lines, replay};
 use fed_journal::{Device, Journal};
+use fed_lattice::NoMemory;
 use fed_reasons::Told;
 use fed_site::Site;
 use std::alloc::Global;
@@ -49,7 +50,8 @@ fn begin<D: Device + Drop>(
     ensures made { IfOk result (λ site. (recovered (D.seen (device_of journal.old)) ≡ Ok []) × (recovered (D.seen (device_of journal.new)) ≡ Ok (header.now ∷ []))) }
     ensures any_moment { LeavesOnly D.moment D.left_since (device_of journal.old) (device_of journal.new)
         (IsBeforeOrHeader (D.seen (device_of journal.old)) header.now) }
-    ensures fault { IfErr result (StopsMaking (D.errors (device_of journal.new)) (D.seen (device_of journal.old)) header.now) }
+    ensures no_error { IfOk result (λ site. D.errors (device_of journal.new) ≡ D.errors (device_of journal.old)) }
+    ensures fault { IfErr result (StopsMaking (D.errors (device_of journal.old)) (D.errors (device_of journal.new)) (D.seen (device_of journal.old)) header.now) }
 {
     if !entries.is_empty() {
         return Err(HomeFault::HasEntries);
@@ -67,7 +69,8 @@ impl<D: Device + Drop> Home<D> {
 
     /// Makes the home of a new site in a file that has no entry: it is new, or was cut short before the header was
     /// acknowledged. Gives what stood behind the closed gate too, which is cut. Errors: `Damaged` and `HasEntries` of a file
-    /// that isn't so, `UnreadHeader` of a header that `read_header` doesn't read, `Full`, `Failed` and `NoMemory`.
+    /// that isn't so, `UnreadHeader` of a header that `read_header` doesn't read, `Full`, `Failed`, `InDoubt` and
+    /// `NoMemory`.
     pub fn make(alloc: Global, device: D, header: &[u8]) -> Result<(Home<D>, Vec<u8>), Unopened<D>>
         requires { LeavesJust (D.seen device) (D.may_leave device) }
         ensures open { IfOk result (λ made. IsOpen D.seen D.may_leave made.0) }
@@ -78,7 +81,8 @@ impl<D: Device + Drop> Home<D> {
         ensures any_moment { MatchResult result
             (λ made. LeavesOnly D.moment D.left_since device (home_device made.0) (IsBeforeOrHeader (D.seen device) header.now))
             (λ unopened. LeavesOnly D.moment D.left_since device unopened.device (IsBeforeOrHeader (D.seen device) header.now)) }
-        ensures fault { IfErr result (λ unopened. StopsMaking (D.errors unopened.device) (D.seen device) header.now unopened.fault) }
+        ensures no_error { IfOk result (λ made. D.errors (home_device made.0) ≡ D.errors device) }
+        ensures fault { IfErr result (λ unopened. StopsMaking (D.errors device) (D.errors unopened.device) (D.seen device) header.now unopened.fault) }
     {
         match Journal::open(alloc, device) {
             Ok((mut journal, found)) => match begin(alloc, &mut journal, &found.entries, header) {
@@ -115,6 +119,7 @@ impl<D: Device + Drop> Home<D> {
         ensures any_moment { MatchResult result
             (λ opened. LeavesOnly D.moment D.left_since device (home_device opened.0) (λ c. c ≡ D.seen device))
             (λ unopened. LeavesOnly D.moment D.left_since device unopened.device (λ c. c ≡ D.seen device)) }
+        ensures no_error { IfOk result (λ opened. D.errors (home_device opened.0) ≡ D.errors device) }
         ensures fault { IfErr result (λ unopened. StopsOpening (D.errors device) (D.errors unopened.device) (D.seen device) unopened.fault) }
     {
         match Journal::open(alloc, device) {
@@ -149,15 +154,16 @@ impl<D: Device + Drop> Home<D> {
 
         // A crash at any moment of the call leaves the same entries.
         ensures any_moment { LeavesOnly D.moment D.left_since (home_device self.old) (home_device self.new) (λ c. recovered c ≡ recovered (D.seen (home_device self.old))) }
+        ensures no_error { OnOk result (D.errors (home_device self.new) ≡ D.errors (home_device self.old)) }
         ensures fault { IfErr result (StopsRepair (D.errors (home_device self.old)) (D.errors (home_device self.new))) }
     {
         Ok(self.journal.repair()?)
     }
 
     /// Answers lines, one after another. Those that changed what the site holds are one group of the journal, which the disk
-    /// has before an answer is given. Words that are asked for are of the site as the line left it. After an `Err`, which is
-    /// `Full`, `Failed` or `NoMemory`, no line was answered, the file may have the group or not, and the home has to be opened
-    /// again.
+    /// has before an answer is given. Words that are asked for are of the site as the line left it. After an `Err` no line was
+    /// answered, and the home has to be opened again. After `InDoubt` the file may have the group or not; after any other, which
+    /// is `Full`, `Failed` or `NoMemory`, it has nothing of it.
     pub fn answer(&mut self, lines: &[&[u8]], asked: bool) -> Result<Vec<Told>, HomeFault>
         requires { IsOpen D.seen D.may_leave self.old }
         ensures open { IfOk result (λ answers. IsOpen D.seen D.may_leave self.new) }
@@ -174,6 +180,12 @@ impl<D: Device + Drop> Home<D> {
         ensures any_moment { LeavesOnly D.moment D.left_since (home_device self.old) (home_device self.new)
             (IsBeforeOrAfter (entries_in (D.seen (home_device self.old)))
             (kept_lines (site_of self.old).roster (state_in self.old) (map (λ line. line.now) lines.now))) }
+
+        // An error that doesn't leave the group in doubt leaves nothing of it, whenever a crash comes.
+        ensures nothing { IfErr result (λ fault. is_in_doubt fault ≡ false →
+            LeavesOnly D.moment D.left_since (home_device self.old) (home_device self.new)
+            (λ c. recovered c ≡ Ok (entries_in (D.seen (home_device self.old))))) }
+        ensures no_error { IfOk result (λ answers. D.errors (home_device self.new) ≡ D.errors (home_device self.old)) }
         ensures fault { IfErr result (StopsAnswers (D.errors (home_device self.old)) (D.errors (home_device self.new))
             (length (at_rest (entries_in (D.seen (home_device self.old))
             ++ kept_lines (site_of self.old).roster (state_in self.old) (map (λ line. line.now) lines.now))))) }
@@ -181,6 +193,32 @@ impl<D: Device + Drop> Home<D> {
         let run = answer_lines(self.alloc, &mut self.site, lines, asked)?;
         self.journal.append(&run.kept)?;
         Ok(run.answers)
+    }
+
+    /// Answers lines that keep nothing, also where the file isn't at rest, as when what stands behind its gate can't be kept
+    /// elsewhere. The file is left alone. `None` where one of the lines would be kept: then none is answered, and the home has to
+    /// be opened again, as after `NoMemory`.
+    pub fn look(&mut self, lines: &[&[u8]], asked: bool) -> Result<Option<Vec<Told>>, NoMemory>
+        requires { (tail : List ℕ) × IsReplayed D.seen D.may_leave self.old tail }
+        ensures keeps { IfOk result (λ looked. MatchOption looked
+            (kept_lines (site_of self.old).roster (state_in self.old) (map (λ line. line.now) lines.now) ≢ [])
+            (λ answers. kept_lines (site_of self.old).roster (state_in self.old) (map (λ line. line.now) lines.now) ≡ [])) }
+        ensures answers { IfOk result (λ looked. IfSome looked (λ answers.
+            AreReplies (site_of self.old).roster (state_in self.old) (map (λ line. line.now) lines.now) (answers_in answers.items))) }
+        ensures words { IfOk result (λ looked. IfSome looked (λ answers. All (IsTold asked) answers.items)) }
+        ensures device { home_device self.new ≡ home_device self.old }
+        ensures replayed { IfOk result (λ looked. IfSome looked (λ answers.
+            (tail : List ℕ) → IsReplayed D.seen D.may_leave self.old tail → IsReplayed D.seen D.may_leave self.new tail)) }
+        ensures roster { IfOk result (λ looked. IfSome looked (λ answers. (site_of self.new).roster ≡ (site_of self.old).roster)) }
+        ensures left { IfOk result (λ looked. IfSome looked (λ answers. state_in self.new ≡
+            after_lines (site_of self.old).roster (state_in self.old) (map (λ line. line.now) lines.now))) }
+    {
+        let run = answer_lines(self.alloc, &mut self.site, lines, asked)?;
+        if run.kept.is_empty() {
+            Ok(Some(run.answers))
+        } else {
+            Ok(None)
+        }
     }
 
     /// The site.

@@ -1,9 +1,13 @@
 -- A group is written behind the closed gate, and then the gate is opened.
-use Rattle.std.proofs.Common.{◌≡◌, ◌∙◌, sym, ap, subst, inl, List, ℕ, ◌+◌, ◌-◌, ◌==◌, false, [], ◌∷◌, ◌++◌, length, take, drop, Ok, arith}
+use Rattle.std.proofs.Common.{◌≡◌, ◌∙◌, refl, sym, ap, subst, inl, IsErrOf, Err, List, ℕ, ◌+◌, ◌-◌, ◌==◌, false, [], ◌∷◌, ◌++◌, length, take, drop, Ok, arith}
 use Rattle.std.specs.List.{All}
 use Rattle.std.proofs.lemmas.List.{append-nil, length-append}
 use Rattle.std.proofs.lemmas.List.Elements.{All-append}
+use Rattle.std.specs.declared.io.Error.{Error}
 use Rattle.fed_journal.specs.Device.{Holds, LeavesJust, LeavesOnly, Torn}
+use Rattle.fed_journal.specs.Fault.{StopsGate, is_in_doubt}
+use Rattle.fed_journal.specs.declared.faults.JournalFault.{JournalFault}
+use Rattle.fed_journal.specs.declared.faults.JournalFault.TheVariants.{NoMemory, Failed, Damaged, Full, InDoubt}
 use Rattle.fed_journal.specs.Lines.{IsLine, closed_lines, first_digest, last_digest, open_lines, at_rest, recovered}
 use Rattle.fed_journal.specs.Journal.{IsBeforeOrAfter, IsSettled, entries_in}
 use Rattle.fed_journal.specs.declared.journals.Journal.{Journal}
@@ -53,6 +57,24 @@ module _ {D : Type 0} (moment : D → ℕ) (left_since : D → ℕ → List ℕ 
   first_step mid run =
       weaker moment left_since journal.device mid (Torn (journal.gate + 1) more (seen journal.device)) (IsBeforeOrAfter old group)
       (λ c torn. inl (torn_behind old s.read.has.lines journal.gate s.read.has.at more c (subst (λ (f : List ℕ). Torn (journal.gate + 1) more f c) s.file torn))) run
+
+  known : recovered (seen journal.device) ≡ Ok old
+  known = ap recovered s.file ∙ recovered_closed old [] s.read.has.lines
+
+  -- what is torn behind the gate is nothing of the group
+  pub kept_out : (mid : D) → LeavesOnly moment left_since journal.device mid (Torn (journal.gate + 1) more (seen journal.device)) → LeavesOnly moment left_since journal.device mid (λ c. recovered c ≡ recovered (seen journal.device))
+  kept_out mid run =
+      weaker moment left_since journal.device mid (Torn (journal.gate + 1) more (seen journal.device)) (λ c. recovered c ≡ recovered (seen journal.device))
+      (λ c torn. torn_behind old s.read.has.lines journal.gate s.read.has.at more c (subst (λ (f : List ℕ). Torn (journal.gate + 1) more f c) s.file torn) ∙ sym known) run
+
+  -- nor is there any where the gate stayed closed
+  pub gate_closed : (mid new : D) (before now : List Error) (fault : JournalFault) → LeavesOnly moment left_since journal.device mid (Torn (journal.gate + 1) more (seen journal.device)) → StopsGate before now fault
+      → (IsErrOf {T = Unit {0}} (Err fault) NoMemory → new ≡ mid) → is_in_doubt fault ≡ false → LeavesOnly moment left_since journal.device new (λ c. recovered c ≡ recovered (seen journal.device))
+  gate_closed mid new before now NoMemory run stops same sure = subst (λ (d : D). LeavesOnly moment left_since journal.device d (λ c. recovered c ≡ recovered (seen journal.device))) (sym (same refl)) (kept_out mid run)
+  gate_closed mid new before now (Failed error) run stops same sure = absurd stops
+  gate_closed mid new before now (Damaged line) run stops same sure = absurd stops
+  gate_closed mid new before now Full run stops same sure = absurd stops
+  gate_closed mid new before now (InDoubt error) run stops same sure = cc
 
   pub group_bytes : length (at_rest (old ++ group)) ≡ journal.gate + length written
   group_bytes = omega (arith, length-at_rest-append old group, ap length closed, s.read.has.at)

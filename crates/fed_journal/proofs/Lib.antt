@@ -6,4 +6,5 @@ pub mod Hexadecimal
 pub mod Moments
 pub mod Reading
 pub mod Repair
+pub mod Tearing
 pub mod Writing

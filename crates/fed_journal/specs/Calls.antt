@@ -1,5 +1,5 @@
 -- The calls on a file, and what a crash may leave by them. The newest call comes first.
-use Rattle.std.specs.Prelude.{◌≡◌, ◌⊎◌, ◌≤◌, ℕ, ◌+◌, List, [], ◌∷◌, ◌++◌, length, take, drop, Result, Ok, Err}
+use Rattle.std.specs.Prelude.{◌≡◌, ◌⊎◌, ◌≤◌, ℕ, ◌+◌, List, [], ◌∷◌, ◌++◌, length, take, drop, Option, Some, Result, Ok, Err}
 use Rattle.std.proofs.Common.{inl, inr, arith}
 use Rattle.std.specs.declared.io.Error.{Error}
 use Rattle.fed_journal.specs.Device.{LeavesJust, Shortened, Torn}
@@ -47,6 +47,17 @@ left_after Refused answer file left c = left c
 abbrev pub left_by : List AnsweredCall → List ℕ → Type 0
 left_by [] c = c ≡ []
 left_by (event ∷ earlier) c = left_after event.0 event.1 (seen_by earlier) (left_by earlier) c
+
+-- what the disk may have of a call that no sync has followed, by what it had before
+abbrev pub IsTornBy : Call → List ℕ → List ℕ → Type 0
+IsTornBy (Wrote at bytes) before c = Torn at bytes.items before c
+IsTornBy (Resized len) before c = len ≤ length before → Shortened len before c
+IsTornBy _ before c = c ≡ before
+
+-- Of a file that has these bytes and whose disk has that: a crash may leave the bytes, and any part of the last change.
+pub record IsCached (events : List AnsweredCall) (disk bytes : List ℕ) (change : Option Call) : Type 0 where
+  pub whole : left_by events bytes
+  pub part : (call : Call) (c : List ℕ) → change ≡ Some call → IsTornBy call disk c → left_by events c
 
 -- what a crash might have left at one of the moments from the one with this count of calls on
 abbrev pub left_since : List AnsweredCall → ℕ → List ℕ → Type 0

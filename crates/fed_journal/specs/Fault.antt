@@ -1,5 +1,5 @@
 -- Why a journal fails.
-use Rattle.std.specs.Prelude.{◌≡◌, ◌<◌, ℕ, List, ◌∷◌, Result, Ok, Err, ⊤}
+use Rattle.std.specs.Prelude.{◌≡◌, ◌<◌, ℕ, ◌^◌, Bool, true, false, List, ◌∷◌, Result, Ok, Err, ⊤}
 use Rattle.std.specs.IoError.{error_kind}
 use Rattle.std.specs.declared.io.Error.{Error}
 use Rattle.std.specs.declared.io.ErrorKind.{ErrorKind}
@@ -9,15 +9,24 @@ use Rattle.fed_journal.specs.declared.faults.DeviceFault.{DeviceFault}
 use Rattle.fed_journal.specs.declared.faults.DeviceFault.TheVariants as device
 use Rattle.fed_journal.specs.declared.faults.OpenFault.{OpenFault}
 use Rattle.fed_journal.specs.declared.faults.OpenFault.TheVariants as opening
-use Rattle.fed_journal.specs.declared.journals.TheConstants.{MAX_BYTES}
 use Rattle.fed_journal.specs.declared.faults.JournalFault.{JournalFault}
 use Rattle.fed_journal.specs.declared.faults.JournalFault.TheVariants as journal
+
+-- the most bytes that a journal may have
+abbrev pub most_bytes : ℕ
+most_bytes = 2 ^ 60
 
 abbrev pub number_of : JournalFault → ℕ
 number_of journal.NoMemory = 1
 number_of (journal.Failed error) = 2
 number_of (journal.Damaged line) = 3
 number_of journal.Full = 4
+number_of (journal.InDoubt error) = 5
+
+-- whether the file may have the group that was to be added
+abbrev pub is_in_doubt : JournalFault → Bool
+is_in_doubt (journal.InDoubt error) = true
+is_in_doubt _ = false
 
 abbrev pub device_number_of : DeviceFault → ℕ
 device_number_of device.NoMemory = 1
@@ -53,13 +62,21 @@ IsDamage file journal.NoMemory = ⊤
 IsDamage file (journal.Failed error) = ⊥
 IsDamage file (journal.Damaged line) = recovered file ≡ Err line
 IsDamage file journal.Full = ⊥
+IsDamage file (journal.InDoubt error) = ⊥
+
+-- Why a gate isn't opened: the disk has had this error, and it is in doubt. Or there was no memory.
+abbrev pub StopsGate : List Error → List Error → JournalFault → Type 0
+StopsGate before now journal.NoMemory = now ≡ before
+StopsGate before now (journal.InDoubt error) = now ≡ error ∷ before
+StopsGate before now _ = ⊥
 
 -- Why a group isn't added: the disk has had this error, or the file would have too many bytes. Or there was no memory.
 abbrev pub StopsGroup : List Error → List Error → ℕ → JournalFault → Type 0
 StopsGroup before now bytes journal.NoMemory = now ≡ before
 StopsGroup before now bytes (journal.Failed error) = now ≡ error ∷ before
 StopsGroup before now bytes (journal.Damaged line) = ⊥
-StopsGroup before now bytes journal.Full = MAX_BYTES < bytes
+StopsGroup before now bytes journal.Full = most_bytes < bytes
+StopsGroup before now bytes (journal.InDoubt error) = now ≡ error ∷ before
 
 -- Why a file isn't opened: the disk has had this error, or the line of this number is damaged. Or there was no memory.
 abbrev pub StopsOpening : List Error → List Error → List ℕ → JournalFault → Type 0
@@ -67,6 +84,7 @@ StopsOpening before now file journal.NoMemory = now ≡ before
 StopsOpening before now file (journal.Failed error) = now ≡ error ∷ before
 StopsOpening before now file (journal.Damaged line) = recovered file ≡ Err line
 StopsOpening before now file journal.Full = ⊥
+StopsOpening before now file (journal.InDoubt error) = ⊥
 
 -- Why the end of a file isn't repaired: the disk has had this error. Or there was no memory.
 abbrev pub StopsRepair : List Error → List Error → JournalFault → Type 0
@@ -74,3 +92,4 @@ StopsRepair before now journal.NoMemory = now ≡ before
 StopsRepair before now (journal.Failed error) = now ≡ error ∷ before
 StopsRepair before now (journal.Damaged line) = ⊥
 StopsRepair before now journal.Full = ⊥
+StopsRepair before now (journal.InDoubt error) = ⊥

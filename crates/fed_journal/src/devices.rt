@@ -1,12 +1,13 @@
 //! The disk as a journal sees it: a file that it reads and writes, and what a crash may leave of it. A write or a cut of a
 //! file that the disk has may be left torn until the next sync. Of a second one before that sync nothing is said.
-ghost use Rattle.std.specs.Prelude.{◌≡◌, ◌≤◌, List, [], ℕ, length, take, IfOk, OnOk};
+ghost use Rattle.std.specs.Prelude.{◌≡◌, ◌≤◌, List, [], ℕ, length, take, IfOk, IsErrOf, OnOk};
 ghost use Rattle.fed_journal.specs.Device.{Holds, Leaves, LeavesJust, Passes, Shortened, Torn};
-ghost use Rattle.fed_journal.specs.Fault.{Tells};
+ghost use Rattle.fed_journal.specs.Fault.{Tells, told};
 ghost use Rattle.std.specs.declared.io.Error.{Error};
 
 use crate::faults::DeviceFault;
 use std::alloc::Global;
+use std::io;
 
 /// A file on a disk. After a call that failed, nothing is known of it but what a crash may leave, and each call behind it is
 /// refused.
@@ -35,31 +36,32 @@ pub trait Device {
         ensures cause { Tells (errors self.old) (errors self.new) result }
         ensures refuses { OnOk result (errors self.old ≡ []) };
 
-    /// Writes over what stands at an offset, and past the end.
+    /// Writes over what stands at an offset, and past the end. Where memory is refused, nothing is done.
     fn write_at(&mut self, at: usize, bytes: &[u8]) -> Result<(), DeviceFault>
         requires { at ≤ length (seen self.old) }
         ensures written { OnOk result (Holds at bytes.now (seen self.old) (seen self.new)) }
         ensures crash { LeavesJust (seen self.old) (may_leave self.old) → Leaves (Torn at bytes.now (seen self.old)) (may_leave self.new) }
         ensures time { Passes (moment self.old) (moment self.new) (left_since self.old) (left_since self.new) (may_leave self.new) }
         ensures cause { Tells (errors self.old) (errors self.new) result }
+        ensures untouched { IsErrOf result DeviceFault.NoMemory → self.new ≡ self.old }
         ensures refuses { OnOk result (errors self.old ≡ []) };
 
-    /// Cuts the file to a length.
-    fn cut(&mut self, len: usize) -> Result<(), DeviceFault>
+    /// Cuts the file to a length. This takes no memory.
+    fn cut(&mut self, len: usize) -> io::Result<()>
         requires { len ≤ length (seen self.old) }
         ensures cut { OnOk result (seen self.new ≡ take len (seen self.old)) }
         ensures crash { LeavesJust (seen self.old) (may_leave self.old) → Leaves (Shortened len (seen self.old)) (may_leave self.new) }
         ensures time { Passes (moment self.old) (moment self.new) (left_since self.old) (left_since self.new) (may_leave self.new) }
-        ensures cause { Tells (errors self.old) (errors self.new) result }
+        ensures cause { Tells (errors self.old) (errors self.new) (told result) }
         ensures refuses { OnOk result (errors self.old ≡ []) };
 
-    /// Waits until the disk has what a read gives. From then on a crash leaves that.
-    fn sync(&mut self) -> Result<(), DeviceFault>
+    /// Waits until the disk has what a read gives. From then on a crash leaves that. This takes no memory.
+    fn sync(&mut self) -> io::Result<()>
         ensures durable { OnOk result (LeavesJust (seen self.old) (may_leave self.new)) }
         ensures same { seen self.new ≡ seen self.old }
         ensures crash { (c : List ℕ) → may_leave self.new c → may_leave self.old c }
         ensures time { Passes (moment self.old) (moment self.new) (left_since self.old) (left_since self.new) (may_leave self.new) }
-        ensures cause { Tells (errors self.old) (errors self.new) result }
+        ensures cause { Tells (errors self.old) (errors self.new) (told result) }
         ensures refuses { OnOk result (errors self.old ≡ []) };
 
     /// This moment is one of those since an earlier one,

@@ -40,6 +40,16 @@ impl From<AllocError> for DeviceFault {
     }
 }
 
+impl From<io::Error> for DeviceFault {
+    ghost use Rattle.fed_journal.specs.declared.faults.DeviceFault.TheVariants.{Failed};
+
+    ghost from_gives = { λ error r. r ≡ Failed error };
+
+    fn from(error: io::Error) -> DeviceFault {
+        DeviceFault::Failed(error)
+    }
+}
+
 impl<T: Drop> From<AllocFailed<T>> for DeviceFault {
     ghost use Rattle.fed_journal.specs.declared.faults.DeviceFault.TheVariants.{NoMemory};
 
@@ -65,12 +75,15 @@ pub enum JournalFault {
     /// 4: the file would pass `MAX_BYTES`.
     #[error("the journal is full")]
     Full,
+    /// 5: the disk failed with this error as the first gate of a group was opened. The file may have the group or not.
+    #[error("{0}")]
+    InDoubt(io::Error),
 }
 
 impl JournalFault {
     ghost use Rattle.fed_journal.specs.Fault.{number_of};
 
-    /// The number of the fault: 1 for `NoMemory`, 2 for `Failed`, 3 for `Damaged` and 4 for `Full`.
+    /// The number of the fault: 1 for `NoMemory`, 2 for `Failed`, 3 for `Damaged`, 4 for `Full` and 5 for `InDoubt`.
     pub fn number(self) -> u8
         ensures { result ≡ number_of self }
     {
@@ -79,6 +92,7 @@ impl JournalFault {
             JournalFault::Failed(_) => 2,
             JournalFault::Damaged { .. } => 3,
             JournalFault::Full => 4,
+            JournalFault::InDoubt(_) => 5,
         }
     }
 }

@@ -13,7 +13,6 @@
 ghost use Rattle.std.specs.Prelude.{◌≡◌, ℕ, true, [], ◌∷◌, ◌++◌, length, reverse, Vec, Some, None, is_some, IfOk};
 ghost use Rattle.std.specs.declared.alloc.Global.{Global};
 ghost use Rattle.fed_journal.specs.Calls.{counts_now, errors_by, left_by, left_since, only_now, seen_by};
-ghost use Rattle.fed_journal.specs.Fault.{told};
 
 use crate::calls::{Call, Calls, note_found};
 use crate::devices::Device;
@@ -127,14 +126,14 @@ impl FileDevice {
     }
 
     /// Notes a call with its answer. What was found before it is then nothing to rely on.
-    fn note(&mut self, call: Call, answer: io::Result<()>) -> Result<(), DeviceFault>
+    fn note(&mut self, call: Call, answer: io::Result<()>) -> io::Result<()>
         ensures noted { self.new.calls.items ≡ self.old.calls.items ++ (call, answer) ∷ [] }
-        ensures told { result ≡ told answer }
+        ensures told { result ≡ answer }
     {
         self.found = None;
         self.calls = self.calls.and(&call, &answer);
         self.failed = answer.err().or(self.failed);
-        answer.map_err(DeviceFault::Failed)
+        answer
     }
 }
 
@@ -169,14 +168,14 @@ impl Device for FileDevice {
 
     fn write_at(&mut self, at: usize, bytes: &[u8]) -> Result<(), DeviceFault> {
         if let Some(error) = self.failed {
-            return self.note(Call::Refused, Err(error));
+            return Ok(self.note(Call::Refused, Err(error))?);
         }
         let written = bytes.to_vec(self.alloc)?;
         let answer = self.file.write_all_at(bytes, at as u64);
-        self.note(Call::Wrote { at, bytes: written }, answer)
+        Ok(self.note(Call::Wrote { at, bytes: written }, answer)?)
     }
 
-    fn cut(&mut self, len: usize) -> Result<(), DeviceFault> {
+    fn cut(&mut self, len: usize) -> io::Result<()> {
         if let Some(error) = self.failed {
             return self.note(Call::Refused, Err(error));
         }
@@ -184,7 +183,7 @@ impl Device for FileDevice {
         self.note(Call::Resized { len }, answer)
     }
 
-    fn sync(&mut self) -> Result<(), DeviceFault> {
+    fn sync(&mut self) -> io::Result<()> {
         if let Some(error) = self.failed {
             return self.note(Call::Refused, Err(error));
         }

@@ -1,14 +1,14 @@
 //! Journals: texts in groups, each group on the disk before it is acknowledged.
-ghost use Rattle.std.specs.Prelude.{◌≡◌, ◌++◌, List, ℕ, length, map, IfErr, IfOk, IsErrOf, MatchResult, OnOk};
+ghost use Rattle.std.specs.Prelude.{◌≡◌, ◌≤◌, ◌++◌, ◌∷◌, [], List, ℕ, false, length, map, IfErr, IfOk, IsErrOf, MatchResult, OnOk};
 ghost use Rattle.std.specs.List.{All};
-ghost use Rattle.fed_journal.specs.Device.{LeavesJust, LeavesOnly};
+ghost use Rattle.fed_journal.specs.Device.{Holds, LeavesJust, LeavesOnly, Torn};
 ghost use Rattle.fed_journal.specs.Journal.{Has};
-ghost use Rattle.fed_journal.specs.Fault.{StopsGroup, StopsOpening, StopsRepair};
+ghost use Rattle.fed_journal.specs.Fault.{StopsGate, StopsGroup, StopsOpening, StopsRepair, is_in_doubt};
 ghost use Rattle.fed_journal.specs.Lines.{IsLine, Stands, at_rest, recovered, texts_of};
 
 use crate::devices::Device;
 use crate::digests::Digest;
-use crate::faults::JournalFault;
+use crate::faults::{DeviceFault, JournalFault};
 use crate::lines::{behind_gate, read_lines, write_lines};
 use crate::steps::{put, shorten};
 use std::alloc::Global;
@@ -62,6 +62,7 @@ fn read_contents<D: Device>(alloc: Global, device: &mut D) -> Result<Contents, J
     ensures same { D.seen device.new ≡ D.seen device.old }
     ensures durable { LeavesJust (D.seen device.new) (D.may_leave device.new) }
     ensures any_moment { LeavesOnly D.moment D.left_since device.old device.new (λ c. c ≡ D.seen device.old) }
+    ensures no_error { IfOk result (λ contents. D.errors device.new ≡ D.errors device.old) }
     ensures fault { IfErr result (StopsOpening (D.errors device.old) (D.errors device.new) (D.seen device.old)) }
 {
     let file = device.read(alloc)?;
@@ -78,6 +79,24 @@ fn read_contents<D: Device>(alloc: Global, device: &mut D) -> Result<Contents, J
         gate,
         digest,
     })
+}
+
+/// Opens a gate, and waits until the disk has it. Where memory is refused, it stays closed; where the disk fails, it is in doubt.
+fn open_gate<D: Device>(device: &mut D, gate: usize) -> Result<(), JournalFault>
+    requires room { gate ≤ length (D.seen device.old) }
+    requires durable { LeavesJust (D.seen device.old) (D.may_leave device.old) }
+    ensures written { OnOk result (Holds gate (43 ∷ []) (D.seen device.old) (D.seen device.new)) }
+    ensures durable { OnOk result (LeavesJust (D.seen device.new) (D.may_leave device.new)) }
+    ensures any_moment { LeavesOnly D.moment D.left_since device.old device.new (Torn gate (43 ∷ []) (D.seen device.old)) }
+    ensures no_error { OnOk result (D.errors device.new ≡ D.errors device.old) }
+    ensures fault { IfErr result (StopsGate (D.errors device.old) (D.errors device.new)) }
+    ensures untouched { IsErrOf result JournalFault.NoMemory → device.new ≡ device.old }
+{
+    match put(device, gate, b"+") {
+        Ok(()) => Ok(()),
+        Err(DeviceFault::NoMemory) => Err(JournalFault::NoMemory),
+        Err(DeviceFault::Failed(error)) => Err(JournalFault::InDoubt(error)),
+    }
 }
 
 impl<D: Device + Drop> Journal<D> {
@@ -98,6 +117,7 @@ impl<D: Device + Drop> Journal<D> {
         ensures any_moment { MatchResult result
             (λ opened. LeavesOnly D.moment D.left_since device (device_of opened.0) (λ c. c ≡ D.seen device))
             (λ unopened. LeavesOnly D.moment D.left_since device unopened.device (λ c. c ≡ D.seen device)) }
+        ensures no_error { IfOk result (λ opened. D.errors (device_of opened.0) ≡ D.errors device) }
         ensures fault { IfErr result (λ unopened. StopsOpening (D.errors device) (D.errors unopened.device) (D.seen device) unopened.fault) }
     {
         match read_contents(alloc, &mut device) {
@@ -124,6 +144,7 @@ impl<D: Device + Drop> Journal<D> {
 
         // A crash at any moment of the call leaves the same entries.
         ensures any_moment { LeavesOnly D.moment D.left_since (device_of self.old) (device_of self.new) (λ c. recovered c ≡ recovered (D.seen (device_of self.old))) }
+        ensures no_error { OnOk result (D.errors (device_of self.new) ≡ D.errors (device_of self.old)) }
         ensures fault { IfErr result (StopsRepair (D.errors (device_of self.old)) (D.errors (device_of self.new))) }
     {
         if self.len == 0 {
@@ -136,8 +157,8 @@ impl<D: Device + Drop> Journal<D> {
         Ok(())
     }
 
-    /// Adds a group of texts. At `Ok` it is acknowledged: from then on each crash leaves a file that has it.
-    /// After an `Err` the file may have it or not, and it has to be opened again.
+    /// Adds a group of texts. At `Ok` it is acknowledged: from then on each crash leaves a file that has it. After `InDoubt`
+    /// the file may have it or not; after any other `Err` it has nothing of it. After an `Err` the file has to be opened again.
     pub fn append(&mut self, texts: &[&[u8]]) -> Result<(), JournalFault>
         requires settled { IsSettled D.seen D.may_leave self.old }
         requires lines { All IsLine (map (λ text. text.now) texts.now) }
@@ -147,6 +168,11 @@ impl<D: Device + Drop> Journal<D> {
         // A crash at any moment of the call leaves the entries from before it, with the whole group or without any of it.
         ensures any_moment { LeavesOnly D.moment D.left_since (device_of self.old) (device_of self.new)
             (IsBeforeOrAfter (entries_in (D.seen (device_of self.old))) (map (λ text. text.now) texts.now)) }
+
+        // An error that doesn't leave the group in doubt leaves nothing of it, whenever a crash comes.
+        ensures nothing { IfErr result (λ fault. is_in_doubt fault ≡ false →
+            LeavesOnly D.moment D.left_since (device_of self.old) (device_of self.new) (λ c. recovered c ≡ recovered (D.seen (device_of self.old)))) }
+        ensures no_error { OnOk result (D.errors (device_of self.new) ≡ D.errors (device_of self.old)) }
         ensures fault { IfErr result (StopsGroup (D.errors (device_of self.old)) (D.errors (device_of self.new))
             (length (at_rest (entries_in (D.seen (device_of self.old)) ++ map (λ text. text.now) texts.now)))) }
         ensures full { IsErrOf result JournalFault.Full → self.new ≡ self.old }
@@ -161,7 +187,7 @@ impl<D: Device + Drop> Journal<D> {
         }
         // The group counts once its first gate is open, so that gate is opened last, when the disk has all the rest.
         put(&mut self.device, self.gate + 1, &lines[1..])?;
-        put(&mut self.device, self.gate, b"+")?;
+        open_gate(&mut self.device, self.gate)?;
         self.gate += lines.len() - 1;
         self.len = self.gate + 1;
         let digest = group.digest;

@@ -1,8 +1,9 @@
 //! A file in memory, for tests. It can be told to stop at a call, as a machine does that loses its power. Its disk then has
 //! what was synced last, and a part of what was changed since.
-ghost use Rattle.std.specs.Prelude.{◌≡◌, ◌≤◌, [], ◌∷◌, ◌++◌, length, true, Err, IfOk, reverse};
+ghost use Rattle.std.specs.Prelude.{◌≡◌, ◌≤◌, [], ◌∷◌, ◌++◌, length, true, false, Err, IfOk, MatchOption, reverse};
 ghost use Rattle.std.specs.declared.io.Error.{Error};
-ghost use Rattle.fed_journal.specs.Calls.{counts_now, errors_by, left_by, left_since, only_now, overlaid, seen_by};
+ghost use Rattle.fed_journal.specs.Calls.{IsCached, IsTornBy, counts_now, errors_by, left_by, left_since, only_now, overlaid, seen_by};
+ghost use Rattle.fed_journal.specs.Device.{Torn};
 
 use crate::calls::{Call, Calls};
 use crate::devices::Device;
@@ -36,6 +37,9 @@ pub struct Memory {
     tear: Tear,
     ghost same: { is_up ≡ true → bytes.items ≡ seen_by (reverse calls.items) },
     ghost whole: { is_up ≡ true → errors_by (reverse calls.items) ≡ [] },
+    // the disk has one of the files that a crash may leave
+    ghost on_disk: { ∥ left_by (reverse calls.items) disk.items ∥₁ },
+    ghost cached: { is_up ≡ true → ∥ IsCached (reverse calls.items) disk.items bytes.items change ∥₁ },
 }
 
 /// A file with other bytes at an offset.
@@ -51,44 +55,52 @@ fn overlay(alloc: Global, file: &[u8], at: usize, bytes: &[u8]) -> Result<Vec<u8
     Ok(changed)
 }
 
-/// A file with a part of a write.
-fn tear_write(
+/// A file with so many bytes of a write, from its front.
+fn tear_behind(
     alloc: Global,
     file: &[u8],
     at: usize,
     bytes: &[u8],
-    tear: Tear,
+    count: usize,
 ) -> Result<Vec<u8>, AllocError>
     requires { at ≤ length file.now }
+    ensures { IfOk result (λ torn. Torn at bytes.now file.now torn.items) }
 {
-    match tear {
-        Tear::Front(count) => overlay(alloc, file, at, &bytes[..count.min(bytes.len())]),
-        Tear::Back(count) => {
-            let part = &bytes[bytes.len() - count.min(bytes.len())..];
-            if part.is_empty() {
-                return file.to_vec(alloc);
-            }
-            let gap = vec![in alloc; 0; bytes.len() - part.len()]?;
-            let longer = overlay(alloc, file, at, &gap)?;
-            let mut changed = overlay(alloc, &longer, at + gap.len(), part)?;
-            let kept = gap.len().min(file.len() - at);
-            changed[at..at + kept].copy_from_slice(&file[at..at + kept]);
-            Ok(changed)
-        }
+    overlay(alloc, file, at, &bytes[..count.min(bytes.len())])
+}
+
+/// A file with so many bytes of a write, from its back, with zeros where the file had none before them.
+fn tear_before(
+    alloc: Global,
+    file: &[u8],
+    at: usize,
+    bytes: &[u8],
+    count: usize,
+) -> Result<Vec<u8>, AllocError>
+    requires { at ≤ length file.now }
+    ensures { IfOk result (λ torn. Torn at bytes.now file.now torn.items) }
+{
+    let missing = bytes.len() - count.min(bytes.len());
+    let part = &bytes[missing..];
+    let mut longer = file.to_vec(alloc)?;
+    if part.is_empty() {
+        return Ok(longer);
     }
+    if missing > file.len() - at {
+        longer.resize(at + missing, 0)?;
+    }
+    overlay(alloc, &longer, at + missing, part)
 }
 
 /// What the disk has of a change that was not synced.
-fn tear_change(
-    alloc: Global,
-    disk: &[u8],
-    change: &Call,
-    tear: Tear,
-) -> Result<Vec<u8>, AllocError> {
+fn tear_change(alloc: Global, disk: &[u8], change: &Call, tear: Tear) -> Result<Vec<u8>, AllocError>
+    ensures { IfOk result (λ torn. IsTornBy change.now disk.now torn.items) }
+{
     match change {
-        Call::Wrote { at, bytes } if *at <= disk.len() => {
-            tear_write(alloc, disk, *at, bytes, tear)
-        }
+        Call::Wrote { at, bytes } if *at <= disk.len() => match tear {
+            Tear::Front(count) => tear_behind(alloc, disk, *at, bytes, count),
+            Tear::Back(count) => tear_before(alloc, disk, *at, bytes, count),
+        },
         Call::Resized { len } if tear != Tear::Front(0) && *len <= disk.len() => {
             disk[..*len].to_vec(alloc)
         }
@@ -96,9 +108,38 @@ fn tear_change(
     }
 }
 
+/// Leaves a part of a change on the disk, or none where there is no memory for it.
+fn tear_disk(alloc: Global, disk: &mut Vec<u8>, change: &Call, tear: Tear)
+    ensures { IsTornBy change.now disk.old.items disk.new.items }
+{
+    if let Ok(torn) = tear_change(alloc, disk, change, tear) {
+        *disk = torn;
+    }
+}
+
+/// Leaves a part of the last change on the disk, if there is one that was not synced.
+fn tear_last(alloc: Global, disk: &mut Vec<u8>, change: &Option<Call>, tear: Tear)
+    ensures { MatchOption change.now (disk.new.items ≡ disk.old.items) (λ call. IsTornBy call disk.old.items disk.new.items) }
+{
+    if let Some(change) = change {
+        tear_disk(alloc, disk, change, tear);
+    }
+}
+
 /// Why a call fails in whose midst the file stops, or behind that.
 fn stopped() -> io::Error {
     io::Error::other("the machine has stopped")
+}
+
+/// Notes a call in whose midst the file stops, or behind that, and gives why it fails.
+fn stop(calls: &mut Calls, is_up: &mut bool, call: &Call) -> io::Error
+    ensures noted { calls.new.items ≡ calls.old.items ++ (call.now, Err result) ∷ [] }
+    ensures down { is_up.new ≡ false }
+{
+    let error = stopped();
+    *calls = calls.and(call, &Err(error));
+    *is_up = false;
+    error
 }
 
 impl Memory {
@@ -137,19 +178,11 @@ impl Memory {
         })
     }
 
-    /// Fails a call and each one behind it, and gives what the call says.
-    fn fail(&mut self, call: &Call) -> DeviceFault
-        ensures { (error : Error) × (result ≡ DeviceFault.Failed error) × (self.new.calls.items ≡ self.old.calls.items ++ (call.now, Err error) ∷ []) }
-    {
-        let error = stopped();
-        self.calls = self.calls.and(call, &Err(error));
-        self.is_up = false;
-        DeviceFault::Failed(error)
-    }
-
-    /// What the disk has: nothing of a change after the last sync, but for the part of it that a stop left.
+    /// What the disk has: nothing of a change after the last sync, but for the part of it that a stop left. It is one of the
+    /// files that a crash may leave.
     pub fn into_disk(self) -> Vec<u8>
-        ensures { result ≡ disk_of self }
+        ensures disk { result ≡ disk_of self }
+        ensures left { ∥ memory_may_leave self result.items ∥₁ }
     {
         self.disk
     }
@@ -179,20 +212,20 @@ impl Device for Memory {
 
     fn read(&mut self, alloc: Global) -> Result<Vec<u8>, DeviceFault> {
         if !self.is_up {
-            return Err(self.fail(&Call::Refused));
+            return Err(DeviceFault::Failed(stop(&mut self.calls, &mut self.is_up, &Call::Refused)));
         }
         Ok(self.bytes.to_vec(alloc)?)
     }
 
     fn write_at(&mut self, at: usize, bytes: &[u8]) -> Result<(), DeviceFault> {
         if !self.is_up {
-            return Err(self.fail(&Call::Refused));
+            return Err(DeviceFault::Failed(stop(&mut self.calls, &mut self.is_up, &Call::Refused)));
         }
         let written = bytes.to_vec(self.alloc)?;
         let call = Call::Wrote { at, bytes: written };
         if self.left == 0 {
-            self.disk = tear_change(self.alloc, &self.disk, &call, self.tear)?;
-            return Err(self.fail(&call));
+            tear_disk(self.alloc, &mut self.disk, &call, self.tear);
+            return Err(DeviceFault::Failed(stop(&mut self.calls, &mut self.is_up, &call)));
         }
         let changed = overlay(self.alloc, &self.bytes, at, bytes)?;
         self.calls = self.calls.and(&call, &Ok(()));
@@ -202,14 +235,14 @@ impl Device for Memory {
         Ok(())
     }
 
-    fn cut(&mut self, len: usize) -> Result<(), DeviceFault> {
+    fn cut(&mut self, len: usize) -> io::Result<()> {
         if !self.is_up {
-            return Err(self.fail(&Call::Refused));
+            return Err(stop(&mut self.calls, &mut self.is_up, &Call::Refused));
         }
         let call = Call::Resized { len };
         if self.left == 0 {
-            self.disk = tear_change(self.alloc, &self.disk, &call, self.tear)?;
-            return Err(self.fail(&call));
+            tear_disk(self.alloc, &mut self.disk, &call, self.tear);
+            return Err(stop(&mut self.calls, &mut self.is_up, &call));
         }
         self.calls = self.calls.and(&call, &Ok(()));
         self.bytes.truncate(len);
@@ -218,17 +251,18 @@ impl Device for Memory {
         Ok(())
     }
 
-    fn sync(&mut self) -> Result<(), DeviceFault> {
+    // Where there is no memory for what the disk is to have, the disk fails.
+    fn sync(&mut self) -> io::Result<()> {
         if !self.is_up {
-            return Err(self.fail(&Call::Refused));
+            return Err(stop(&mut self.calls, &mut self.is_up, &Call::Refused));
         }
         if self.left == 0 {
-            if let Some(change) = &self.change {
-                self.disk = tear_change(self.alloc, &self.disk, change, self.tear)?;
-            }
-            return Err(self.fail(&Call::Flushed));
+            tear_last(self.alloc, &mut self.disk, &self.change, self.tear);
+            return Err(stop(&mut self.calls, &mut self.is_up, &Call::Flushed));
         }
-        let disk = self.bytes.to_vec(self.alloc)?;
+        let Ok(disk) = self.bytes.to_vec(self.alloc) else {
+            return Err(stop(&mut self.calls, &mut self.is_up, &Call::Flushed));
+        };
         self.calls = self.calls.and(&Call::Flushed, &Ok(()));
         self.disk = disk;
         self.change = None;

@@ -4,4 +4,6 @@ pub mod Entries
 pub mod JobLaws
 pub mod LookCases
 pub mod LookWords
+pub mod Placed
+pub mod PlanWords
 pub mod Sites

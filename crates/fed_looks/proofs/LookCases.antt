@@ -7,6 +7,8 @@ use Rattle.fed_replica.specs.Replica.{ReplicaValue}
 use Rattle.fed_replica.specs.State.{state_of}
 use Rattle.fed_looks.specs.declared.looks.Look.{Look}
 use Rattle.fed_looks.specs.declared.looks.Look.TheVariants.{Why, Machine, Reservations, Chart}
+use Rattle.fed_answers.specs.Planned.{plan_text_without}
+use Rattle.fed_looks.specs.Look.{plans}
 use Rattle.fed_machine.specs.Chart.{chart_svg}
 use Rattle.fed_looks.specs.LookText.{look_text}
 use Rattle.fed_looks.specs.LookView.{asked_by}
@@ -36,3 +38,8 @@ module _ {S F : Type 0} (bytes : S → List ℕ) (result : Result S F) (roster :
 
   pub reservations_told : look ≡ Reservations → Tells (reservation_lines roster (board_reads board)) → Tells (look_text roster (state_of r) (asked_by look))
   reservations_told is told = of_look Reservations is (subst (λ (b : BoardValue). Tells (reservation_lines roster (board_reads b))) at told)
+
+  pub plan_told : (here moment : ℕ) (jobs : List StampValue) (asked : Look) → here ≡ r.site → look ≡ asked → asked_by asked ≡ plans moment jobs → Tells (plan_text_without jobs roster (board_reads board) here moment) → Tells (look_text roster (state_of r) (asked_by look))
+  plan_told here moment jobs asked site is asks told =
+      of_look asked is (subst (λ a. Tells (look_text roster (state_of r) a)) (sym asks)
+      (subst (λ (k : ℕ). Tells (plan_text_without jobs roster (board_reads r.board) k moment)) site (subst (λ (b : BoardValue). Tells (plan_text_without jobs roster (board_reads b) here moment)) at told)))

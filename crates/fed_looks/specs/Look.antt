@@ -1,9 +1,10 @@
 -- The lines that ask for a look. Jobs and moments are read as in a script.
-use Rattle.std.specs.Prelude.{ℕ, List, [], ◌∷◌, codes, is_some, option_map, Some, None, if◌then◌else◌}
+use Rattle.std.specs.Prelude.{ℕ, Bool, List, [], ◌∷◌, ◌&&◌, codes, is_some, length, nat_le, option_map, Some, None, if◌then◌else◌}
 use Rattle.std.specs.List.{filter_map, list_all}
 use Rattle.std.specs.Str.{bytes_eq}
 use Rattle.fed_stamp.specs.Stamp.{StampValue}
-use Rattle.fed_script.specs.Forms.{Form, Reads, one, two}
+use Rattle.fed_script.specs.Forms.{Form, Reads, ◌>>=◌, one, two}
+use Rattle.fed_looks.specs.declared.looks.TheConstants.{MAX_LEFT_OUT}
 use Rattle.fed_script.specs.Values.{identifier, moment}
 
 pub data Look : Type 0 where
@@ -19,6 +20,8 @@ pub data Look : Type 0 where
   sees : Look
   -- a picture of the machine from a moment on
   charts : (moment : ℕ) → Look
+  -- the plan at a moment where these jobs are left out
+  plans : (moment : ℕ) (but : List StampValue) → Look
 
 -- what the words say where each can be read
 abbrev pub each : {A : Type 0} → Reads A → Form (List A)
@@ -28,6 +31,17 @@ each f words = if list_all (λ w. is_some (f w)) words then Some (filter_map f w
 abbrev pub alone : Look → Form Look
 alone look [] = Some look
 alone look (word ∷ words) = None
+
+-- a plan may be asked to leave out so many jobs
+abbrev pub may_leave_out : ℕ → Bool
+may_leave_out count = nat_le 1 count && nat_le count MAX_LEFT_OUT
+
+-- `MOMENT but JOB ..`
+abbrev pub plan_but : List (List ℕ × ℕ) → ℕ → Form Look
+plan_but roster here [] = None
+plan_but roster here (time ∷ []) = None
+plan_but roster here (time ∷ but ∷ jobs) = if bytes_eq but (codes "but") && may_leave_out (length jobs)
+    then (moment time >>= λ t. option_map (plans t) (each (identifier roster here) jobs)) else None
 
 -- the look that the words of a line ask a site for, if they ask for one
 abbrev pub look_in : List (List ℕ × ℕ) → ℕ → Form Look
@@ -39,4 +53,5 @@ look_in roster here (word ∷ words) =
     else if bytes_eq word (codes "jobs") then option_map tells (each (identifier roster here) words)
     else if bytes_eq word (codes "seen") then alone sees words
     else if bytes_eq word (codes "chart") then one moment charts words
+    else if bytes_eq word (codes "plan") then plan_but roster here words
     else None

@@ -1,7 +1,7 @@
 -- A look is seen as what it asks.
 use Rattle.fed_looks.specs.declared.looks.Look.{Look}
-use Rattle.fed_looks.specs.declared.looks.Look.TheVariants.{Why, Machine, Reservations, Jobs, Seen, Chart}
-use Rattle.fed_looks.specs.Look.{Look as Asked, whys, machines, reserves, tells, sees, charts}
+use Rattle.fed_looks.specs.declared.looks.Look.TheVariants.{Why, Machine, Reservations, Jobs, Seen, Chart, Plan}
+use Rattle.fed_looks.specs.Look.{Look as Asked, whys, machines, reserves, tells, sees, charts, plans}
 
 abbrev pub asked_by : Look → Asked
 asked_by (Why job moment) = whys job moment
@@ -10,3 +10,4 @@ asked_by Reservations = reserves
 asked_by (Jobs jobs) = tells jobs.items
 asked_by Seen = sees
 asked_by (Chart moment) = charts moment
+asked_by (Plan moment but) = plans moment but.items

@@ -1,7 +1,8 @@
 -- Why a job stands where it does, at a site and a moment.
-use Rattle.std.specs.Prelude.{ℕ, Bool, true, not, ◌&&◌, List, ◌++◌, codes, nat_le, if◌then◌else◌, unwrap_or, Option, Some, None}
+use Rattle.std.specs.Prelude.{◌≡◌, ℕ, Bool, true, false, not, ◌&&◌, List, ◌++◌, codes, nat_le, if◌then◌else◌, unwrap_or, Option, Some, None}
 use Rattle.std.specs.List.{list_any}
 use Rattle.std.specs.Fmt.{decimal}
+use Rattle.fed_lattice.specs.Sets.{Has}
 use Rattle.fed_stamp.specs.Roster.{nodes_at}
 use Rattle.fed_stamp.specs.Stamp.{StampValue, same_stamp}
 use Rattle.fed_model.specs.declared.beginnings.Beginning.{Beginning}
@@ -9,7 +10,8 @@ use Rattle.fed_model.specs.declared.beginnings.Ending.{Ending}
 use Rattle.fed_model.specs.JobView.{JobView}
 use Rattle.fed_model.specs.Letter.{has_site, holder, is_granted, is_granted_to, is_held, is_submitted}
 use Rattle.fed_model.specs.View.{View}
-use Rattle.fed_easy.specs.Plan.{PlanValue}
+use Rattle.fed_easy.specs.Plan.{PlanValue, ids}
+use Rattle.fed_easy.specs.Queue.{queue_in}
 use Rattle.fed_qstat.specs.Identifier.{identifier_text, site_text}
 use Rattle.fed_qstat.specs.JobText.{field_text, holder_text, holds_text}
 use Rattle.fed_answers.specs.Outcome.{answer_line}
@@ -58,6 +60,17 @@ progress_text roster None None waiting = waiting
 abbrev pub job_text : List (List ℕ × ℕ) → ℕ → StampValue → JobView → Option PlanValue → List ℕ
 job_text roster here job j plan = if j.deleted then codes "deleted"
     else progress_text roster j.finished j.begun (unwrap_or (obstacle roster here j) (place_text roster job plan))
+
+-- what is told of the job is its place in the plan
+pub record HasPlace (roster : List (List ℕ × ℕ)) (here : ℕ) (j : JobView) : Type 0 where
+  pub not_deleted : j.deleted ≡ false
+  pub unfinished : j.finished ≡ None
+  pub not_begun : j.begun ≡ None
+  pub free : obstacle roster here j ≡ None
+
+-- the job is in the queue of a site of so many nodes
+abbrev pub IsQueued : ℕ → ℕ → View → StampValue → Type 0
+IsQueued site capacity v job = Has (ids (queue_in site capacity v)) job
 
 -- the first that applies
 abbrev pub why_text : List (List ℕ × ℕ) → View → ℕ → StampValue → ℕ → List ℕ

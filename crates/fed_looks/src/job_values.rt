@@ -3,26 +3,13 @@ ghost use Rattle.std.specs.Prelude.{◌≡◌, ◌++◌, ◌∷◌, [], IfOk, On
 ghost use Rattle.serde_json.specs.View.{view};
 ghost use Rattle.fed_record.specs.JobRecord.{job_reads};
 ghost use Rattle.fed_model.specs.Letter.{has_site};
-ghost use Rattle.fed_qstat.specs.JobText.{letter_sign as sign_of_letter};
 ghost use Rattle.fed_looks.specs.JobObject.{begun_data, finished_data, grant_data, holder_data, kinds_data, letter_data, site_data, sites_data};
 
-use fed_qstat::site_text;
+use fed_qstat::{letter_sign, site_text};
 use fed_record::{Beginning, Ending, GrantStage, JobRecord, Letter};
 use fed_stamp::{Roster, SITES, SiteId, Stamp};
 use serde_json::{Value, json};
 use std::alloc::{AllocError, Global};
-
-fn letter_sign(letter: Letter) -> &'static str
-    ensures { result.now ≡ sign_of_letter letter }
-{
-    match letter {
-        Letter::Exiting => "E",
-        Letter::Running => "R",
-        Letter::Held => "H",
-        Letter::Granted => "T",
-        Letter::Queued => "Q",
-    }
-}
 
 /// The letter, or null where the job is gone.
 pub(crate) fn letter(alloc: Global, letter: Option<Letter>) -> Result<Value, AllocError>

@@ -5,6 +5,8 @@
 mod job_lines;
 /// The values of the parts of a job.
 mod job_values;
+/// Laws of looks.
+pub mod laws;
 /// The looks that lines ask for.
 mod look_lines;
 /// The texts of looks.
@@ -22,7 +24,7 @@ pub use fed_machine::{chart_svg, machine_lines};
 pub use job_lines::jobs_json;
 pub use look_lines::look_of_line;
 pub use look_texts::look_text;
-pub use looks::{Look, read_look};
+pub use looks::{Look, MAX_LEFT_OUT, read_look};
 pub use reserved::reservation_lines;
 pub use seen::seen_lines;
 pub use whys::why_line;

@@ -17,7 +17,7 @@ fn is_asking(word: &[u8]) -> bool
 {
     matches!(
         word,
-        b"why" | b"machine" | b"reservations" | b"jobs" | b"seen" | b"chart"
+        b"why" | b"machine" | b"reservations" | b"jobs" | b"seen" | b"chart" | b"plan"
     )
 }
 

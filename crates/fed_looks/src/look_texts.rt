@@ -9,6 +9,7 @@ use crate::looks::Look;
 use crate::reserved::reservation_lines;
 use crate::seen::seen_lines;
 use crate::whys::why_line;
+use fed_answers::plan_text_without;
 use fed_lattice::NoMemory;
 use fed_machine::{chart_svg, machine_lines};
 use fed_replica::Replica;
@@ -34,5 +35,8 @@ pub fn look_text(
         Look::Jobs { jobs } => jobs_json(alloc, roster, board, jobs),
         Look::Seen => seen_lines(alloc, roster, replica),
         Look::Chart { moment } => chart_svg(alloc, roster, board, here, *moment),
+        Look::Plan { moment, but } => {
+            plan_text_without(alloc, roster, board, here, *moment, but)
+        }
     }
 }

@@ -1,15 +1,15 @@
 //! What words ask for a look.
 ghost use Rattle.std.specs.Prelude.{◌≡◌, IfOk, option_map};
 ghost use Rattle.fed_words.specs.Item.{words_of as texts_of};
-ghost use Rattle.fed_script.specs.Forms.{one, one_word as one_of, two, two_words as two_of};
+ghost use Rattle.fed_script.specs.Forms.{one, two};
 ghost use Rattle.fed_script.specs.Values.{identifier, moment as moment_of};
-ghost use Rattle.fed_looks.specs.Look.{alone as alone_of, charts, each, look_in, machines, whys};
+ghost use Rattle.fed_looks.specs.Look.{alone as alone_of, charts, each, look_in, machines, may_leave_out as is_permitted, plan_but, whys};
 ghost use Rattle.fed_looks.specs.LookView.{asked_by};
 
 use fed_lattice::NoMemory;
 use fed_record::Moment;
+use fed_script::{one_word, read_id, read_moment, two_words};
 use fed_stamp::{JobId, Roster, SiteId};
-use fed_words::{read_identifier, read_number};
 use std::alloc::{AllocError, Global};
 
 /// What an operator asks a site. A look changes nothing.
@@ -27,49 +27,19 @@ pub enum Look {
     Seen,
     /// `chart MOMENT`: a picture of the machine from the moment on.
     Chart { moment: Moment },
+    /// `plan MOMENT but JOB ..`: the plan where these jobs, 1 to `MAX_LEFT_OUT`, are left out of the queue.
+    Plan { moment: Moment, but: Vec<JobId> },
 }
 
-/// The word, where it is one.
-fn one_word<'a>(words: &[&'a str]) -> Option<&'a str>
-    ensures { option_map (λ w. w.now) result ≡ one_of (texts_of words.now) }
-{
-    match words {
-        [a] => Some(a),
-        [] => None,
-        [_, _, ..] => None,
-    }
-}
-
-/// The words, where they are two.
-fn two_words<'a>(words: &[&'a str]) -> Option<(&'a str, &'a str)>
-    ensures { option_map (λ w. (w.0.now, w.1.now)) result ≡ two_of (texts_of words.now) }
-{
-    match words {
-        [a, b] => Some((a, b)),
-        [] => None,
-        [_] => None,
-        [_, _, _, ..] => None,
-    }
-}
-
-fn read_job(roster: &Roster, here: SiteId, word: &str) -> Option<JobId>
-    ensures { result ≡ identifier roster.now here word.now }
-{
-    read_identifier(roster, here, word).ok()
-}
-
-fn read_moment(word: &str) -> Option<Moment>
-    ensures { result ≡ moment_of word.now }
-{
-    Moment::new(read_number(word)?)
-}
+/// The greatest number of jobs that a plan may be asked to leave out.
+pub const MAX_LEFT_OUT: usize = 1_000;
 
 /// `JOB MOMENT`
 fn read_why(roster: &Roster, here: SiteId, words: &[&str]) -> Option<Look>
     ensures { option_map asked_by result ≡ two (identifier roster.now here) moment_of whys (texts_of words.now) }
 {
     let (job, moment) = two_words(words)?;
-    let job = read_job(roster, here, job)?;
+    let job = read_id(roster, here, job)?;
     let moment = read_moment(moment)?;
     Some(Look::Why { job, moment })
 }
@@ -101,12 +71,46 @@ fn read_jobs(
 {
     let mut jobs = Vec::new(alloc);
     for word in words {
-        let Some(job) = read_job(roster, here, word) else {
+        let Some(job) = read_id(roster, here, word) else {
             return Ok(None);
         };
         jobs.push(job)?;
     }
     Ok(Some(jobs))
+}
+
+/// Whether a plan may be asked to leave out so many jobs.
+fn may_leave_out(count: usize) -> bool
+    ensures { result ≡ is_permitted count }
+{
+    1 <= count && count <= MAX_LEFT_OUT
+}
+
+/// `MOMENT but JOB ..`
+fn read_plan(
+    alloc: Global,
+    roster: &Roster,
+    here: SiteId,
+    words: &[&str],
+) -> Result<Option<Look>, AllocError>
+    ensures { IfOk result (λ look. option_map asked_by look ≡ plan_but roster.now here (texts_of words.now)) }
+{
+    let Some((time, others)) = words.split_first() else {
+        return Ok(None);
+    };
+    let Some((but, jobs)) = others.split_first() else {
+        return Ok(None);
+    };
+    if *but != "but" || !may_leave_out(jobs.len()) {
+        return Ok(None);
+    }
+    let Some(moment) = read_moment(time) else {
+        return Ok(None);
+    };
+    match read_jobs(alloc, roster, here, jobs)? {
+        Some(but) => Ok(Some(Look::Plan { moment, but })),
+        None => Ok(None),
+    }
 }
 
 /// The look, where no word is left.
@@ -144,6 +148,8 @@ pub fn read_look(
         Ok(alone(Look::Seen, others))
     } else if *word == "chart" {
         Ok(read_chart(others))
+    } else if *word == "plan" {
+        Ok(read_plan(alloc, roster, here, others)?)
     } else {
         Ok(None)
     }

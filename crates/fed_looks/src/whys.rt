@@ -6,7 +6,7 @@ ghost use Rattle.fed_model.specs.Letter.{holder, is_submitted};
 ghost use Rattle.fed_board.specs.Board.{board_reads};
 ghost use Rattle.fed_easy.specs.Plan.{plan_reads};
 ghost use Rattle.fed_qstat.specs.Identifier.{site_text as text_of_site};
-ghost use Rattle.fed_qstat.specs.JobText.{hold_letters as letters_of_holds, holder_text as text_of_holder, holds_text as text_of_holds};
+ghost use Rattle.fed_qstat.specs.JobText.{holder_text as text_of_holder};
 ghost use Rattle.fed_answers.specs.Planned.{plan_in};
 ghost use Rattle.fed_looks.specs.Why.{behind_text as text_of_behind, begun_text as text_of_begun, job_text as text_of_job, obstacle as obstacle_of, place_text as text_of_place, why_line as line_of_why};
 
@@ -14,8 +14,8 @@ use fed_answers::{nodes_of, plan_at};
 use fed_board::Board;
 use fed_easy::Plan;
 use fed_lattice::NoMemory;
-use fed_qstat::{identifier_text, site_text};
-use fed_record::{Beginning, HoldKind, JobRecord, Moment};
+use fed_qstat::{holder_text, holds_text, identifier_text, site_text};
+use fed_record::{Beginning, JobRecord, Moment};
 use fed_stamp::{JobId, Roster, SiteId, Stamp};
 use std::alloc::{AllocError, Global};
 
@@ -33,33 +33,6 @@ fn begun_text(
     let nodes = beginning.nodes.get();
     let end = beginning.end;
     format!(in alloc; "begun at {site} since {moment} on {nodes} nodes until {end}")
-}
-
-/// The letters of the kinds of holds that are present, in the order u, o, s, or `n` where there is none.
-fn hold_letters(user: bool, operator: bool, system: bool) -> &'static str
-    ensures { result.now ≡ letters_of_holds user operator system }
-{
-    match (user, operator, system) {
-        (false, false, false) => "n",
-        (true, false, false) => "u",
-        (false, true, false) => "o",
-        (true, true, false) => "uo",
-        (false, false, true) => "s",
-        (true, false, true) => "us",
-        (false, true, true) => "os",
-        (true, true, true) => "uos",
-    }
-}
-
-/// The letters of a job's holds.
-fn holds_text(job: &JobRecord) -> &'static str
-    ensures { result.now ≡ text_of_holds (job_reads job.now) }
-{
-    hold_letters(
-        job.has_hold(HoldKind::User),
-        job.has_hold(HoldKind::Operator),
-        job.has_hold(HoldKind::System),
-    )
 }
 
 /// The head itself, or a job behind it.
@@ -90,16 +63,6 @@ fn place_text(alloc: Global, roster: &Roster, id: JobId, plan: &Plan) -> Result<
         return String::from_str(alloc, "starts");
     }
     behind_text(alloc, roster, id, head, second)
-}
-
-/// The site that a job is granted to, or `-` where there is none.
-fn holder_text(alloc: Global, roster: &Roster, job: &JobRecord) -> Result<String, AllocError>
-    ensures { IfOk result (λ text. string_bytes text ≡ text_of_holder roster.now (holder (job_reads job.now))) }
-{
-    match job.holder() {
-        Some(site) => site_text(alloc, roster, site),
-        None => String::from_str(alloc, "-"),
-    }
 }
 
 /// That a job needs more nodes than the site has.

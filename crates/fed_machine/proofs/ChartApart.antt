@@ -13,9 +13,11 @@ use Rattle.fed_model.specs.View.{View}
 use Rattle.fed_easy.specs.Plan.{PlanValue}
 use Rattle.fed_machine.specs.declared.chart_bars.Bar.{Bar}
 use Rattle.fed_machine.specs.declared.chart_bars.Kind.TheVariants.{Head}
+use Rattle.fed_machine.specs.declared.chart_bars.StandingJob.{StandingJob}
+use Rattle.fed_machine.specs.declared.machines.Reserved.{Reserved}
 use Rattle.fed_machine.specs.Chart.{chart_bars, plan_or_empty}
-use Rattle.fed_machine.specs.ChartBars.{LiesBelow, Standing, bar_of, bars_in, last_top, level_over, meets, raised, said, standing_in, top, top_if, with_bar, with_head, with_job, with_kept, with_standing}
-use Rattle.fed_machine.specs.Machine.{Kept, kept_in}
+use Rattle.fed_machine.specs.ChartBars.{LiesBelow, bar_of, bars_in, last_top, level_over, meets, raised, said, standing_in, top, top_if, with_bar, with_head, with_job, with_kept, with_standing}
+use Rattle.fed_machine.specs.Machine.{kept_in}
 use Rattle.fed_answers.specs.Planned.{plan_in}
 
 -- ---- levels
@@ -63,7 +65,7 @@ last_fits : (o : Option Bar) → top_if o ≤ 2 ^ 64 - 1
 last_fits None = omega arith
 last_fits (Some b) = omega arith
 
-stack_more : (bars : List Bar) (s : Standing) → IsStack bars → IsStack (with_standing bars s)
+stack_more : (bars : List Bar) (s : StandingJob) → IsStack bars → IsStack (with_standing bars s)
 stack_more bars s stack =
     let c : Bar = bar_of (last_top bars) s in
     let same : last_top (bars ++ c ∷ []) ≡ top c = last_more bars c in
@@ -80,7 +82,7 @@ stack_more bars s stack =
       highest = subst (λ n. All (λ b. top b ≤ n) (bars ++ c ∷ [])) (sym same) highest;
     }
 
-stacks : (ss : List Standing) (bars : List Bar) → IsStack bars → IsStack (fold with_standing bars ss)
+stacks : (ss : List StandingJob) (bars : List Bar) → IsStack bars → IsStack (fold with_standing bars ss)
 stacks [] bars stack = stack
 stacks (s ∷ ss) bars stack = stacks ss (with_standing bars s) (stack_more bars s stack)
 
@@ -97,7 +99,7 @@ head_apart : (v : View) (moment : ℕ) (head : Option (StampValue × ℕ)) (bars
 head_apart v moment None bars apart = apart
 head_apart v moment (Some head) bars apart = job_apart (v.job head.0) head.0 (head.1 - moment) bars apart
 
-all_kept_apart : (moment : ℕ) (ks : List Kept) (bars : List Bar) → AllPairs LiesBelow bars → AllPairs LiesBelow (fold (with_kept moment) bars ks)
+all_kept_apart : (moment : ℕ) (ks : List Reserved) (bars : List Bar) → AllPairs LiesBelow bars → AllPairs LiesBelow (fold (with_kept moment) bars ks)
 all_kept_apart moment [] bars apart = apart
 all_kept_apart moment (k ∷ ks) bars apart = all_kept_apart moment ks (with_kept moment bars k) (apart_more bars _ refl apart)
 

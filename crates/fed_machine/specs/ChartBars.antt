@@ -13,20 +13,20 @@ use Rattle.fed_easy.specs.Plan.{PlanValue}
 use Rattle.fed_machine.specs.declared.chart_bars.Bar.{Bar}
 use Rattle.fed_machine.specs.declared.chart_bars.Kind.{Kind}
 use Rattle.fed_machine.specs.declared.chart_bars.Kind.TheVariants.{Running, Start, Head, Reservation}
-use Rattle.fed_machine.specs.Machine.{Kept, Run, kept_in, runs_in}
+use Rattle.fed_machine.specs.declared.chart_bars.StandingJob.{StandingJob}
+use Rattle.fed_machine.specs.declared.machines.Reserved.{Reserved}
+use Rattle.fed_machine.specs.declared.machines.RunningJob.{RunningJob}
+use Rattle.fed_machine.specs.Machine.{kept_in, runs_in}
 
 -- ---- the jobs that have nodes from the moment on
--- for how many seconds, which job, how many nodes, and whether it only starts then
-abbrev pub Standing : Type 0
-Standing = ℕ × StampValue × ℕ × Bool
-
 -- by end, then by stamp
-abbrev pub standing_cmp : Standing → Standing → Ordering
-standing_cmp s t = ordering_then (ordering_then (ordering_then (nat_cmp s.0 t.0) (stamp_cmp s.1 t.1)) (nat_cmp s.2 t.2)) (bool_cmp s.3 t.3)
+abbrev pub standing_cmp : StandingJob → StandingJob → Ordering
+standing_cmp s t = ordering_then (nat_cmp s.seconds t.seconds)
+    (ordering_then (stamp_cmp s.id t.id) (ordering_then (nat_cmp s.nodes t.nodes) (bool_cmp s.starts t.starts)))
 
 -- a job that runs has its nodes for a second at least
-abbrev pub run_standing : ℕ → Run → Standing
-run_standing moment r = (max (r.0 - moment) 1, r.1, r.2, false)
+abbrev pub run_standing : ℕ → RunningJob → StandingJob
+run_standing moment r = record { seconds = max (r.end - moment) 1; id = r.id; nodes = r.nodes; starts = false }
 
 -- what a field says; that of a job that is submitted says something
 abbrev pub said : Option (StampValue × ℕ) → ℕ
@@ -34,21 +34,22 @@ said None = 0
 said (Some latest) = latest.1
 
 -- a job that starts has its nodes until its limit
-abbrev pub start_standing : StampValue → JobView → Option Standing
-start_standing job j = if is_submitted j then Some (said j.limit, job, said j.nodes, true) else None
+abbrev pub start_standing : StampValue → JobView → Option StandingJob
+start_standing job j = if is_submitted j
+    then Some (record { seconds = said j.limit; id = job; nodes = said j.nodes; starts = true }) else None
 
-abbrev pub with_some : List Standing → Option Standing → List Standing
+abbrev pub with_some : List StandingJob → Option StandingJob → List StandingJob
 with_some sorted None = sorted
 with_some sorted (Some s) = insert_key standing_cmp sorted s
 
-abbrev pub with_run : ℕ → List Standing → Run → List Standing
+abbrev pub with_run : ℕ → List StandingJob → RunningJob → List StandingJob
 with_run moment sorted r = insert_key standing_cmp sorted (run_standing moment r)
 
-abbrev pub with_start : View → List Standing → StampValue → List Standing
+abbrev pub with_start : View → List StandingJob → StampValue → List StandingJob
 with_start v sorted job = with_some sorted (start_standing job (v.job job))
 
 -- the jobs that run at the site and those that start, the longest first
-abbrev pub standing_in : View → ℕ → ℕ → List StampValue → List Standing
+abbrev pub standing_in : View → ℕ → ℕ → List StampValue → List StandingJob
 standing_in v here moment starts = reverse (fold (with_start v) (fold (with_run moment) [] (runs_in here v)) starts)
 
 -- ---- bars
@@ -67,18 +68,18 @@ top_if (Some b) = top b
 abbrev pub last_top : List Bar → ℕ
 last_top bars = top_if (slice_get bars (length bars - 1))
 
-abbrev pub bar_of : ℕ → Standing → Bar
+abbrev pub bar_of : ℕ → StandingJob → Bar
 bar_of bottom s = record {
-  kind = if s.3 then Start else Running;
-  id = s.1;
+  kind = if s.starts then Start else Running;
+  id = s.id;
   from = 0;
-  seconds = s.0;
-  nodes = s.2;
+  seconds = s.seconds;
+  nodes = s.nodes;
   bottom = bottom;
 }
 
 -- on top of the last one
-abbrev pub with_standing : List Bar → Standing → List Bar
+abbrev pub with_standing : List Bar → StandingJob → List Bar
 with_standing bars s = bars ++ bar_of (last_top bars) s ∷ []
 
 -- the bar is there at one of so many seconds
@@ -113,8 +114,9 @@ with_head v moment None bars = bars
 with_head v moment (Some head) bars = with_job (v.job head.0) head.0 (head.1 - moment) bars
 
 -- a reservation, of which the seconds before the moment are left out
-abbrev pub with_kept : ℕ → List Bar → Kept → List Bar
-with_kept moment bars k = with_bar Reservation k.1 (k.0 - moment) (max (k.2 - max k.0 moment) 1) k.3 bars
+abbrev pub with_kept : ℕ → List Bar → Reserved → List Bar
+with_kept moment bars k =
+    with_bar Reservation k.id (k.start - moment) (max (k.end - max k.start moment) 1) k.nodes bars
 
 -- the jobs that run and those that start, of which those that end later lie below, then the head, then the reservations
 -- in the order of their starts

@@ -6,7 +6,7 @@ ghost use Rattle.fed_easy.specs.Plan.{plan_reads};
 ghost use Rattle.fed_machine.specs.ChartBars.{bar_of, bars_in, end as end_of, last_top as last_top_in, level_over as level_above, meets as meets_bar, run_standing as standing_of_run, standing_in, start_standing as standing_of_start, top as top_of, with_bar, with_head, with_kept, with_run, with_standing, with_start};
 ghost use Rattle.fed_machine.specs.Machine.{runs_in};
 
-use crate::machines::{Kept, Run, kept_at, runs_at};
+use crate::machines::{Reserved, RunningJob, kept_at, runs_at};
 use fed_board::Board;
 use fed_easy::Plan;
 use fed_lattice::NoMemory;
@@ -44,30 +44,48 @@ pub struct Bar {
     pub bottom: u64,
 }
 
-/// A job that has nodes from the moment on: for how many seconds, which job, how many nodes, and whether it only starts
-/// then. In this order jobs stand by their ends, then by their stamps.
-pub(crate) type Standing = (u64, JobId, u64, bool);
+/// A job that has nodes from the moment on. In this order jobs stand by their ends, then by their stamps.
+#[derive(Clone, Copy, PartialEq, Eq, PartialOrd, Ord, Debug)]
+pub(crate) struct StandingJob {
+    /// For how many seconds.
+    pub(crate) seconds: u64,
+    /// The job.
+    pub(crate) id: JobId,
+    /// How many nodes it has.
+    pub(crate) nodes: u64,
+    /// Whether it only starts at the moment.
+    pub(crate) starts: bool,
+}
 
 /// A job that runs. It has its nodes for a second at least, as in a plan.
-fn run_standing(moment: u64, run: Run) -> Standing
+fn run_standing(moment: u64, run: RunningJob) -> StandingJob
     ensures { result ≡ standing_of_run moment run }
 {
-    let (end, job, nodes) = run;
-    (end.saturating_sub(moment).max(1), job, nodes, false)
+    StandingJob {
+        seconds: run.end.saturating_sub(moment).max(1),
+        id: run.id,
+        nodes: run.nodes,
+        starts: false,
+    }
 }
 
 /// A job that starts.
-fn start_standing(board: &Board, job: JobId) -> Option<Standing>
+fn start_standing(board: &Board, job: JobId) -> Option<StandingJob>
     ensures { result ≡ standing_of_start job ((board_reads board.now).job job) }
 {
     match board.job(job) {
-        Some(known) => Some((known.limit().1.get(), job, known.nodes().1.get(), true)),
+        Some(known) => Some(StandingJob {
+            seconds: known.limit().1.get(),
+            id: job,
+            nodes: known.nodes().1.get(),
+            starts: true,
+        }),
         None => None,
     }
 }
 
 /// Adds a job that runs.
-fn add_run(all: &mut BTreeSet<Standing>, moment: u64, run: Run) -> Result<(), NoMemory>
+fn add_run(all: &mut BTreeSet<StandingJob>, moment: u64, run: RunningJob) -> Result<(), NoMemory>
     ensures { OnOk result (all.new.keys ≡ with_run moment all.old.keys run) }
 {
     all.insert(run_standing(moment, run))?;
@@ -80,7 +98,7 @@ fn runs_standing(
     board: &Board,
     here: SiteId,
     moment: u64,
-) -> Result<BTreeSet<Standing>, NoMemory>
+) -> Result<BTreeSet<StandingJob>, NoMemory>
     ensures { IfOk result (λ all. all.keys ≡ fold (with_run moment) [] (runs_in here (board_reads board.now))) }
 {
     let runs = runs_at(alloc, board, here)?;
@@ -92,7 +110,11 @@ fn runs_standing(
 }
 
 /// Adds the jobs that start.
-fn add_starts(all: &mut BTreeSet<Standing>, board: &Board, starts: &[JobId]) -> Result<(), NoMemory>
+fn add_starts(
+    all: &mut BTreeSet<StandingJob>,
+    board: &Board,
+    starts: &[JobId],
+) -> Result<(), NoMemory>
     ensures { OnOk result (all.new.keys ≡ fold (with_start (board_reads board.now)) all.old.keys starts.now) }
 {
     for start in starts {
@@ -104,7 +126,7 @@ fn add_starts(all: &mut BTreeSet<Standing>, board: &Board, starts: &[JobId]) -> 
 }
 
 /// These jobs in a row.
-fn listed(alloc: Global, all: &BTreeSet<Standing>) -> Result<Vec<Standing>, NoMemory>
+fn listed(alloc: Global, all: &BTreeSet<StandingJob>) -> Result<Vec<StandingJob>, NoMemory>
     ensures { IfOk result (λ row. row.items ≡ all.now.keys) }
 {
     let mut row = Vec::new(alloc);
@@ -121,7 +143,7 @@ fn standing_at(
     here: SiteId,
     moment: u64,
     starts: &[JobId],
-) -> Result<Vec<Standing>, NoMemory>
+) -> Result<Vec<StandingJob>, NoMemory>
     ensures { IfOk result (λ row. row.items ≡ standing_in (board_reads board.now) here moment starts.now) }
 {
     let mut all = runs_standing(alloc, board, here, moment)?;
@@ -149,22 +171,25 @@ fn last_top(bars: &[Bar]) -> u64
 }
 
 /// The bar of a job that has nodes from the moment on.
-fn bar_at(bottom: u64, standing: Standing) -> Bar
+fn bar_at(bottom: u64, standing: StandingJob) -> Bar
     ensures { result ≡ bar_of bottom standing }
 {
-    let (seconds, id, nodes, starts) = standing;
     Bar {
-        kind: if starts { Kind::Start } else { Kind::Running },
-        id,
+        kind: if standing.starts {
+            Kind::Start
+        } else {
+            Kind::Running
+        },
+        id: standing.id,
         from: 0,
-        seconds,
-        nodes,
+        seconds: standing.seconds,
+        nodes: standing.nodes,
         bottom,
     }
 }
 
 /// Adds the bar of a job that has nodes from the moment on, on top of the last one.
-fn add_standing(bars: &mut Vec<Bar>, standing: Standing) -> Result<(), NoMemory>
+fn add_standing(bars: &mut Vec<Bar>, standing: StandingJob) -> Result<(), NoMemory>
     ensures { OnOk result (bars.new.items ≡ with_standing bars.old.items standing) }
 {
     let bottom = last_top(bars);
@@ -173,7 +198,7 @@ fn add_standing(bars: &mut Vec<Bar>, standing: Standing) -> Result<(), NoMemory>
 }
 
 /// The bars of jobs that have nodes from the moment on, each on top of those before it.
-fn stacked(alloc: Global, row: &[Standing]) -> Result<Vec<Bar>, NoMemory>
+fn stacked(alloc: Global, row: &[StandingJob]) -> Result<Vec<Bar>, NoMemory>
     ensures { IfOk result (λ bars. bars.items ≡ fold with_standing [] row.now) }
 {
     let mut bars = Vec::new(alloc);
@@ -256,17 +281,16 @@ fn add_head(
 }
 
 /// Adds a reservation that isn't over at the moment, from there on.
-fn add_kept(bars: &mut Vec<Bar>, moment: u64, kept: Kept) -> Result<(), NoMemory>
+fn add_kept(bars: &mut Vec<Bar>, moment: u64, kept: Reserved) -> Result<(), NoMemory>
     ensures { OnOk result (bars.new.items ≡ with_kept moment bars.old.items kept) }
 {
-    let (start, id, end, nodes) = kept;
-    let from = start.saturating_sub(moment);
-    let seconds = end.saturating_sub(start.max(moment)).max(1);
-    add_bar(bars, Kind::Reservation, id, from, seconds, nodes)
+    let from = kept.start.saturating_sub(moment);
+    let seconds = kept.end.saturating_sub(kept.start.max(moment)).max(1);
+    add_bar(bars, Kind::Reservation, kept.id, from, seconds, kept.nodes)
 }
 
 /// Adds the reservations.
-fn add_all_kept(bars: &mut Vec<Bar>, moment: u64, all: &BTreeSet<Kept>) -> Result<(), NoMemory>
+fn add_all_kept(bars: &mut Vec<Bar>, moment: u64, all: &BTreeSet<Reserved>) -> Result<(), NoMemory>
     ensures { OnOk result (bars.new.items ≡ fold (with_kept moment) bars.old.items all.now.keys) }
 {
     for kept in all {

@@ -1,11 +1,13 @@
 //! What is said of a site's machine.
-ghost use Rattle.std.specs.Prelude.{◌≡◌, ◌<◌, ◌++◌, [], IfOk, flat_map, length, map, string_bytes};
+ghost use Rattle.std.specs.Prelude.{◌≡◌, ◌<◌, ◌-◌, ◌++◌, [], IfOk, flat_map, length, string_bytes};
 ghost use Rattle.fed_record.specs.JobRecord.{job_reads};
 ghost use Rattle.fed_board.specs.Board.{board_reads};
-ghost use Rattle.fed_machine.specs.Machine.{kept_in, kept_line as line_of_kept, kept_of as kept_from, left_by, machine_lines as lines_of_machine, nodes_line as line_of_nodes, run_line as line_of_run, run_of as run_from, runs_in, taken_at, taken_by};
+ghost use Rattle.fed_easy.specs.SitePlan.{used_in};
+ghost use Rattle.fed_machine.specs.Machine.{kept_in, kept_line as line_of_kept, kept_of as kept_from, machine_lines as lines_of_machine, nodes_line as line_of_nodes, run_line as line_of_run, run_of as run_from, runs_in};
 
 use fed_answers::nodes_of;
 use fed_board::Board;
+use fed_easy::{reserved_time, running_job, used_nodes};
 use fed_lattice::NoMemory;
 use fed_qstat::identifier_text;
 use fed_record::{JobRecord, Moment, Reservation};
@@ -13,49 +15,65 @@ use fed_stamp::{JobId, Roster, SiteId, Stamp};
 use std::alloc::{AllocError, Global};
 use std::collections::BTreeSet;
 
-/// A job that runs: its end, its identifier and its nodes. In this order jobs stand by their ends, then by their stamps.
-pub(crate) type Run = (u64, JobId, u64);
+/// A job that runs. In this order jobs stand by their ends, then by their stamps.
+#[derive(Clone, Copy, PartialEq, Eq, PartialOrd, Ord, Debug)]
+pub(crate) struct RunningJob {
+    /// The second at which its nodes are free.
+    pub(crate) end: u64,
+    /// The job.
+    pub(crate) id: JobId,
+    /// How many nodes it has.
+    pub(crate) nodes: u64,
+}
 
-/// A reservation: its start, its identifier, its end and its nodes.
-pub(crate) type Kept = (u64, Stamp, u64, u64);
+/// A reservation. In this order reservations stand by their starts, then by their stamps.
+#[derive(Clone, Copy, PartialEq, Eq, PartialOrd, Ord, Debug)]
+pub(crate) struct Reserved {
+    /// The first second at which it has its nodes.
+    pub(crate) start: u64,
+    /// The reservation.
+    pub(crate) id: Stamp,
+    /// The second from which on it has none.
+    pub(crate) end: u64,
+    /// How many nodes it has.
+    pub(crate) nodes: u64,
+}
 
 /// The job, if the site has begun it and it is not finished.
-fn run_of(here: SiteId, id: JobId, job: &JobRecord) -> Option<Run>
+fn run_of(here: SiteId, id: JobId, job: &JobRecord) -> Option<RunningJob>
     ensures { result ≡ run_from here id (job_reads job.now) }
 {
-    let progress = job.progress();
-    if progress.finished.is_some() {
-        return None;
-    }
-    match progress.begun {
-        Some((stamp, beginning)) => {
-            if stamp.site() == here {
-                Some((beginning.end, id, beginning.nodes.get()))
-            } else {
-                None
-            }
-        }
-        None => None,
-    }
+    let entry = running_job(job, here)?;
+    Some(RunningJob {
+        end: entry.end,
+        id,
+        nodes: entry.nodes,
+    })
 }
 
 /// The reservation, if it stands, is of the site and is not over at the moment.
-fn kept_of(here: SiteId, moment: u64, id: Stamp, reservation: &Reservation) -> Option<Kept>
+fn kept_of(here: SiteId, moment: u64, id: Stamp, reservation: &Reservation) -> Option<Reserved>
     ensures { result ≡ kept_from here moment id reservation.now }
 {
-    if !reservation.is_made() {
-        return None;
-    }
-    let window = reservation.window()?;
-    if window.site == here && moment < window.end {
-        Some((window.start, id, window.end, window.nodes))
+    let time = reserved_time(reservation, here)?;
+    if moment < time.until {
+        Some(Reserved {
+            start: time.from,
+            id,
+            end: time.until,
+            nodes: time.nodes,
+        })
     } else {
         None
     }
 }
 
 /// The jobs that run at a site, in the order of their ends.
-pub(crate) fn runs_at(alloc: Global, board: &Board, here: SiteId) -> Result<BTreeSet<Run>, NoMemory>
+pub(crate) fn runs_at(
+    alloc: Global,
+    board: &Board,
+    here: SiteId,
+) -> Result<BTreeSet<RunningJob>, NoMemory>
     ensures { IfOk result (λ runs. runs.keys ≡ runs_in here (board_reads board.now)) }
 {
     let mut runs = BTreeSet::new(alloc);
@@ -73,7 +91,7 @@ pub(crate) fn kept_at(
     board: &Board,
     here: SiteId,
     moment: u64,
-) -> Result<BTreeSet<Kept>, NoMemory>
+) -> Result<BTreeSet<Reserved>, NoMemory>
     ensures { IfOk result (λ kept. kept.keys ≡ kept_in here moment (board_reads board.now)) }
 {
     let mut all = BTreeSet::new(alloc);
@@ -85,28 +103,11 @@ pub(crate) fn kept_at(
     Ok(all)
 }
 
-/// What is left of so many nodes beside the jobs that run.
-fn left_by_runs(nodes: u64, runs: &BTreeSet<Run>) -> u64
-    ensures { result ≡ left_by nodes (map taken_by runs.now.keys) }
+/// How many of so many nodes nothing at the site uses at the moment.
+fn free_nodes(board: &Board, here: SiteId, moment: u64, nodes: u64) -> u64
+    ensures { result ≡ nodes - used_in here (board_reads board.now) moment }
 {
-    let mut free = nodes;
-    for run in runs {
-        free = free.saturating_sub(run.2);
-    }
-    free
-}
-
-/// What is left of so many nodes beside the reservations, at a moment before their ends.
-fn left_by_kept(nodes: u64, moment: u64, all: &BTreeSet<Kept>) -> u64
-    ensures { result ≡ left_by nodes (map (taken_at moment) all.now.keys) }
-{
-    let mut free = nodes;
-    for kept in all {
-        if kept.0 <= moment {
-            free = free.saturating_sub(kept.3);
-        }
-    }
-    free
+    nodes.saturating_sub(used_nodes(board, here, moment))
 }
 
 fn nodes_line(alloc: Global, nodes: u64, free: u64) -> Result<String, AllocError>
@@ -115,23 +116,27 @@ fn nodes_line(alloc: Global, nodes: u64, free: u64) -> Result<String, AllocError
     format!(in alloc; "nodes {nodes}, free {free}\n")
 }
 
-fn run_line(alloc: Global, roster: &Roster, run: Run) -> Result<String, AllocError>
+fn run_line(alloc: Global, roster: &Roster, run: RunningJob) -> Result<String, AllocError>
     ensures { IfOk result (λ text. string_bytes text ≡ line_of_run roster.now run) }
 {
-    let (end, id, nodes) = run;
-    let id = identifier_text(alloc, roster, id)?;
+    let id = identifier_text(alloc, roster, run.id)?;
+    let (nodes, end) = (run.nodes, run.end);
     format!(in alloc; "run {id} {nodes} {end}\n")
 }
 
-fn kept_line(alloc: Global, roster: &Roster, kept: Kept) -> Result<String, AllocError>
+fn kept_line(alloc: Global, roster: &Roster, kept: Reserved) -> Result<String, AllocError>
     ensures { IfOk result (λ text. string_bytes text ≡ line_of_kept roster.now kept) }
 {
-    let (start, id, end, nodes) = kept;
-    let id = identifier_text(alloc, roster, id)?;
+    let id = identifier_text(alloc, roster, kept.id)?;
+    let (start, end, nodes) = (kept.start, kept.end, kept.nodes);
     format!(in alloc; "reserved {id} {start} {end} {nodes}\n")
 }
 
-fn run_lines(alloc: Global, roster: &Roster, runs: &BTreeSet<Run>) -> Result<String, AllocError>
+fn run_lines(
+    alloc: Global,
+    roster: &Roster,
+    runs: &BTreeSet<RunningJob>,
+) -> Result<String, AllocError>
     ensures { IfOk result (λ text. string_bytes text ≡ flat_map (line_of_run roster.now) runs.now.keys) }
 {
     let mut text = String::new(alloc);
@@ -142,7 +147,11 @@ fn run_lines(alloc: Global, roster: &Roster, runs: &BTreeSet<Run>) -> Result<Str
     Ok(text)
 }
 
-fn kept_lines(alloc: Global, roster: &Roster, all: &BTreeSet<Kept>) -> Result<String, AllocError>
+fn kept_lines(
+    alloc: Global,
+    roster: &Roster,
+    all: &BTreeSet<Reserved>,
+) -> Result<String, AllocError>
     ensures { IfOk result (λ text. string_bytes text ≡ flat_map (line_of_kept roster.now) all.now.keys) }
 {
     let mut text = String::new(alloc);
@@ -171,7 +180,7 @@ pub fn machine_lines(
     let nodes = nodes_of(roster, here);
     let runs = runs_at(alloc, board, here)?;
     let kept = kept_at(alloc, board, here, second)?;
-    let free = left_by_kept(left_by_runs(nodes, &runs), second, &kept);
+    let free = free_nodes(board, here, second, nodes);
     let mut text = nodes_line(alloc, nodes, free)?;
     let running = run_lines(alloc, roster, &runs)?;
     text.push_str(running.as_str())?;

@@ -5,9 +5,11 @@ use Rattle.std.specs.Fmt.{decimal}
 use Rattle.fed_stamp.specs.declared.sites.TheConstants.{SITES}
 use Rattle.fed_stamp.specs.Stamp.{StampValue}
 use Rattle.fed_model.specs.declared.holds.HoldKind.TheVariants.{User, Operator, System}
+use Rattle.fed_model.specs.declared.holds.HoldKinds.{HoldKinds}
 use Rattle.fed_model.specs.declared.letters.Letter.{Letter}
 use Rattle.fed_model.specs.declared.letters.Letter.TheVariants.{Exiting, Running, Held, Granted, Queued}
 use Rattle.fed_model.specs.declared.beginnings.Beginning.{Beginning}
+use Rattle.fed_model.specs.Hold.{has_kind}
 use Rattle.fed_model.specs.JobView.{JobView}
 use Rattle.fed_model.specs.Letter.{has_site, has_hold}
 use Rattle.fed_qstat.specs.Identifier.{site_text}
@@ -55,6 +57,11 @@ hold_letters false false false = codes "n"
 hold_letters user operator system =
     (if user then codes "u" else []) ++ (if operator then codes "o" else []) ++ (if system then codes "s" else [])
 
+-- those of a set of kinds
+abbrev pub kinds_text : HoldKinds → List ℕ
+kinds_text kinds = hold_letters (has_kind kinds User) (has_kind kinds Operator) (has_kind kinds System)
+
+-- those of the holds that the job has
 abbrev pub holds_text : JobView → List ℕ
 holds_text j = hold_letters (has_hold j User) (has_hold j Operator) (has_hold j System)
 

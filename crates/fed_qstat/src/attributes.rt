@@ -2,10 +2,10 @@
 ghost use Rattle.std.specs.Prelude.{◌≡◌, ◌∷◌, ◌++◌, IfOk, OnOk, Some, string_bytes, if◌then◌else◌};
 ghost use Rattle.fed_record.specs.JobRecord.{job_reads};
 ghost use Rattle.fed_model.specs.Letter.{holder};
-ghost use Rattle.fed_qstat.specs.JobText.{begun_text as text_of_begun, hold_letters as letters_of_holds, holder_text as text_of_holder, holds_text as text_of_holds, letter_sign as sign_of_letter, or_dash as text_or_dash, sites_text as text_of_sites};
+ghost use Rattle.fed_qstat.specs.JobText.{begun_text as text_of_begun, holder_text as text_of_holder, holds_text as text_of_holds, kinds_text as letters_of_kinds, letter_sign as sign_of_letter, or_dash as text_or_dash, sites_text as text_of_sites};
 
 use crate::identifiers::{push_site, site_text};
-use fed_record::{HoldKind, JobRecord, Letter};
+use fed_record::{HoldKind, HoldKinds, JobRecord, Letter};
 use fed_stamp::{Roster, SITES, SiteId};
 use std::alloc::{AllocError, Global};
 
@@ -17,7 +17,7 @@ pub(crate) fn or_dash(text: &str) -> &str
 }
 
 /// The letter that stands for the state of a job.
-pub(crate) fn letter_sign(letter: Letter) -> &'static str
+pub fn letter_sign(letter: Letter) -> &'static str
     ensures { result.now ≡ sign_of_letter letter }
 {
     match letter {
@@ -45,11 +45,7 @@ pub(crate) fn push_holder(
 }
 
 /// The site that a job is granted to, or `-` where there is none.
-pub(crate) fn holder_text(
-    alloc: Global,
-    roster: &Roster,
-    job: &JobRecord,
-) -> Result<String, AllocError>
+pub fn holder_text(alloc: Global, roster: &Roster, job: &JobRecord) -> Result<String, AllocError>
     ensures { IfOk result (λ text. string_bytes text ≡ text_of_holder roster.now (holder (job_reads job.now))) }
 {
     let mut text = String::new(alloc);
@@ -67,11 +63,15 @@ pub(crate) fn begun_text(alloc: Global, job: &JobRecord) -> Result<String, Alloc
     }
 }
 
-/// The letters of the kinds of holds that are present, in the order u, o, s, or `n` where there is none.
-fn hold_letters(user: bool, operator: bool, system: bool) -> &'static str
-    ensures { result.now ≡ letters_of_holds user operator system }
+/// The letters of the kinds of holds in the set, in the order u, o, s, or `n` where there is none.
+pub fn hold_letters(kinds: HoldKinds) -> &'static str
+    ensures { result.now ≡ letters_of_kinds kinds }
 {
-    match (user, operator, system) {
+    match (
+        kinds.has(HoldKind::User),
+        kinds.has(HoldKind::Operator),
+        kinds.has(HoldKind::System),
+    ) {
         (false, false, false) => "n",
         (true, false, false) => "u",
         (false, true, false) => "o",
@@ -84,14 +84,10 @@ fn hold_letters(user: bool, operator: bool, system: bool) -> &'static str
 }
 
 /// The letters of a job's holds.
-pub(crate) fn holds_text(job: &JobRecord) -> &'static str
+pub fn holds_text(job: &JobRecord) -> &'static str
     ensures { result.now ≡ text_of_holds (job_reads job.now) }
 {
-    hold_letters(
-        job.has_hold(HoldKind::User),
-        job.has_hold(HoldKind::Operator),
-        job.has_hold(HoldKind::System),
-    )
+    hold_letters(job.holds())
 }
 
 /// Adds a name, behind a `+` where it isn't the first.

@@ -18,6 +18,7 @@ pub mod plan_texts;
 /// The short listing.
 mod short_lines;
 
+pub use attributes::{hold_letters, holder_text, holds_text, letter_sign};
 pub use identifiers::{identifier_text, site_text};
 pub use listings::{full, list};
 pub use plan_texts::plan_text;

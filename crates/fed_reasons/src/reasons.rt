@@ -2,10 +2,10 @@
 
 use crate::misused::misused_text;
 use crate::refused::refused_text;
-use fed_board::Board;
+use fed_easy::used_nodes;
 use fed_lattice::NoMemory;
 use fed_qstat::{identifier_text, site_text};
-use fed_record::{Command, JobRecord, Moment, Reservation};
+use fed_record::{Command, Moment};
 use fed_script::{Line, first_word, read_own_line};
 use fed_site::{Complaint, Site};
 use fed_stamp::SiteId;
@@ -16,7 +16,7 @@ fn gap_text(alloc: Global, site: &Site, lacking: SiteId) -> Result<String, NoMem
     let name = site_text(alloc, site.roster(), lacking)?;
     Ok(format!(in alloc;
         "gap {name}: the packet rests on operations of {name} that this site has not seen: \
-        take a newer packet of its sender, or one from {name}"
+        take one that its sender makes for this site, or one from {name}"
     )?)
 }
 
@@ -42,46 +42,6 @@ pub fn reason_text(
         Some(text) => Ok(text),
         None => cause_text(alloc, complaint),
     }
-}
-
-/// The nodes that a job has, if the site has begun it and it is not finished.
-fn running_nodes(here: SiteId, job: &JobRecord) -> u64 {
-    let progress = job.progress();
-    match (progress.begun, progress.finished) {
-        (Some((stamp, beginning)), None) if stamp.site() == here => beginning.nodes.get(),
-        _ => 0,
-    }
-}
-
-/// The nodes of the site that a reservation keeps free at the moment.
-fn reserved_nodes(here: SiteId, moment: u64, reservation: &Reservation) -> u64 {
-    if !reservation.is_made() {
-        return 0;
-    }
-    match reservation.window() {
-        Some(window) if window.site == here && window.start <= moment && moment < window.end => {
-            window.nodes
-        }
-        _ => 0,
-    }
-}
-
-/// The nodes of a site that running jobs have.
-fn run_nodes(board: &Board, here: SiteId) -> u64 {
-    let mut used = 0u64;
-    for (_job, job) in board.jobs() {
-        used = used.saturating_add(running_nodes(here, job));
-    }
-    used
-}
-
-/// The nodes of a site that running jobs have, and those that reservations keep free at the moment.
-fn used_nodes(board: &Board, here: SiteId, moment: u64) -> u64 {
-    let mut used = run_nodes(board, here);
-    for (_name, reservation) in board.reservations() {
-        used = used.saturating_add(reserved_nodes(here, moment, reservation));
-    }
-    used
 }
 
 /// That the site is beyond its nodes at the moment, where it is.

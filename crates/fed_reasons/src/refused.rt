@@ -1,8 +1,8 @@
 //! What the user is told of a command that is refused: what was asked of what, and why it isn't done.
 
 use fed_lattice::NoMemory;
-use fed_qstat::{identifier_text, site_text};
-use fed_record::{Command, HoldKind, HoldKinds, JobRecord, MAX_MOMENT, Refusal, Role, Who, Window};
+use fed_qstat::{hold_letters, identifier_text, site_text};
+use fed_record::{Command, JobRecord, MAX_MOMENT, Refusal, Role, Who, Window};
 use fed_script::{Line, read_own_line};
 use fed_site::Site;
 use fed_stamp::{JobId, MAX_NODES, Roster, SiteId};
@@ -40,33 +40,15 @@ fn asker_text(alloc: Global, who: &Who) -> Result<String, AllocError> {
     }
 }
 
-/// The letters of kinds of holds.
-fn letters_of(kinds: HoldKinds) -> &'static str {
-    match (
-        kinds.has(HoldKind::User),
-        kinds.has(HoldKind::Operator),
-        kinds.has(HoldKind::System),
-    ) {
-        (false, false, false) => "",
-        (true, false, false) => "u",
-        (false, true, false) => "o",
-        (true, true, false) => "uo",
-        (false, false, true) => "s",
-        (true, false, true) => "us",
-        (false, true, true) => "os",
-        (true, true, true) => "uos",
-    }
-}
-
 /// What a command would do to the job.
 fn deed_text(alloc: Global, command: &Command, id: &str) -> Result<String, AllocError> {
     match command {
         Command::Alter { .. } => format!(in alloc; "alter {id}"),
         Command::Hold { kinds, .. } => {
-            format!(in alloc; "hold {id} (kinds {})", letters_of(*kinds))
+            format!(in alloc; "hold {id} (kinds {})", hold_letters(*kinds))
         }
         Command::Release { kinds, .. } => {
-            format!(in alloc; "release {id} (kinds {})", letters_of(*kinds))
+            format!(in alloc; "release {id} (kinds {})", hold_letters(*kinds))
         }
         Command::Delete { .. } => format!(in alloc; "delete {id}"),
         _ => format!(in alloc; "change {id}"),
@@ -172,7 +154,7 @@ fn why_of_job(
             format!(in alloc; "{id} was submitted at {origin}, which alone grants it")
         }
         Refusal::Held => {
-            let kinds = letters_of(known.holds());
+            let kinds = hold_letters(known.holds());
             format!(in alloc; "{id} is held (kinds {kinds})")
         }
         Refusal::NotEligible => match asked.command {

@@ -20,7 +20,7 @@ use fed_record::{Command, Moment, Who};
 use fed_script::laws::lines_name_sites_of_the_roster;
 use fed_script::{BoxedRoster, Line, read_later_line};
 use fed_stamp::{JobId, Roster, SiteId, roster_is_lawful};
-use fed_world::{Event, Outcome, World};
+use fed_world::{Event, Outcome, World, site_sets_are_within_limits};
 use std::alloc::Global;
 use std::borrow::CowStr;
 use std::marker::Model;
@@ -68,6 +68,7 @@ impl ScriptWorld {
         ensures stands { board_reads result.now ≡ view_at (reads self.now) site }
         ensures within { IsWithinLimits ((reads self.now).world.site site).set }
     {
+        site_sets_are_within_limits(&self.world, site);
         self.world.board(site).unwrap()
     }
 

@@ -3,3 +3,6 @@ pub mod RemovedPairs
 pub mod Unrefused
 pub mod StepLaws
 pub mod GrantAnswers
+pub mod WantOfMemory
+pub mod Lefts
+pub mod Receipts

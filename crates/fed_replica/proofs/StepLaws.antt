@@ -1,7 +1,7 @@
 -- Steps and answers, by the parts of the answer that they come of.
 use Rattle.std.specs.Prelude.{Option, Some, None, Result, Ok, Err}
 use Rattle.std.specs.Result.{IsErr, IsErrAnd}
-use Rattle.std.proofs.Common.{◌≡◌, ℕ, refl, sym, subst, ap, ◌∙◌}
+use Rattle.std.proofs.Common.{◌≡◌, ℕ, true, refl, sym, subst, ap, ◌∙◌}
 use Rattle.fed_stamp.specs.declared.versions.ClockFull.{ClockFull}
 use Rattle.fed_stamp.specs.Stamp.{StampValue}
 use Rattle.fed_stamp.specs.Version.{next_stamp}
@@ -17,6 +17,7 @@ use Rattle.fed_model.specs.Desk.{first_of}
 use Rattle.fed_replica.specs.declared.steps.Step.{Step}
 use Rattle.fed_model.specs.Answer.{Answer, Answer.Refuses, Answer.Replies, answer_to, answer_unless, effect, replies, reply_with, reply_without}
 use Rattle.fed_model.specs.Refusals.{refusals}
+use Rattle.fed_replica.specs.Outcome.{adds}
 use Rattle.fed_replica.specs.Step.{IsStep, answer_by}
 
 -- ---- a step that says its answer is one of it
@@ -68,6 +69,13 @@ pub step_answer : (a : Answer) (command : Command) (t : StampValue) (operation :
 step_answer (Refuses refusal) command t operation reply h = cc
 step_answer (Replies said None) command t operation reply h = cc
 step_answer (Replies said (Some new)) command t operation reply h = sym (λ i. Replies (h.0 i) (Some (h.1 i, h.2 i)))
+
+-- memory is wanted where an operation is added
+pub wants_memory : (a : Answer) (command : Command) (refusal : Refusal) → IsStep a command (Err refusal) → refusal ≡ Refusal.NoMemory → (a ≡ Refuses Refusal.NoMemory → ⊥) → adds a ≡ true
+wants_memory (Refuses due) command refusal h full never =
+    let same : refusal ≡ due = cc in absurd (never (ap Refuses (sym same ∙ full)))
+wants_memory (Replies said None) command refusal h full never = cc
+wants_memory (Replies said (Some new)) command refusal h full never = refl
 
 -- an error that was converted is the one that is said
 pub said_refused : (r : Result Step Refusal) (e : Refusal) → IsErr r × IsErrAnd r (λ x. x ≡ e) → answer_by r ≡ Refuses e

@@ -1,6 +1,8 @@
 //! What a site answers to commands, and what it ships and takes.
 #![tactic(auto)]
 
+/// What a replica answers to commands and to packets.
+pub mod answers;
 /// What a site does where a command comes.
 pub mod commands;
 /// That the counts which a board keeps are those that refusals look at.
@@ -22,6 +24,7 @@ pub mod reservation_steps;
 /// What a site does next where it doesn't refuse a command.
 pub mod steps;
 
+pub use answers::{Answered, Received};
 pub use counts::counts_are_read;
 pub use fed_model::Taken;
 pub use replicas::Replica;

@@ -1,5 +1,5 @@
 //! Replicas: the boards of sites, and what was heard from other sites.
-ghost use Rattle.std.specs.Prelude.{◌≡◌, ◌<◌, ◌++◌, ℕ, [], not, replicate, IfOk, IfErr, OnOk, OnErr, IsTrue};
+ghost use Rattle.std.specs.Prelude.{◌≡◌, ◌≢◌, ◌<◌, ◌++◌, ℕ, [], true, false, not, replicate, None, Err, IfOk, IfErr, OnOk, OnErr, IsTrue};
 ghost use Rattle.fed_stamp.specs.declared.sites.TheConstants.{SITES};
 ghost use Rattle.fed_stamp.specs.Version.{is_below, joined, met};
 ghost use Rattle.fed_lattice.specs.History.{History};
@@ -11,8 +11,13 @@ ghost use Rattle.fed_theory.specs.ViewSteps.{join_records};
 ghost use Rattle.fed_delta.specs.Absorb.{IsFaultOf};
 ghost use Rattle.fed_delta.specs.Cut.{cut};
 ghost use Rattle.fed_model.specs.Answer.{answer_to};
+ghost use Rattle.fed_model.specs.declared.refusals.Refusal.{Refusal};
 ghost use Rattle.fed_stamp.specs.Indexes.{put};
+ghost use Rattle.fed_replica.specs.declared.answers.Received.{Received};
+ghost use Rattle.fed_replica.specs.Outcome.{adds, outcome_of_packet_unless, outcome_of_received, said_by};
+ghost use Rattle.fed_replica.specs.State.{after_answer, after_packet_unless, lacking, state_of};
 
+use crate::answers::{Answered, Received, refused};
 use crate::commands::next_step;
 use crate::steps::Step;
 use fed_board::Board;
@@ -20,8 +25,8 @@ use fed_delta::{Absorb, absorb, delta_since};
 use fed_lattice::NoMemory;
 use fed_model::Taken;
 use fed_record::{Command, Refusal, Reply, Who};
-use fed_stamp::{SITES, SiteId, Version};
-use fed_wire::Packet;
+use fed_stamp::{SITES, SiteId, Version, site_is_in_range};
+use fed_wire::{Packet, sender_is_in_range};
 use std::alloc::Global;
 use std::marker::Model;
 
@@ -98,6 +103,46 @@ impl Replica {
         self.heard[from.get() as usize]
     }
 
+    /// Answers the command: it is done, if no refusal applies; else the refusal with the least number is said. A refusal,
+    /// and a command that adds no operation, is decided before any allocation, so that memory is wanted only where an
+    /// operation would be added. Where none is added, the replica is as before.
+    pub fn answer(&mut self, who: &Who, command: &Command) -> Result<Answered, NoMemory>
+        ensures said { IfOk result
+            (λ a. a.said ≡ said_by (answer_to (board_reads self.old.board) self.old.site who.now command.now)) }
+        ensures told { IfOk result (λ a. a.said ≢ Err Refusal.NoMemory) }
+        ensures added { IfOk result
+            (λ a. a.added ≡ adds (answer_to (board_reads self.old.board) self.old.site who.now command.now)) }
+        ensures left { OnOk result (state_of self.new ≡ after_answer (state_of self.old)
+            (answer_to (board_reads self.old.board) self.old.site who.now command.now)) }
+        ensures still { IfOk result (λ a. a.added ≡ false → self.new ≡ self.old) }
+        ensures site { self.new.site ≡ self.old.site }
+        ensures heard { self.new.heard ≡ self.old.heard }
+        ensures memory { OnErr result
+            (adds (answer_to (board_reads self.old.board) self.old.site who.now command.now) ≡ true) }
+        ensures unchanged { OnErr result (self.new ≡ self.old) }
+    {
+        match next_step(self.alloc, &self.board, self.site, who, command) {
+            Ok(step) => match step {
+                Step::Adds {
+                    at,
+                    operation,
+                    reply,
+                } => {
+                    self.board.apply(at, &operation)?;
+                    Ok(Answered {
+                        said: Ok(reply),
+                        added: true,
+                    })
+                }
+                Step::Nothing(reply) => Ok(Answered {
+                    said: Ok(reply),
+                    added: false,
+                }),
+            },
+            Err(refusal) => refused(refusal),
+        }
+    }
+
     /// Does the command, if no refusal applies, and replies to it; else it answers the refusal with the least number. A
     /// refusal, and a command that adds no operation, is decided before any allocation, so that `NoMemory` is answered only
     /// where an operation would be added. On an error the replica is as before.
@@ -108,17 +153,8 @@ impl Replica {
         ensures heard { self.new.heard ≡ self.old.heard }
         ensures unchanged { OnErr result (self.new ≡ self.old) }
     {
-        match next_step(self.alloc, &self.board, self.site, who, command)? {
-            Step::Adds {
-                at,
-                operation,
-                reply,
-            } => {
-                self.board.apply(at, &operation)?;
-                Ok(reply)
-            }
-            Step::Nothing(reply) => Ok(reply),
-        }
+        let answered = self.answer(who, command)?;
+        answered.said
     }
 
     /// The packet for the site: what the board tells that was not heard from there.
@@ -130,6 +166,35 @@ impl Replica {
     {
         let delta = delta_since(self.alloc, &self.board, &self.heard(to))?;
         Ok(Packet::new(self.site, delta))
+    }
+
+    /// Takes the packet in, where the replica lacks nothing that it needs; else it says of which site something is lacked,
+    /// and the replica is as before.
+    pub fn receive(&mut self, packet: &Packet) -> Result<Received, NoMemory>
+        ensures said { IfOk result (λ r. outcome_of_received r ≡
+            outcome_of_packet_unless (lacking (state_of self.old) packet.now) (state_of self.old) packet.now) }
+        ensures left { OnOk result (state_of self.new ≡
+            after_packet_unless (lacking (state_of self.old) packet.now) (state_of self.old) packet.now) }
+        ensures still { IfOk result (λ r. (lacks : ℕ) → r ≡ Received.Gap lacks → self.new ≡ self.old) }
+        ensures stands { OnOk result ((ops others : History Body) → lacking (state_of self.old) packet.now ≡ None →
+            AreKin ops others → board_reads self.old.board ≡ view ops →
+            board_reads packet.now.delta.changes ≡ cut (view others) packet.now.delta.need →
+            board_reads self.new.board ≡ view (ops ++ others)) }
+        ensures site { self.new.site ≡ self.old.site }
+        ensures memory { OnErr result (lacking (state_of self.old) packet.now ≡ None) }
+        ensures unchanged { OnErr result (self.new ≡ self.old) }
+    {
+        sender_is_in_range(packet);
+        match self.take(packet) {
+            Ok(taken) => Ok(Received::Taken(taken)),
+            Err(fault) => match fault {
+                Absorb::Gap { missing } => {
+                    site_is_in_range(missing);
+                    Ok(Received::Gap(missing))
+                }
+                Absorb::NoMemory => Err(NoMemory),
+            },
+        }
     }
 
     /// Takes the packet in, where the board has seen all that it needs. On an error the replica is as before.

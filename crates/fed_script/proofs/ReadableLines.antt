@@ -1,8 +1,5 @@
 -- A readable line is ASCII, so it is text.
-use Rattle.std.proofs.Common.{◌≡◌, ℕ, ◌<◌, true, List, Some, Ok, Err, Result, ap, arith, get_or}
-use Rattle.std.specs.Prelude.{MatchResult, option_map}
-use Rattle.std.specs.Result.{result_ok}
-use Rattle.std.specs.Borrow.{Bor}
+use Rattle.std.proofs.Common.{◌≡◌, ℕ, ◌<◌, true, List, arith, get_or}
 use Rattle.std.specs.Str.{IsAscii, IsUtf8}
 use Rattle.std.proofs.lemmas.Str.{IsUtf8-from_ascii}
 use Rattle.std.proofs.lemmas.Str.Ascii.{IsAscii-from_all}
@@ -18,8 +15,3 @@ readable_ascii line e = IsAscii-from_all line (λ k d within. readable_byte (get
 
 pub readable_text : (line : List ℕ) → is_readable line ≡ true → IsUtf8 line
 readable_text line e = IsUtf8-from_ascii line (readable_ascii line e)
-
-pub text_of_readable : {E : Type 0} (V : E → Type 0) (r : Result (Bor (List ℕ)) E) (line : List ℕ) → MatchResult r (λ s. (s.now ≡ line) × IsUtf8 line) (λ e. (¬ IsUtf8 line) × V e)
-    → is_readable line ≡ true → option_map (λ text. text.now) (result_ok r) ≡ Some line
-text_of_readable V (Ok s) line cases e = ap Some cases.0
-text_of_readable V (Err fault) line cases e = absurd (cases.0 (IsUtf8-from_ascii line (readable_ascii line e)))

@@ -5,7 +5,7 @@ ghost use Rattle.fed_script.specs.Line.{cancels, reserves, scheduled};
 ghost use Rattle.fed_script.specs.declared.verbs.Verb.TheVariants.{Grant, Begin, Finish, HandBack};
 
 use crate::forms::{four_words, one_word, three_words, two_words};
-use crate::values::{read_moment, read_name, read_status};
+use crate::values::{read_id, read_moment, read_status};
 use crate::verbs::Verb;
 use fed_model::{Command, Window};
 use fed_stamp::{Roster, SiteId};
@@ -16,7 +16,7 @@ fn read_grant(roster: &Roster, here: SiteId, words: &[&str]) -> Option<Command>
     ensures { result ≡ scheduled roster.now here Grant (words_of words.now) }
 {
     let (job, asker) = two_words(words)?;
-    let job = read_name(roster, here, job)?;
+    let job = read_id(roster, here, job)?;
     let asker = roster.find(asker)?;
     Some(Command::Grant { job, asker })
 }
@@ -26,7 +26,7 @@ fn read_begin(roster: &Roster, here: SiteId, words: &[&str]) -> Option<Command>
     ensures { result ≡ scheduled roster.now here Begin (words_of words.now) }
 {
     let (job, moment) = two_words(words)?;
-    let job = read_name(roster, here, job)?;
+    let job = read_id(roster, here, job)?;
     let moment = read_moment(moment)?;
     Some(Command::Begin { job, moment })
 }
@@ -36,7 +36,7 @@ fn read_finish(roster: &Roster, here: SiteId, words: &[&str]) -> Option<Command>
     ensures { result ≡ scheduled roster.now here Finish (words_of words.now) }
 {
     let (job, moment, status) = three_words(words)?;
-    let job = read_name(roster, here, job)?;
+    let job = read_id(roster, here, job)?;
     let moment = read_moment(moment)?;
     let status = read_status(status)?;
     Some(Command::Finish {
@@ -50,7 +50,7 @@ fn read_finish(roster: &Roster, here: SiteId, words: &[&str]) -> Option<Command>
 fn read_hand_back(roster: &Roster, here: SiteId, words: &[&str]) -> Option<Command>
     ensures { result ≡ scheduled roster.now here HandBack (words_of words.now) }
 {
-    let job = read_name(roster, here, one_word(words)?)?;
+    let job = read_id(roster, here, one_word(words)?)?;
     Some(Command::HandBack { job })
 }
 
@@ -91,6 +91,6 @@ pub(crate) fn read_reserve(roster: &Roster, here: SiteId, words: &[&str]) -> Opt
 pub(crate) fn read_cancel(roster: &Roster, here: SiteId, words: &[&str]) -> Option<Command>
     ensures { result ≡ cancels roster.now here (words_of words.now) }
 {
-    let reservation = read_name(roster, here, one_word(words)?)?;
+    let reservation = read_id(roster, here, one_word(words)?)?;
     Some(Command::Cancel { reservation })
 }

@@ -4,7 +4,7 @@ ghost use Rattle.fed_words.specs.Item.{words_of};
 ghost use Rattle.fed_script.specs.Forms.{one_word as one_of, two_words as two_of, three_words as three_of, four_words as four_of};
 
 /// The word, where it is one.
-pub(crate) fn one_word<'a>(words: &[&'a str]) -> Option<&'a str>
+pub fn one_word<'a>(words: &[&'a str]) -> Option<&'a str>
     ensures { option_map (λ w. w.now) result ≡ one_of (words_of words.now) }
 {
     match words {
@@ -15,7 +15,7 @@ pub(crate) fn one_word<'a>(words: &[&'a str]) -> Option<&'a str>
 }
 
 /// The words, where they are two.
-pub(crate) fn two_words<'a>(words: &[&'a str]) -> Option<(&'a str, &'a str)>
+pub fn two_words<'a>(words: &[&'a str]) -> Option<(&'a str, &'a str)>
     ensures { option_map (λ w. (w.0.now, w.1.now)) result ≡ two_of (words_of words.now) }
 {
     match words {

@@ -1,7 +1,8 @@
 //! The words of a script that name the sites.
-ghost use Rattle.std.specs.Prelude.{◌≡◌, IfOk, map, option_map};
+ghost use Rattle.std.specs.Prelude.{◌≡◌, IfOk, option_map};
 ghost use Rattle.std.specs.List.{list_any};
 ghost use Rattle.fed_stamp.specs.Roster.{sites_of};
+ghost use Rattle.fed_words.specs.Item.{words_of};
 ghost use Rattle.fed_script.specs.Rosters.{is_reserved as begins_another_line, roster_of, site_of, sites_in};
 
 use fed_stamp::Roster;
@@ -41,11 +42,21 @@ impl BoxedRoster {
     }
 }
 
+/// The roster in a box of its own, where there is one.
+fn boxed(alloc: Global, roster: Option<Roster>) -> Result<Option<BoxedRoster>, AllocError>
+    ensures { IfOk result (λ held. held ≡ roster) }
+{
+    match roster {
+        Some(roster) => Ok(Some(BoxedRoster::new(alloc, roster)?)),
+        None => Ok(None),
+    }
+}
+
 /// The roster of these words, each `NAME:NODES`, the name of a site, a colon and its number of nodes in decimal
 /// digits. `None` where a word has another form, `Roster::new` refuses the sites, or one of them is named `roster` or
 /// `equal`, which are the first words of other lines.
-pub fn read_roster(alloc: Global, words: &[&str]) -> Result<Option<Roster>, AllocError>
-    ensures { IfOk result (λ roster. roster ≡ roster_of (map (λ word. word.now) words.now)) }
+pub fn read_roster(alloc: Global, words: &[&str]) -> Result<Option<BoxedRoster>, AllocError>
+    ensures { IfOk result (λ roster. roster ≡ roster_of (words_of words.now)) }
 {
     let Some(sites) = read_sites(alloc, words)? else {
         return Ok(None);
@@ -53,7 +64,7 @@ pub fn read_roster(alloc: Global, words: &[&str]) -> Result<Option<Roster>, Allo
     if has_reserved(&sites) {
         return Ok(None);
     }
-    Ok(Roster::new(&sites).ok())
+    boxed(alloc, Roster::new(&sites).ok())
 }
 
 /// Whether a name is the first word of another line.
@@ -75,7 +86,7 @@ fn read_sites<'a>(
     words: &[&'a str],
 ) -> Result<Option<Vec<(&'a str, u64)>>, AllocError>
     ensures { IfOk result (λ sites.
-        option_map (λ s. sites_of s.items) sites ≡ sites_in (map (λ word. word.now) words.now)) }
+        option_map (λ s. sites_of s.items) sites ≡ sites_in (words_of words.now)) }
 {
     let mut sites = Vec::new(alloc);
     for word in words {

@@ -273,9 +273,7 @@ fn read_first_words(alloc: Global, words: &[&str]) -> Result<Option<Line>, NoMem
         return Ok(None);
     }
     match read_roster(alloc, others)? {
-        Some(roster) => Ok(Some(Line::Begin {
-            roster: BoxedRoster::new(alloc, roster)?,
-        })),
+        Some(roster) => Ok(Some(Line::Begin { roster })),
         None => Ok(None),
     }
 }

@@ -7,14 +7,14 @@ use fed_stamp::{JobId, Roster, SiteId};
 use fed_words::{read_identifier, read_number};
 
 /// The identifier of a job or of a reservation, as it is read at the site `here`.
-pub(crate) fn read_name(roster: &Roster, here: SiteId, word: &str) -> Option<JobId>
+pub fn read_id(roster: &Roster, here: SiteId, word: &str) -> Option<JobId>
     ensures { result ≡ identifier roster.now here word.now }
 {
     read_identifier(roster, here, word).ok()
 }
 
 /// A moment, in seconds.
-pub(crate) fn read_moment(word: &str) -> Option<Moment>
+pub fn read_moment(word: &str) -> Option<Moment>
     ensures { result ≡ moment word.now }
 {
     Moment::new(read_number(word)?)

@@ -1,12 +1,12 @@
 -- An input that is served group by group.
-use Rattle.std.specs.Prelude.{IfErr, IfSome, IsErrAnd, OnOk, Some, None, Option, Result, Ok, Err, ⊤}
+use Rattle.std.specs.Prelude.{IfErr, IsErrAnd, OnOk, Some, None, Option, Result, Ok, Err, length}
+use Rattle.std.specs.declared.io.Error.{Error}
 use Rattle.std.specs.Io.KnownBytes.{Appends, Consumes, IsAtEnd, Keeps}
-use Rattle.std.proofs.Common.{◌≡◌, inl, inr, ℕ, List, [], ◌∷◌, ◌++◌, take, refl, sym, ap, subst, ◌∙◌, append_assoc, append-nil}
+use Rattle.std.proofs.Common.{◌≡◌, ◌⊎◌, ◌≤◌, inl, inr, ℕ, List, [], ◌∷◌, ◌++◌, take, refl, sym, ap, subst, ◌∙◌, append_assoc, append-nil}
 use Rattle.std.proofs.lemmas.Grind.{flat_map-append}
 use Rattle.std.proofs.lemmas.List.{map-append}
 use Rattle.std.proofs.lemmas.List.Elements.{All-append, All-nil}
 use Rattle.std.specs.Prelude.{Bool}
-use Rattle.std.specs.List.{All}
 use Rattle.fed_replica.specs.State.{State}
 use Rattle.fed_site.specs.Journal.{after_lines, kept_line, kept_lines}
 use Rattle.fed_site.specs.Says.{site_says}
@@ -15,53 +15,43 @@ use Rattle.fed_reasons.specs.Told.{IsTold, answers_in}
 use Rattle.fed_reasons.specs.declared.tellings.Told.{Told}
 use Rattle.fed_journal.specs.Device.{LeavesOnly}
 use Rattle.fed_journal.specs.Journal.{IsBeforeOrAfter, entries_in, entries_of}
-use Rattle.fed_journal.specs.Lines.{Reading, recovered}
+use Rattle.fed_journal.specs.Lines.{Reading, at_rest, recovered}
 use Rattle.fed_journal.proofs.Moments.{both, still, weaker}
 use Rattle.fed_home.specs.Home.{IsOpen, state_in, home_device, site_of}
 use Rattle.fed_home.specs.Replay.{AreReplies, Replayed, replay, replayed_of}
+use Rattle.fed_home.specs.Fault.{StopsAnswers}
 use Rattle.fed_home.specs.declared.faults.HomeFault.TheVariants as home
 use Rattle.fed_home.specs.declared.homes.Home.{Home}
 use Rattle.fed_home.proofs.Replays.{after_both}
-use Rattle.fed_serve.specs.Inputs.{HasNoLineFeed, lines_in}
-use Rattle.fed_serve.proofs.InputLines.{Takes}
-use Rattle.fed_serve.specs.Served.{HasAnswered, HasServed, KeepsSome, ServesAs, WritesNothing}
+use Rattle.fed_serve.specs.Inputs.{HasNoLineFeed, IsKnownAs, cut_line, lines_in}
+use Rattle.fed_serve.proofs.Writing.{appends_kept, appends_more, appends_none}
+use Rattle.fed_serve.proofs.InputLines.{Takes, lines_in-begun}
+use Rattle.fed_serve.specs.Served.{HasAnswered, HasKept, HasServed, IsDone, KeepsFrom, KeepsSome, ServesAs, StopsAt, StopsBehind}
 use Rattle.fed_serve.specs.Written.{told_bytes, told_text}
 use Rattle.fed_serve.specs.declared.faults.ServeFault.{ServeFault}
 use Rattle.fed_serve.specs.declared.faults.ServeFault.TheVariants as serve
-
--- ---- what is known to be written
-appends_none : (known : Option (List ℕ)) → Appends known known []
-appends_none None = tt
-appends_none (Some xs) = sym (append-nil xs)
-
-appends_more : (first middle last : Option (List ℕ)) (old new : List ℕ) → Appends first middle old → Appends middle last new → Appends first last (old ++ new)
-appends_more None middle last old new before more = tt
-appends_more (Some xs) None last old new before more = absurd before
-appends_more (Some xs) (Some ys) None old new before more = absurd more
-appends_more (Some xs) (Some ys) (Some zs) old new before more = rw (more, before) (append_assoc xs old new)
-
-pub appends_kept : (a b c : Option (List ℕ)) (new : List ℕ) → Appends a b new → Keeps b c → Appends a c new
-appends_kept None b c new h k = tt
-appends_kept (Some xs) None c new h k = absurd h
-appends_kept (Some xs) (Some ys) None new h k = absurd k
-appends_kept (Some xs) (Some ys) (Some zs) new h k = k ∙ h
 
 -- ---- what was read
 pub keeps_same : (known : Option (List ℕ)) → Keeps known known
 keeps_same None = tt
 keeps_same (Some xs) = refl
 
-pub keeps_more : (a b c : Option (List ℕ)) → Keeps a b → Keeps b c → Keeps a c
-keeps_more None b c h k = tt
-keeps_more (Some xs) None c h k = absurd h
-keeps_more (Some xs) (Some ys) None h k = absurd k
-keeps_more (Some xs) (Some ys) (Some zs) h k = k ∙ h
+-- nothing is read yet, what was read with what a chunk has more, and nothing where a read failed
+pub consumes_start : (had : Option (List ℕ)) → Consumes had had []
+consumes_start None = tt
+consumes_start (Some xs) = refl
 
-pub consumes_kept : (a b c : Option (List ℕ)) (bytes : List ℕ) → Keeps a b → Consumes b c bytes → Consumes a c bytes
-consumes_kept None b c bytes h k = tt
-consumes_kept (Some xs) None c bytes h k = absurd h
-consumes_kept (Some xs) (Some ys) None bytes h k = absurd k
-consumes_kept (Some xs) (Some ys) (Some zs) bytes h k = sym h ∙ k
+consumes_more : (had has now : Option (List ℕ)) (read chunk : List ℕ) → Consumes had has read → Consumes has now chunk → Consumes had now (read ++ chunk)
+consumes_more None has now read chunk first more = tt
+consumes_more (Some xs) None now read chunk first more = absurd first
+consumes_more (Some xs) (Some ys) None read chunk first more = absurd more
+consumes_more (Some xs) (Some ys) (Some zs) read chunk first more = first ∙ ap (λ (rest : List ℕ). read ++ rest) more ∙ sym (append_assoc read chunk zs)
+
+pub consumes_kept : (had has now : Option (List ℕ)) (read : List ℕ) → Consumes had has read → Keeps has now → Consumes had now read
+consumes_kept None has now read first same = tt
+consumes_kept (Some xs) None now read first same = absurd first
+consumes_kept (Some xs) (Some ys) None read first same = absurd same
+consumes_kept (Some xs) (Some ys) (Some zs) read first same = first ∙ ap (λ (rest : List ℕ). read ++ rest) (sym same)
 
 take_none : (bytes : List ℕ) → take 0 bytes ≡ []
 take_none [] = refl
@@ -69,6 +59,24 @@ take_none (byte ∷ bytes) = refl
 
 pub consumes_none : (had now : Option (List ℕ)) (bytes : List ℕ) (n : ℕ) → n ≡ 0 → Consumes had now (take n bytes) → Consumes had now []
 consumes_none had now bytes n zero h = subst (λ (bs : List ℕ). Consumes had now bs) (ap (λ m. take m bytes) zero ∙ take_none bytes) h
+
+-- what is left to be read, as far as it is known
+abbrev pub rest_of : Option (List ℕ) → List ℕ
+rest_of None = []
+rest_of (Some xs) = xs
+
+known_input : (had now : Option (List ℕ)) (read : List ℕ) → Consumes had now read → IsKnownAs had (read ++ rest_of now)
+known_input None now read came = tt
+known_input (Some xs) None read came = absurd came
+known_input (Some xs) (Some ys) read came = came
+
+known_rest : (now : Option (List ℕ)) → IsKnownAs now (rest_of now)
+known_rest None = tt
+known_rest (Some xs) = refl
+
+pub rest_at_end : (now : Option (List ℕ)) → IsAtEnd now → rest_of now ≡ []
+rest_at_end None ended = refl
+rest_at_end (Some xs) ended = ended
 
 -- ---- lines after lines
 module _ (roster : List (List ℕ × ℕ)) where
@@ -111,199 +119,286 @@ module _ {D : Type 0} (asked : Bool) (seen : D → List ℕ) (may_leave : D → 
   open_entries : (home : Home D) → IsOpen seen may_leave home → recovered (seen (home_device home)) ≡ Ok (entries_in (seen (home_device home)))
   open_entries home opened = some_entries (recovered (seen (home_device home))) (replayed_of (site_of home)) opened.replayed
 
-  served_none : (home : Home D) (known : Option (List ℕ)) → IsOpen seen may_leave home → HasServed asked seen may_leave home home [] known known
-  served_none home known opened = record {
+  done_none : (home : Home D) → IsOpen seen may_leave home → IsDone asked seen may_leave home home []
+  done_none home opened = record {
     is_open = opened;
     roster = refl;
     left = refl;
     kept = open_entries home opened ∙ ap Ok (sym (append-nil (entries_in (seen (home_device home)))));
-    answered = answered_none asked (site_of home).roster (state_in home) known;
   }
+
+  pub served_none : (home : Home D) (known : Option (List ℕ)) → IsOpen seen may_leave home → HasServed asked seen may_leave home home [] known known
+  served_none home known opened = record { done = done_none home opened; answered = answered_none asked (site_of home).roster (state_in home) known }
+
+  -- the entries that a group leaves behind those of the lines before it
+  kept_behind : (old mid : Home D) (first group : List (List ℕ)) → IsDone asked seen may_leave old mid first
+      → entries_in (seen (home_device mid)) ++ kept_lines (site_of mid).roster (state_in mid) group ≡ entries_in (seen (home_device old)) ++ kept_lines (site_of old).roster (state_in old) (first ++ group)
+  kept_behind old mid first group one =
+      let r = (site_of old).roster in
+      let s = state_in old in
+      let e = entries_in (seen (home_device old)) in
+      (λ i. entries_of (one.kept i) ++ kept_lines (one.roster i) (one.left i) group)
+      ∙ append_assoc e (kept_lines r s first) (kept_lines r (after_lines r s first) group) ∙ ap (λ ls. e ++ ls) (sym (kept_both r s first group))
 
   served_both : (old mid new : Home D) (first second : List (List ℕ)) (a b c : Option (List ℕ)) → HasServed asked seen may_leave old mid first a b → HasServed asked seen may_leave mid new second b c
       → HasServed asked seen may_leave old new (first ++ second) a c
   served_both old mid new first second a b c one two =
       let r = (site_of old).roster in
       let s = state_in old in
-      let e = entries_in (seen (home_device old)) in
       record {
-        is_open = two.is_open;
-        roster = two.roster ∙ one.roster;
-        left = two.left ∙ (λ i. after_lines (one.roster i) (one.left i) second) ∙ sym (after_both r s first second);
-        kept = two.kept ∙ (λ i. Ok (entries_of (one.kept i) ++ kept_lines (one.roster i) (one.left i) second))
-            ∙ ap Ok (append_assoc e (kept_lines r s first) (kept_lines r (after_lines r s first) second) ∙ ap (λ ls. e ++ ls) (sym (kept_both r s first second)));
+        done = record {
+          is_open = two.done.is_open;
+          roster = two.done.roster ∙ one.done.roster;
+          left = two.done.left ∙ (λ i. after_lines (one.done.roster i) (one.done.left i) second) ∙ sym (after_both r s first second);
+          kept = two.done.kept ∙ ap Ok (kept_behind old mid first second one.done);
+        };
         answered = answered_both asked r s first second a b c one.answered
-            (subst (λ (t : State). HasAnswered asked r t second b c) one.left (subst (λ (q : List (List ℕ × ℕ)). HasAnswered asked q (state_in mid) second b c) one.roster two.answered));
+            (subst (λ (t : State). HasAnswered asked r t second b c) one.done.left (subst (λ (q : List (List ℕ × ℕ)). HasAnswered asked q (state_in mid) second b c) one.done.roster two.answered));
       }
 
   -- ---- crashes
-  group_left : (r : List (List ℕ × ℕ)) (s : State) (e all first group rest : List (List ℕ)) (file : List ℕ) → all ≡ first ++ (group ++ rest)
-      → IsBeforeOrAfter (e ++ kept_lines r s first) (kept_lines r (after_lines r s first) group) file → KeepsSome r s e all file
-  group_left r s e all first group rest file is (inl before) = (first, group ++ rest, is, before)
-  group_left r s e all first group rest file is (inr after) = (
-    first ++ group,
-    rest,
-    is ∙ sym (append_assoc first group rest),
-    after ∙ ap Ok (append_assoc e (kept_lines r s first) (kept_lines r (after_lines r s first) group) ∙ ap (λ ls. e ++ ls) (sym (kept_both r s first group))),
-  )
-
   module _ (moment : D → ℕ) (left_since : D → ℕ → List ℕ → Type 0) where
     -- what a crash leaves from one site to another, by the lines that are served
-    abbrev Leaves : Home D → Home D → List (List ℕ) → Type 0
-    Leaves old new all = LeavesOnly moment left_since (home_device old) (home_device new) (KeepsSome (site_of old).roster (state_in old) (entries_in (seen (home_device old))) all)
+    abbrev pub LeavesSome : Home D → Home D → List (List ℕ) → Type 0
+    LeavesSome old new all = LeavesOnly moment left_since (home_device old) (home_device new) (KeepsSome (site_of old).roster (state_in old) (entries_in (seen (home_device old))) all)
 
-    abbrev LeavesGroup : Home D → Home D → List (List ℕ) → Type 0
+    abbrev pub LeavesGroup : Home D → Home D → List (List ℕ) → Type 0
     LeavesGroup old new group = LeavesOnly moment left_since (home_device old) (home_device new)
         (IsBeforeOrAfter (entries_in (seen (home_device old))) (kept_lines (site_of old).roster (state_in old) group))
 
-    leaves_none : (home : Home D) (all : List (List ℕ)) → IsOpen seen may_leave home → ((c : List ℕ) → left_since (home_device home) (moment (home_device home)) c → may_leave (home_device home) c) → Leaves home home all
-    leaves_none home all opened only = still moment left_since (home_device home) _
-        (λ c left. ([], all, refl, ap recovered (opened.settled.read.durable c (only c left)) ∙ open_entries home opened ∙ ap Ok (sym (append-nil (entries_in (seen (home_device home)))))))
+    -- each moment counts, and the present one is the only one since itself
+    abbrev pub CountsNow : Type 0
+    CountsNow = (device : D) (t : ℕ) (c : List ℕ) → t ≤ moment device → may_leave device c → left_since device t c
 
-    leaves_more : (old mid new : Home D) (all first group rest : List (List ℕ)) (a b : Option (List ℕ)) → HasServed asked seen may_leave old mid first a b → all ≡ first ++ (group ++ rest)
-        → Leaves old mid all → LeavesGroup mid new group → Leaves old new all
-    leaves_more old mid new all first group rest a b one is run more =
-        let r = (site_of old).roster in
-        let s = state_in old in
-        let e = entries_in (seen (home_device old)) in
-        both moment left_since (home_device old) (home_device mid) (home_device new) _ run
-        (weaker moment left_since (home_device mid) (home_device new) _ _
-        (λ c left. group_left r s e all first group rest c is (subst (λ (x : List (List ℕ)). IsBeforeOrAfter x (kept_lines r (after_lines r s first) group) c) (ap entries_of one.kept)
-        (subst (λ (x : List (List ℕ)). IsBeforeOrAfter (entries_in (seen (home_device mid))) x c) (λ i. kept_lines (one.roster i) (one.left i) group) left)))
-        more)
+    abbrev pub OnlyNow : Home D → Type 0
+    OnlyNow home = (c : List ℕ) → left_since (home_device home) (moment (home_device home)) c → may_leave (home_device home) c
+
+    left_open : (home : Home D) (c : List ℕ) → IsOpen seen may_leave home → may_leave (home_device home) c → recovered c ≡ Ok (entries_in (seen (home_device home)))
+    left_open home c opened left = ap recovered (opened.settled.read.durable c left) ∙ open_entries home opened
+
+    leaves_none : (home : Home D) → IsOpen seen may_leave home → OnlyNow home → LeavesSome home home []
+    leaves_none home opened only = still moment left_since (home_device home) _
+        (λ c left. ([], [], refl, left_open home c opened (only c left) ∙ ap Ok (sym (append-nil (entries_in (seen (home_device home)))))))
+
+    -- before a group, or behind it
+    group_left : (old mid : Home D) (first group : List (List ℕ)) (file : List ℕ) → IsDone asked seen may_leave old mid first
+        → IsBeforeOrAfter (entries_in (seen (home_device mid))) (kept_lines (site_of mid).roster (state_in mid) group) file
+        → HasKept (site_of old).roster (state_in old) (entries_in (seen (home_device old))) first file
+        ⊎ HasKept (site_of old).roster (state_in old) (entries_in (seen (home_device old))) (first ++ group) file
+    group_left old mid first group file one (inl before) = inl (before ∙ (λ i. Ok (entries_of (one.kept i))))
+    group_left old mid first group file one (inr after) = inr (after ∙ ap Ok (kept_behind old mid first group one))
+
+    some_of : (old : Home D) (first group : List (List ℕ)) (file : List ℕ)
+        → HasKept (site_of old).roster (state_in old) (entries_in (seen (home_device old))) first file ⊎ HasKept (site_of old).roster (state_in old) (entries_in (seen (home_device old))) (first ++ group) file
+        → KeepsSome (site_of old).roster (state_in old) (entries_in (seen (home_device old))) (first ++ group) file
+    some_of old first group file (inl before) = (first, group, refl, before)
+    some_of old first group file (inr after) = (first ++ group, [], sym (append-nil (first ++ group)), after)
+
+    some_more : (old : Home D) (all first more : List (List ℕ)) (file : List ℕ) → all ≡ first ++ more
+        → KeepsSome (site_of old).roster (state_in old) (entries_in (seen (home_device old))) first file → KeepsSome (site_of old).roster (state_in old) (entries_in (seen (home_device old))) all file
+    some_more old all first more file is some = (some.0, some.1 ++ more, is ∙ ap (λ ls. ls ++ more) some.2 ∙ append_assoc some.0 some.1 more, some.3)
+
+    leaves_more : (old mid new : Home D) (first group : List (List ℕ)) → IsDone asked seen may_leave old mid first → LeavesSome old mid first → LeavesGroup mid new group → LeavesSome old new (first ++ group)
+    leaves_more old mid new first group one run more =
+        both moment left_since (home_device old) (home_device mid) (home_device new) _
+        (weaker moment left_since (home_device old) (home_device mid) _ _ (λ c some. some_more old (first ++ group) first group c refl some) run)
+        (weaker moment left_since (home_device mid) (home_device new) _ _ (λ c left. some_of old first group c (group_left old mid first group c one left)) more)
 
     -- ---- the input
-    -- of what the reader had these lines are served, and this has begun of the next one
-    abbrev pub HasCome : Option (List ℕ) → Option (List ℕ) → List (List ℕ) → List ℕ → Type 0
-    HasCome None now given begun = ⊤
-    HasCome (Some input) None given begun = ⊥
-    HasCome (Some input) (Some more) given begun = lines_in input ≡ given ++ lines_in (begun ++ more)
-
-    pub record IsServing (old now : Home D) (had has : Option (List ℕ)) (begun : List ℕ) (before after : Option (List ℕ)) : Type 0 where
+    -- of what the reader had this was read and these lines are served, and this has begun of the next one
+    pub record IsServing (old now : Home D) (had has : Option (List ℕ)) (start begun : List ℕ) (before after : Option (List ℕ)) : Type 0 where
       pub given : List (List ℕ)
+      pub read : List ℕ
       pub served : HasServed asked seen may_leave old now given before after
-      pub come : HasCome had has given begun
-      pub leaves : IfSome had (λ input. Leaves old now (lines_in input))
+      pub came : Consumes had has read
+      pub lines : (more : List ℕ) → lines_in (start ++ (read ++ more)) ≡ given ++ lines_in (begun ++ more)
+      pub leaves : LeavesSome old now given
       pub none : HasNoLineFeed begun
 
-    come_none : (had : Option (List ℕ)) → HasCome had had [] []
-    come_none None = tt
-    come_none (Some input) = refl
-
-    if_some : (o : Option (List ℕ)) (P : List ℕ → Type 0) → ((input : List ℕ) → P input) → IfSome o P
-    if_some None P h = tt
-    if_some (Some input) P h = h input
-
-    pub serving_none : (home : Home D) (had known : Option (List ℕ)) → IsOpen seen may_leave home → ((c : List ℕ) → left_since (home_device home) (moment (home_device home)) c → may_leave (home_device home) c)
-        → HasNoLineFeed [] → IsServing home home had had [] known known
-    serving_none home had known opened only none = record {
+    pub serving_none : (home : Home D) (had known : Option (List ℕ)) (start : List ℕ) → IsOpen seen may_leave home → OnlyNow home → HasNoLineFeed start → IsServing home home had had start start known known
+    serving_none home had known start opened only none = record {
       given = [];
+      read = [];
       served = served_none home known opened;
-      come = come_none had;
-      leaves = if_some had _ (λ input. leaves_none home (lines_in input) opened only);
+      came = consumes_start had;
+      lines = λ more. refl;
+      leaves = leaves_none home opened only;
       none = none;
     }
 
-    come_same : (had has now : Option (List ℕ)) (given : List (List ℕ)) (begun : List ℕ) → HasCome had has given begun → Keeps has now → HasCome had now given begun
-    come_same None has now given begun come same = tt
-    come_same (Some input) None now given begun come same = absurd come
-    come_same (Some input) (Some more) None given begun come same = absurd same
-    come_same (Some input) (Some more) (Some left) given begun come same = rw same come
-
-    pub serving_same : (old now : Home D) (had has left : Option (List ℕ)) (begun : List ℕ) (before after : Option (List ℕ)) → IsServing old now had has begun before after → Keeps has left → IsServing old now had left begun before after
-    serving_same old now had has left begun before after run same = record {
-      given = run.given;
-      served = run.served;
-      come = come_same had has left run.given begun run.come same;
-      leaves = run.leaves;
-      none = run.none;
-    }
-
-    if_some_so : (o : Option (List ℕ)) (P Q : List ℕ → Type 0) → IfSome o P → ((input : List ℕ) → P input → Q input) → IfSome o Q
-    if_some_so None P Q h f = tt
-    if_some_so (Some input) P Q h f = f input h
-
     -- ---- a chunk more
-    taken_lines : (input : List ℕ) (given : List (List ℕ)) (begun chunk taken left xs ys : List ℕ) → Takes begun chunk taken left → lines_in input ≡ given ++ lines_in (begun ++ xs) → xs ≡ chunk ++ ys
-        → lines_in input ≡ given ++ (lines_in taken ++ lines_in (left ++ ys))
-    taken_lines input given begun chunk taken left xs ys takes come consumed =
-        come ∙ ap (λ zs. given ++ lines_in (begun ++ zs)) consumed ∙ ap (λ ls. given ++ ls) (takes.lines ys)
+    pub taken_lines : (start read begun chunk taken left more : List ℕ) (given : List (List ℕ)) → ((m : List ℕ) → lines_in (start ++ (read ++ m)) ≡ given ++ lines_in (begun ++ m)) → Takes begun chunk taken left
+        → lines_in (start ++ ((read ++ chunk) ++ more)) ≡ given ++ (lines_in taken ++ lines_in (left ++ more))
+    taken_lines start read begun chunk taken left more given lines takes =
+        ap (λ (bs : List ℕ). lines_in (start ++ bs)) (append_assoc read chunk more) ∙ lines (chunk ++ more) ∙ ap (λ ls. given ++ ls) (takes.lines more)
 
-    come_more : (had has now : Option (List ℕ)) (given : List (List ℕ)) (begun chunk taken left : List ℕ) → Takes begun chunk taken left → HasCome had has given begun → Consumes has now chunk → HasCome had now (given ++ lines_in taken) left
-    come_more None has now given begun chunk taken left takes come consumed = tt
-    come_more (Some input) None now given begun chunk taken left takes come consumed = absurd come
-    come_more (Some input) (Some xs) None given begun chunk taken left takes come consumed = absurd consumed
-    come_more (Some input) (Some xs) (Some ys) given begun chunk taken left takes come consumed =
-        taken_lines input given begun chunk taken left xs ys takes come consumed ∙ sym (append_assoc given (lines_in taken) (lines_in (left ++ ys)))
-
-    leaves_chunk : (old mid new : Home D) (had has now : Option (List ℕ)) (given : List (List ℕ)) (begun chunk taken left : List ℕ) (a b : Option (List ℕ)) → HasServed asked seen may_leave old mid given a b
-        → Takes begun chunk taken left → HasCome had has given begun → Consumes has now chunk → IfSome had (λ input. Leaves old mid (lines_in input)) → LeavesGroup mid new (lines_in taken) → IfSome had (λ input. Leaves old new (lines_in input))
-    leaves_chunk old mid new None has now given begun chunk taken left a b one takes come consumed run more = tt
-    leaves_chunk old mid new (Some input) None now given begun chunk taken left a b one takes come consumed run more = absurd come
-    leaves_chunk old mid new (Some input) (Some xs) None given begun chunk taken left a b one takes come consumed run more = absurd consumed
-    leaves_chunk old mid new (Some input) (Some xs) (Some ys) given begun chunk taken left a b one takes come consumed run more =
-        leaves_more old mid new (lines_in input) given (lines_in taken) (lines_in (left ++ ys)) a b one (taken_lines input given begun chunk taken left xs ys takes come consumed) run more
-
-    pub serving_leaves : (old mid new : Home D) (had has now : Option (List ℕ)) (begun chunk taken left : List ℕ) (a b : Option (List ℕ)) → IsServing old mid had has begun a b → Takes begun chunk taken left → Consumes has now chunk
-        → LeavesGroup mid new (lines_in taken) → IfSome had (λ input. Leaves old new (lines_in input))
-    serving_leaves old mid new had has now begun chunk taken left a b run takes consumed more =
-        leaves_chunk old mid new had has now run.given begun chunk taken left a b run.served takes run.come consumed run.leaves more
-
-    pub serving_more : (old mid new : Home D) (had has now : Option (List ℕ)) (begun chunk taken left : List ℕ) (a b c : Option (List ℕ)) → IsServing old mid had has begun a b → Takes begun chunk taken left → Consumes has now chunk
-        → HasServed asked seen may_leave mid new (lines_in taken) b c → LeavesGroup mid new (lines_in taken) → IsServing old new had now left a c
-    serving_more old mid new had has now begun chunk taken left a b c run takes consumed two more = record {
+    pub serving_more : (old mid new : Home D) (had has now : Option (List ℕ)) (start begun chunk taken left : List ℕ) (a b c : Option (List ℕ)) → IsServing old mid had has start begun a b → Takes begun chunk taken left
+        → Consumes has now chunk → HasServed asked seen may_leave mid new (lines_in taken) b c → LeavesGroup mid new (lines_in taken) → IsServing old new had now start left a c
+    serving_more old mid new had has now start begun chunk taken left a b c run takes consumed two more = record {
       given = run.given ++ lines_in taken;
+      read = run.read ++ chunk;
       served = served_both old mid new run.given (lines_in taken) a b c run.served two;
-      come = come_more had has now run.given begun chunk taken left takes run.come consumed;
-      leaves = serving_leaves old mid new had has now begun chunk taken left a b run takes consumed more;
+      came = consumes_more had has now run.read chunk run.came consumed;
+      lines = λ m. taken_lines start run.read begun chunk taken left m run.given run.lines takes ∙ sym (append_assoc run.given (lines_in taken) (lines_in (left ++ m)));
+      leaves = leaves_more old mid new run.given (lines_in taken) run.served.done run.leaves more;
       none = takes.none;
     }
 
-    -- ---- the end of the input
-    come_end : (had has now : Option (List ℕ)) (given : List (List ℕ)) (begun : List ℕ) → HasCome had has given begun → Consumes has now [] → IsAtEnd now → IfSome had (λ input. lines_in input ≡ given ++ lines_in begun)
-    come_end None has now given begun come consumed ended = tt
-    come_end (Some input) None now given begun come consumed ended = absurd come
-    come_end (Some input) (Some xs) None given begun come consumed ended = absurd consumed
-    come_end (Some input) (Some xs) (Some ys) given begun come consumed ended =
-        come ∙ ap (λ zs. given ++ lines_in (begun ++ zs)) (consumed ∙ ended) ∙ ap (λ zs. given ++ lines_in zs) (append-nil begun)
+    -- ---- how it ends
+    -- the clauses of `serve` on what was served and on what a crash leaves
+    abbrev pub Served : (errors : D → List Error) → Home D → Home D → Option (List ℕ) → Option (List ℕ) → (start begun : List ℕ) → Option (List ℕ) → Option (List ℕ) → Result (Unit {0}) ServeFault → Type 0
+    Served errors old new had now start begun before after result =
+        (read : List ℕ) × (unread : List ℕ) × IsKnownAs had (read ++ unread) × IsKnownAs now unread
+        × ServesAs asked seen may_leave errors old new (lines_in (start ++ (read ++ unread))) (lines_in (begun ++ unread)) before after result
 
-    both_some : (o : Option (List ℕ)) (P Q R : List ℕ → Type 0) → IfSome o P → IfSome o Q → ((input : List ℕ) → P input → Q input → R input) → IfSome o R
-    both_some None P Q R h k f = tt
-    both_some (Some input) P Q R h k f = f input h k
+    abbrev pub AnyMoment : Home D → Home D → Option (List ℕ) → List ℕ → Type 0
+    AnyMoment old new had start = (input : List ℕ) × IsKnownAs had input × LeavesSome old new (lines_in (start ++ input))
 
-    pub ended_leaves : (old mid new : Home D) (had has now : Option (List ℕ)) (begun : List ℕ) (a b : Option (List ℕ)) → IsServing old mid had has begun a b → Consumes has now [] → IsAtEnd now
-        → LeavesGroup mid new (lines_in begun) → IfSome had (λ input. Leaves old new (lines_in input))
-    ended_leaves old mid new had has now begun a b run consumed ended more =
-        both_some had _ _ _ (come_end had has now run.given begun run.come consumed ended) run.leaves
-        (λ input is leaves. leaves_more old mid new (lines_in input) run.given (lines_in begun) [] a b run.served (is ∙ ap (λ ls. run.given ++ ls) (sym (append-nil (lines_in begun)))) leaves more)
+    -- by what was read, and by the lines that a crash may leave
+    any_moment : (old new : Home D) (had now : Option (List ℕ)) (start read : List ℕ) (given others : List (List ℕ)) → Consumes had now read
+        → lines_in (start ++ (read ++ rest_of now)) ≡ given ++ others → LeavesSome old new given → AnyMoment old new had start
+    any_moment old new had now start read given others came is leaves =
+        (read ++ rest_of now, known_input had now read came, weaker moment left_since (home_device old) (home_device new) _ _ (λ c some. some_more old (lines_in (start ++ (read ++ rest_of now))) given others c is some) leaves)
+
+    pub moments_kept : (old mid : Home D) (had has now : Option (List ℕ)) (start begun : List ℕ) (a b : Option (List ℕ)) → IsServing old mid had has start begun a b → Keeps has now → AnyMoment old mid had start
+    moments_kept old mid had has now start begun a b run same =
+        any_moment old mid had now start run.read run.given (lines_in (begun ++ rest_of now)) (consumes_kept had has now run.read run.came same) (run.lines (rest_of now)) run.leaves
+
+    pub moments_so_far : (old mid : Home D) (had has now : Option (List ℕ)) (start begun chunk : List ℕ) (a b : Option (List ℕ)) → IsServing old mid had has start begun a b → Consumes has now chunk → AnyMoment old mid had start
+    moments_so_far old mid had has now start begun chunk a b run consumed =
+        any_moment old mid had now start (run.read ++ chunk) run.given (lines_in (begun ++ (chunk ++ rest_of now))) (consumes_more had has now run.read chunk run.came consumed)
+        (ap (λ (bs : List ℕ). lines_in (start ++ bs)) (append_assoc run.read chunk (rest_of now)) ∙ run.lines (chunk ++ rest_of now)) run.leaves
+
+    pub moments_of_a_chunk : (old mid new : Home D) (had has now : Option (List ℕ)) (start begun chunk taken left : List ℕ) (a b : Option (List ℕ)) → IsServing old mid had has start begun a b → Takes begun chunk taken left
+        → Consumes has now chunk → LeavesGroup mid new (lines_in taken) → AnyMoment old new had start
+    moments_of_a_chunk old mid new had has now start begun chunk taken left a b run takes consumed more =
+        any_moment old new had now start (run.read ++ chunk) (run.given ++ lines_in taken) (lines_in (left ++ rest_of now)) (consumes_more had has now run.read chunk run.came consumed)
+        (taken_lines start run.read begun chunk taken left (rest_of now) run.given run.lines takes ∙ sym (append_assoc run.given (lines_in taken) (lines_in (left ++ rest_of now))))
+        (leaves_more old mid new run.given (lines_in taken) run.served.done run.leaves more)
+
+    -- the lines of an input that has ended
+    ended_lines : (now : Option (List ℕ)) (start read begun : List ℕ) (given : List (List ℕ)) → ((m : List ℕ) → lines_in (start ++ (read ++ m)) ≡ given ++ lines_in (begun ++ m)) → HasNoLineFeed begun → IsAtEnd now
+        → lines_in (start ++ (read ++ rest_of now)) ≡ given ++ cut_line begun
+    ended_lines now start read begun given lines none ended =
+        lines (rest_of now) ∙ ap (λ (bs : List ℕ). given ++ lines_in (begun ++ bs)) (rest_at_end now ended) ∙ ap (λ (bs : List ℕ). given ++ lines_in bs) (append-nil begun) ∙ ap (λ ls. given ++ ls) (lines_in-begun begun none)
+
+    read_all : (had has now : Option (List ℕ)) (read : List ℕ) → Consumes had has read → Consumes has now [] → Consumes had now read
+    read_all had has now read came consumed = subst (Consumes had now) (append-nil read) (consumes_more had has now read [] came consumed)
+
+    pub moments_at_the_end : (old mid new : Home D) (had has now : Option (List ℕ)) (start begun : List ℕ) (a b : Option (List ℕ)) → IsServing old mid had has start begun a b → Consumes has now [] → IsAtEnd now
+        → LeavesGroup mid new (cut_line begun) → AnyMoment old new had start
+    moments_at_the_end old mid new had has now start begun a b run consumed ended more =
+        any_moment old new had now start run.read (run.given ++ cut_line begun) [] (read_all had has now run.read run.came consumed)
+        (ended_lines now start run.read begun run.given run.lines run.none ended ∙ sym (append-nil (run.given ++ cut_line begun)))
+        (leaves_more old mid new run.given (cut_line begun) run.served.done run.leaves more)
 
     -- ---- faults
-    first_lines : (had has : Option (List ℕ)) (given : List (List ℕ)) (begun : List ℕ) → HasCome had has given begun → IfSome had (λ input. (rest : List (List ℕ)) × (lines_in input ≡ given ++ rest))
-    first_lines None has given begun come = tt
-    first_lines (Some input) None given begun come = absurd come
-    first_lines (Some input) (Some more) given begun come = (lines_in (begun ++ more), come)
+    module _ (errors : D → List Error) where
+      kept_nil : (old : Home D) (given : List (List ℕ)) (file : List ℕ) → HasKept (site_of old).roster (state_in old) (entries_in (seen (home_device old))) given file
+          → HasKept (site_of old).roster (state_in old) (entries_in (seen (home_device old))) (given ++ []) file
+      kept_nil old given file kept = subst (λ (ls : List (List ℕ)). HasKept (site_of old).roster (state_in old) (entries_in (seen (home_device old))) ls file) (sym (append-nil given)) kept
 
-    stopped : (old mid new : Home D) (had has : Option (List ℕ)) (begun : List ℕ) (a b c : Option (List ℕ)) → IsServing old mid had has begun a b → Keeps b c
-        → IfSome had (λ input. (first : List (List ℕ)) × (rest : List (List ℕ)) × (lines_in input ≡ first ++ rest) × HasAnswered asked (site_of old).roster (state_in old) first a c)
-    stopped old mid new had has begun a b c run same =
-        if_some_so had _ _ (first_lines had has run.given begun run.come)
-        (λ input rest. (run.given, rest.0, rest.1, answered_kept asked (site_of old).roster (state_in old) run.given a b c run.served.answered same))
+      from_group : (old : Home D) (given group unread : List (List ℕ)) (file : List ℕ)
+          → HasKept (site_of old).roster (state_in old) (entries_in (seen (home_device old))) given file ⊎ HasKept (site_of old).roster (state_in old) (entries_in (seen (home_device old))) (given ++ group) file
+          → KeepsFrom (site_of old).roster (state_in old) (entries_in (seen (home_device old))) given (group ++ unread) file
+      from_group old given group unread file (inl before) = ([], group ++ unread, refl, kept_nil old given file before)
+      from_group old given group unread file (inr after) = (group, unread, refl, after)
 
-    pub serving_fault : (old mid new : Home D) (had has : Option (List ℕ)) (begun : List ℕ) (a b c : Option (List ℕ)) (fault : ServeFault) → IsServing old mid had has begun a b → WritesNothing b c fault
-        → IfSome had (λ input. ServesAs asked seen may_leave old new (lines_in input) a c (Err fault))
-    serving_fault old mid new had has begun a b c (serve.Home fault) run nothing = stopped old mid new had has begun a b c run nothing
-    serving_fault old mid new had has begun a b c (serve.Read error) run nothing = stopped old mid new had has begun a b c run nothing
-    serving_fault old mid new had has begun a b c (serve.Write error) run nothing = if_some had _ (λ input. tt)
+      -- no memory for the input, behind lines that are served
+      pub served_memory : (old mid : Home D) (had has now : Option (List ℕ)) (start begun chunk left : List ℕ) (a b : Option (List ℕ)) (r : Result (Unit {0}) ServeFault) → IsServing old mid had has start begun a b → Consumes has now chunk
+          → IsErrAnd r (λ fault. fault ≡ serve.Home home.NoMemory) → Served errors old mid had now start left a b r
+      served_memory old mid had has now start begun chunk left a b (Ok done) run consumed e = absurd e
+      served_memory old mid had has now start begun chunk left a b (Err fault) run consumed e =
+          let others = lines_in (begun ++ (chunk ++ rest_of now)) in
+          let behind : StopsBehind asked seen may_leave errors old mid run.given others (lines_in (left ++ rest_of now)) a b (serve.Home home.NoMemory) = (
+            run.served.answered,
+            λ c now_left. ([], others, refl, kept_nil old run.given c (left_open mid c run.served.done.is_open now_left ∙ (λ i. Ok (entries_of (run.served.done.kept i))))),
+          ) in (
+            run.read ++ chunk,
+            rest_of now,
+            known_input had now (run.read ++ chunk) (consumes_more had has now run.read chunk run.came consumed),
+            known_rest now,
+            (
+              run.given,
+              others,
+              ap (λ (bs : List ℕ). lines_in (start ++ bs)) (append_assoc run.read chunk (rest_of now)) ∙ run.lines (chunk ++ rest_of now),
+              subst (StopsBehind asked seen may_leave errors old mid run.given others (lines_in (left ++ rest_of now)) a b) (sym e) behind,
+            ),
+          )
 
-    -- what is left where memory is refused, or the input can't be read
-    pub serving_memory : (old mid new : Home D) (had has : Option (List ℕ)) (begun : List ℕ) (a b : Option (List ℕ)) (r : Result (Unit {0}) ServeFault) → IsServing old mid had has begun a b
-        → IsErrAnd r (λ fault. fault ≡ serve.Home home.NoMemory) → IfSome had (λ input. ServesAs asked seen may_leave old new (lines_in input) a b r)
-    serving_memory old mid new had has begun a b (Ok done) run e = absurd e
-    serving_memory old mid new had has begun a b (Err fault) run e = serving_fault old mid new had has begun a b b fault run (subst (WritesNothing b b) (sym e) (keeps_same b))
+      -- an input that can't be read further
+      pub served_read : (old mid : Home D) (had has now : Option (List ℕ)) (start begun : List ℕ) (a b : Option (List ℕ)) (fault : ServeFault) → IsServing old mid had has start begun a b → Keeps has now
+          → ((error : Error) × (fault ≡ serve.Read error)) → Served errors old mid had now start begun a b (Err fault)
+      served_read old mid had has now start begun a b fault run same is =
+          let others = lines_in (begun ++ rest_of now) in
+          let behind : StopsBehind asked seen may_leave errors old mid run.given others others a b (serve.Read is.0) = (run.served, refl) in (
+            run.read,
+            rest_of now,
+            known_input had now run.read (consumes_kept had has now run.read run.came same),
+            known_rest now,
+            (run.given, others, run.lines (rest_of now), subst (StopsBehind asked seen may_leave errors old mid run.given others others a b) (sym is.1) behind),
+          )
 
-    pub serving_ends : (old mid new : Home D) (had has now : Option (List ℕ)) (begun : List ℕ) (a b c : Option (List ℕ)) (r : Result (Unit {0}) ServeFault) → IsServing old mid had has begun a b → Consumes has now [] → IsAtEnd now
-        → OnOk r (HasServed asked seen may_leave mid new (lines_in begun) b c) → IfErr r (WritesNothing b c) → IfSome had (λ input. ServesAs asked seen may_leave old new (lines_in input) a c r)
-    serving_ends old mid new had has now begun a b c (Ok done) run consumed ended two nothing =
-        if_some_so had _ _ (come_end had has now run.given begun run.come consumed ended)
-        (λ input is. subst (λ (ls : List (List ℕ)). HasServed asked seen may_leave old new ls a c) (sym is) (served_both old mid new run.given (lines_in begun) a b c run.served two))
-    serving_ends old mid new had has now begun a b c (Err fault) run consumed ended two nothing = serving_fault old mid new had has begun a b c fault run nothing
+      module _ (counts : CountsNow) where
+        -- a group that isn't served, behind lines that are
+        stops_behind : (old mid new : Home D) (given group unread : List (List ℕ)) (a b c : Option (List ℕ)) (fault : ServeFault) → HasServed asked seen may_leave old mid given a b
+            → StopsAt asked seen errors moment left_since mid new group b c fault → LeavesGroup mid new group → StopsBehind asked seen may_leave errors old new given (group ++ unread) unread a c fault
+        stops_behind old mid new given group unread a b c (serve.Home fault) one stopped more = (
+          answered_kept asked (site_of old).roster (state_in old) given a b c one.answered stopped.1,
+          λ file left. from_group old given group unread file (group_left old mid given group file one.done (more.each file (counts (home_device new) (moment (home_device mid)) file more.later left))),
+        )
+        stops_behind old mid new given group unread a b c (serve.NotKept fault) one stopped more = (
+          group,
+          b,
+          refl,
+          one.answered,
+          stopped.0,
+          λ file left. stopped.1.each file (counts (home_device new) (moment (home_device mid)) file stopped.1.later left) ∙ (λ i. Ok (entries_of (one.done.kept i))),
+          (stopped.2.0, (stopped.2.1.0, subst (λ (bytes : ℕ). StopsAnswers stopped.2.1.0 (errors (home_device new)) bytes fault) (ap (λ es. length (at_rest es)) (kept_behind old mid given group one.done)) stopped.2.1.1)),
+        )
+        stops_behind old mid new given group unread a b c (serve.Write error) one stopped more =
+            λ file left. from_group old given group unread file (group_left old mid given group file one.done (more.each file (counts (home_device new) (moment (home_device mid)) file more.later left)))
+        stops_behind old mid new given group unread a b c (serve.Read error) one stopped more = absurd stopped
+
+        pub served_stop : (old mid new : Home D) (had has now : Option (List ℕ)) (start begun chunk taken left : List ℕ) (a b c : Option (List ℕ)) (fault : ServeFault) → IsServing old mid had has start begun a b → Takes begun chunk taken left
+            → Consumes has now chunk → StopsAt asked seen errors moment left_since mid new (lines_in taken) b c fault → LeavesGroup mid new (lines_in taken) → Served errors old new had now start left a c (Err fault)
+        served_stop old mid new had has now start begun chunk taken left a b c fault run takes consumed stopped more = (
+          run.read ++ chunk,
+          rest_of now,
+          known_input had now (run.read ++ chunk) (consumes_more had has now run.read chunk run.came consumed),
+          known_rest now,
+          (
+            run.given,
+            lines_in taken ++ lines_in (left ++ rest_of now),
+            taken_lines start run.read begun chunk taken left (rest_of now) run.given run.lines takes,
+            stops_behind old mid new run.given (lines_in taken) (lines_in (left ++ rest_of now)) a b c fault run.served stopped more,
+          ),
+        )
+
+        pub served_at_the_end : (old mid new : Home D) (had has now : Option (List ℕ)) (start begun left : List ℕ) (a b c : Option (List ℕ)) (r : Result (Unit {0}) ServeFault) → IsServing old mid had has start begun a b
+            → Consumes has now [] → IsAtEnd now → left ≡ [] → OnOk r (HasServed asked seen may_leave mid new (cut_line begun) b c) → IfErr r (StopsAt asked seen errors moment left_since mid new (cut_line begun) b c)
+            → LeavesGroup mid new (cut_line begun) → Served errors old new had now start left a c r
+        served_at_the_end old mid new had has now start begun left a b c r run consumed ended empty two stopped more = (
+          run.read,
+          rest_of now,
+          known_input had now run.read (read_all had has now run.read run.came consumed),
+          known_rest now,
+          ends r two stopped,
+        )
+          where
+            is : lines_in (start ++ (run.read ++ rest_of now)) ≡ run.given ++ cut_line begun
+            is = ended_lines now start run.read begun run.given run.lines run.none ended
+
+            unread : lines_in (left ++ rest_of now) ≡ []
+            unread = (λ i. lines_in (empty i ++ rest_at_end now ended i))
+
+            ends : (r : Result (Unit {0}) ServeFault) → OnOk r (HasServed asked seen may_leave mid new (cut_line begun) b c) → IfErr r (StopsAt asked seen errors moment left_since mid new (cut_line begun) b c)
+                → ServesAs asked seen may_leave errors old new (lines_in (start ++ (run.read ++ rest_of now))) (lines_in (left ++ rest_of now)) a c r
+            ends (Ok done) two stopped = subst (λ (ls : List (List ℕ)). HasServed asked seen may_leave old new ls a c) (sym is) (served_both old mid new run.given (cut_line begun) a b c run.served two)
+            ends (Err fault) two stopped = (
+              run.given,
+              cut_line begun ++ lines_in (left ++ rest_of now),
+              is ∙ ap (λ ls. run.given ++ ls) (sym (append-nil (cut_line begun))) ∙ ap (λ ls. run.given ++ (cut_line begun ++ ls)) (sym unread),
+              subst (λ (ls : List (List ℕ)). StopsBehind asked seen may_leave errors old new run.given (cut_line begun ++ ls) ls a c fault) (sym unread)
+                  (stops_behind old mid new run.given (cut_line begun) [] a b c fault run.served stopped more),
+            )

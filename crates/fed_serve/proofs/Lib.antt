@@ -1,3 +1,5 @@
+pub mod Writing
 pub mod InputLines
+pub mod Stops
 pub mod Groups
 pub mod WordLines

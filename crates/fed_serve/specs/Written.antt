@@ -18,3 +18,11 @@ told_bytes told = bytes_of told.answer ++ words_line (option_map string_bytes to
 
 abbrev pub told_text : List Told → List ℕ
 told_text answers = flat_map told_bytes answers
+
+-- to a line that can't be kept, with these words
+abbrev pub not_kept_bytes : Option (List ℕ) → List ℕ
+not_kept_bytes words = codes "not kept" ++ 10 ∷ [] ++ words_line words ++ 10 ∷ []
+
+-- to each of these lines
+abbrev pub not_kept_text : Option (List ℕ) → List (List ℕ) → List ℕ
+not_kept_text words given = flat_map (λ line. not_kept_bytes words) given

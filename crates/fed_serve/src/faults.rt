@@ -9,7 +9,7 @@ use thiserror::Error;
 /// Why an input is not served to its end.
 #[derive(Clone, Copy, Debug, Drop, Error)]
 pub enum ServeFault {
-    /// 1: the site can't answer, for this cause.
+    /// 1: there is no memory for the input, or the disk failed so that lines may be kept or not. They are not answered.
     #[error("{0}")]
     Home(HomeFault),
     /// 2: the input can't be read.
@@ -18,12 +18,15 @@ pub enum ServeFault {
     /// 3: the answers can't be written.
     #[error("standard output: {0}")]
     Write(io::Error),
+    /// 4: lines can't be kept, for this cause. They are answered so, and nothing of them is kept.
+    #[error("{0}")]
+    NotKept(HomeFault),
 }
 
 impl ServeFault {
     ghost use Rattle.fed_serve.specs.Fault.{number_of};
 
-    /// The number of the fault: 1 for `Home`, 2 for `Read` and 3 for `Write`.
+    /// The number of the fault: 1 for `Home`, 2 for `Read`, 3 for `Write` and 4 for `NotKept`.
     pub fn number(self) -> u8
         ensures { result ≡ number_of self }
     {
@@ -31,6 +34,7 @@ impl ServeFault {
             ServeFault::Home(_) => 1,
             ServeFault::Read(_) => 2,
             ServeFault::Write(_) => 3,
+            ServeFault::NotKept(_) => 4,
         }
     }
 }

@@ -1,32 +1,28 @@
 -- What a replica does to commands is what a site does.
-use Rattle.std.specs.Prelude.{not, Option, Some, None, Result, Ok, Err, ◌||◌}
-use Rattle.std.proofs.Common.{◌≡◌, ℕ, ◌+◌, ◌<◌, Bool, true, false, List, [], ◌∷◌, ◌++◌, length, get_or, take, replicate, nat_lt, if◌then◌else◌, nat_le, refl, sym, ap, ap₂, subst, ◌∙◌, append_assoc, append-nil, arith}
-use Rattle.std.proofs.lemmas.Bool.{leb-false}
+use Rattle.std.specs.Prelude.{Option, Some, None, Result, Ok, Err, ◌||◌}
+use Rattle.std.proofs.Common.{◌≡◌, ℕ, ◌+◌, ◌<◌, Bool, true, false, List, [], ◌∷◌, ◌++◌, length, get_or, take, refl, sym, ap, ap₂, subst, ◌∙◌, append_assoc, append-nil, arith}
 use Rattle.std.specs.Option.{option_or}
-use Rattle.std.proofs.lemmas.List.{get_or-set_same, length-take-le, take_more}
+use Rattle.std.proofs.lemmas.List.{length-take-le, take_more}
 use Rattle.fed_stamp.specs.declared.versions.ClockFull.{ClockFull}
 use Rattle.fed_stamp.specs.Stamp.{StampValue}
-use Rattle.fed_stamp.specs.Version.{IsVersion, counter_of, is_below, next_stamp, raised}
-use Rattle.fed_stamp.proofs.VersionLaws.{below_itself, not_below_from_place}
+use Rattle.fed_stamp.specs.Version.{next_stamp}
 use Rattle.fed_model.specs.declared.askers.Who.{Who}
 use Rattle.fed_model.specs.declared.commands.Command.{Command}
 use Rattle.fed_model.specs.declared.refusals.Refusal.{Refusal}
 use Rattle.fed_model.specs.declared.replies.Reply.{Reply}
 use Rattle.fed_model.specs.Body.{Body}
-use Rattle.fed_board.specs.Board.{board_reads}
 use Rattle.fed_model.specs.View.{View}
-use Rattle.fed_theory.specs.ViewSteps.{add_to_view}
 use Rattle.fed_model.specs.Desk.{first_of}
 use Rattle.fed_model.specs.Answer.{Answer, Answer.Refuses, Answer.Replies, adds as adds_body, answer_to, answer_unless, effect, replies, reply_with, reply_without}
 use Rattle.fed_model.specs.Refusals.{refusals}
-use Rattle.fed_replica.specs.Replica.{ReplicaValue, IsDone}
-use Rattle.fed_theory.proofs.NextStamps.{next_is, next_uncovered}
-use Rattle.fed_model.specs.declared.outcomes.Outcome.{Outcome}
+use Rattle.fed_model.specs.Outcome.{outcome_of_answer}
+use Rattle.fed_replica.specs.Outcome.{said_by}
+use Rattle.fed_replica.specs.Replica.{ReplicaValue}
 use Rattle.fed_replica.specs.State.{State, state_of}
 use Rattle.fed_answers.specs.Outcome.{answer_line, outcome_text, reply_text}
 use Rattle.fed_site.specs.Acts.{DoneAs, line_for, next_line, stamp_line}
 use Rattle.fed_site.specs.declared.complaints.Complaint.{Complaint}
-use Rattle.fed_site.specs.Says.{Done, after_command, after_commands, does, followed}
+use Rattle.fed_site.specs.Says.{Done, after_command, after_commands, followed, refused_at}
 
 -- ---- an answer refuses, adds nothing, or adds an operation with the next stamp
 module _ (v : View) (here : ℕ) (who : Who) (command : Command) (P : Answer → Type 0)
@@ -77,80 +73,31 @@ stamped_reply roster version here t (Command.Finish job moment status) e = refl
 stamped_reply roster version here t (Command.Reserve window) e = ap (stamp_line roster) e
 stamped_reply roster version here t (Command.Cancel id) e = refl
 
--- ---- the version grows where an operation is added
-grown : (v : List ℕ) (here : ℕ) (t : StampValue) → IsVersion v → here < 16 → next_stamp v here ≡ Ok t → is_below (raised v t) v ≡ false
-grown v here t lawful small e =
-    let next = next_is v here t e in
-    let site : t.site ≡ here = next.site in
-    let counter = next.counter in
-    let size : length v ≡ 16 = lawful.0 in
-    let within : t.site < length v = omega arith in
-    let at : counter_of (raised v t) t.site ≡ _ = get_or-set_same v t.site _ 0 within in
-    let uncovered : nat_le t.counter (counter_of v t.site) ≡ false = next_uncovered v here t next in
-    let above : counter_of v t.site < t.counter = leb-false _ _ uncovered in
-    let more : counter_of v t.site < counter_of (raised v t) t.site = omega arith in
-    sym (not_below_from_place (raised v t) v t.site more)
+-- ---- what is said of an answer
+module _ (roster : List (List ℕ × ℕ)) (v : View) (here : ℕ) (who : Who) (index : ℕ) (command : Command) where
+  -- where it replies, the line at hand is that of the reply, and there is no complaint
+  abbrev Replied : Reply → Answer → Type 0
+  Replied reply a = Ok reply ≡ said_by a
+      → (line_for (next_line roster v.version here command) reply ≡ answer_line (outcome_text roster (outcome_of_answer a))) × (None ≡ refused_at index a)
 
-module _ (roster : List (List ℕ × ℕ)) (old new : ReplicaValue) (who : Who) (index : ℕ) (command : Command) (site : new.site ≡ old.site) (heard : new.heard ≡ old.heard) where
-  abbrev v : View
-  v = board_reads old.board
+  abbrev did : Reply → Result Reply Refusal
+  did reply = Ok reply
 
-  reads_as : (w : View) → board_reads new.board ≡ w → state_of new ≡ record { site = old.site; view = w; heard = (state_of old).heard }
-  reads_as w e = λ i. record { site = site i; view = e i; heard = λ from. if nat_lt from 16 then get_or (heard i) from (replicate 16 0) else replicate 16 0 }
+  replied_refused : (reply : Reply) (r : Refusal) → Replied reply (Refuses r)
+  replied_refused reply r e = cc
 
-  -- ---- a reply
-  module _ (reply : Reply) (lawful : IsVersion v.version) (small : old.site < 16) where
-    abbrev did : Reply → Result Reply Refusal
-    did r = Ok r
+  replied_nothing : (reply : Reply) → Replied reply (Replies (reply_without command) None)
+  replied_nothing reply e =
+      let same : reply ≡ reply_without command = let h : did reply ≡ did (reply_without command) = e in cc in
+      (ap (line_for (next_line roster v.version here command)) same ∙ plain_reply roster (next_line roster v.version here command) command, refl)
 
-    abbrev Acted : Answer → Type 0
-    Acted a = IsDone a v (Ok reply) (board_reads new.board)
-        → DoneAs new (line_for (next_line roster v.version old.site command) reply) (not (is_below (board_reads new.board).version v.version)) None (does roster (state_of old) index a)
+  replied_added : (reply : Reply) (t : StampValue) (body : Body) → next_stamp v.version here ≡ Ok t → Replied reply (Replies (reply_with t command) (Some (t, body)))
+  replied_added reply t body is e =
+      let same : reply ≡ reply_with t command = let h : did reply ≡ did (reply_with t command) = e in cc in
+      (ap (line_for (next_line roster v.version here command)) same ∙ stamped_reply roster v.version here t command is, refl)
 
-    acted_refused : (r : Refusal) → Acted (Refuses r)
-    acted_refused r d = let h : did reply ≡ Err r = d.0 in cc
-
-    acted_nothing : Acted (Replies (reply_without command) None)
-    acted_nothing d =
-        let same : reply ≡ reply_without command = let h : did reply ≡ did (reply_without command) = d.0 in cc in
-        record {
-          after = reads_as v d.1;
-          said = ap (line_for (next_line roster v.version old.site command)) same ∙ plain_reply roster (next_line roster v.version old.site command) command;
-          keeps = ap (λ (w : View). not (is_below w.version v.version)) d.1 ∙ ap not (below_itself v.version);
-          complains = refl;
-        }
-
-    acted_added : (t : StampValue) (body : Body) → next_stamp v.version old.site ≡ Ok t → Acted (Replies (reply_with t command) (Some (t, body)))
-    unfolding add_to_view
-    acted_added t body e d = record {
-      after = reads_as (add_to_view v (t, body)) d.1;
-      said = ap (line_for (next_line roster v.version old.site command)) d.0 ∙ stamped_reply roster v.version old.site t command e;
-      keeps = ap (λ (w : View). not (is_below w.version v.version)) d.1 ∙ ap not (grown v.version old.site t lawful small e);
-      complains = refl;
-    }
-
-    pub acted : IsDone (answer_to v old.site who command) v (Ok reply) (board_reads new.board)
-        → DoneAs new (line_for (next_line roster v.version old.site command) reply) (not (is_below (board_reads new.board).version v.version)) None (after_command roster (state_of old) who index command)
-    acted d = answer_cases v old.site who command Acted acted_refused acted_nothing acted_added d
-
-  -- ---- a refusal
-  module _ (refusal : Refusal) (other : refusal ≡ Refusal.NoMemory → ⊥) where
-    abbrev denied : Refusal → Result Reply Refusal
-    denied r = Err r
-
-    abbrev Refused : Answer → Type 0
-    Refused a = IsDone a v (Err refusal) (board_reads new.board) → DoneAs new (answer_line (outcome_text roster (Outcome.Refused refusal))) false (Some (Complaint.Refused index refusal)) (does roster (state_of old) index a)
-
-    was_refused : (a : Answer) → Refused a
-    was_refused (Refuses r) d =
-        let same : refusal ≡ r = let h : denied refusal ≡ denied r = d.0 in cc in
-        record { after = reads_as v d.1; said = ap (λ (x : Refusal). answer_line (outcome_text roster (Outcome.Refused x))) same; keeps = refl; complains = ap (λ (x : Refusal). Some (Complaint.Refused index x)) same }
-    was_refused (Replies r None) d = let h : denied refusal ≡ Ok r = d.0 in cc
-    was_refused (Replies r (Some new)) d = absurd (other d.0)
-
-    pub refused : IsDone (answer_to v old.site who command) v (Err refusal) (board_reads new.board)
-        → DoneAs new (answer_line (outcome_text roster (Outcome.Refused refusal))) false (Some (Complaint.Refused index refusal)) (after_command roster (state_of old) who index command)
-    refused d = was_refused (answer_to v old.site who command) d
+  pub replied : (reply : Reply) → Replied reply (answer_to v here who command)
+  replied reply = answer_cases v here who command (Replied reply) (replied_refused reply) (replied_nothing reply) (replied_added reply)
 
 -- ---- one command alone
 or_none : (a : Bool) → (a || false) ≡ a

@@ -7,6 +7,7 @@ use Rattle.fed_wire.specs.declared.faults.WireFault.{WireFault}
 use Rattle.fed_wire.specs.Packet.{PacketValue}
 use Rattle.fed_wire.specs.Reading.{packet_in}
 use Rattle.fed_model.specs.Answer.{Answer, Answer.Refuses, Answer.Replies, answer_to}
+use Rattle.fed_replica.specs.Outcome.{adds}
 use Rattle.fed_replica.specs.State.{State, after_answer, after_packet_unless, lacking}
 use Rattle.fed_script.specs.Line.{Line, skips, begins, acts, lists, misuses, ships, takes, plans, compares, own_line_in}
 use Rattle.fed_answers.specs.Outcome.{answer_line}
@@ -17,7 +18,7 @@ use Rattle.fed_site.specs.declared.complaints.Complaint.{Complaint}
 use Rattle.fed_site.specs.Journal.{after_lines, kept_line, kept_lines}
 use Rattle.fed_site.specs.Line.{packet_text}
 use Rattle.fed_site.specs.Packets.{is_foreign, is_forgotten}
-use Rattle.fed_site.specs.Says.{adds, after_command, after_commands, after_look, after_plan, after_reading, after_receipt, after_text, after_told, site_says, undone}
+use Rattle.fed_site.specs.Says.{after_command, after_commands, after_look, after_plan, after_reading, after_receipt, after_text, after_told, site_says, undone}
 
 -- ---- commands
 answer_unkept : (s : State) (a : Answer) → adds a ≡ false → after_answer s a ≡ s

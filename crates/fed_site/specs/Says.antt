@@ -9,7 +9,7 @@ use Rattle.fed_wire.specs.Reading.{packet_in}
 use Rattle.fed_model.specs.Answer.{Answer, Answer.Refuses, Answer.Replies, answer_to}
 use Rattle.fed_replica.specs.State.{State, after_answer, after_packet_unless, lacking}
 use Rattle.fed_model.specs.Outcome.{outcome_of_answer}
-use Rattle.fed_replica.specs.Outcome.{outcome_of_packet_unless}
+use Rattle.fed_replica.specs.Outcome.{adds, outcome_of_packet_unless}
 use Rattle.fed_script.specs.Line.{Line, skips, acts, lists, misuses, ships, plans, own_line_in}
 use Rattle.fed_answers.specs.Outcome.{answer_line, outcome_text, usage_line}
 use Rattle.fed_answers.specs.Planned.{plan_if_any, plan_or_none}
@@ -58,11 +58,6 @@ abbrev pub undone : State → List ℕ → Complaint → Done
 undone s text complaint = record { after = s; text = text; kept = false; complaint = Some complaint }
 
 -- ---- commands
-abbrev pub adds : Answer → Bool
-adds (Refuses refusal) = false
-adds (Replies reply None) = false
-adds (Replies reply (Some new)) = true
-
 -- why the command with this index in the line is not done
 abbrev pub refused_at : ℕ → Answer → Option Complaint
 refused_at index (Refuses refusal) = Some (Complaint.Refused index refusal)

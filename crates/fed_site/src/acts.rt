@@ -1,8 +1,7 @@
 //! What a site does to commands.
-ghost use Rattle.std.specs.Prelude.{◌≡◌, ◌≢◌, ◌||◌, false, Some, None, Err, IfOk, OnErr};
+ghost use Rattle.std.specs.Prelude.{◌≡◌, ◌||◌, false, Some, None, IfOk, OnErr};
 ghost use Rattle.std.specs.Cow.{cow_str_bytes};
 ghost use Rattle.fed_board.specs.Board.{board_reads};
-ghost use Rattle.fed_model.specs.declared.refusals.Refusal.{Refusal};
 ghost use Rattle.fed_model.specs.declared.outcomes.Outcome.{Outcome};
 ghost use Rattle.fed_answers.specs.Outcome.{answer_line, outcome_text};
 ghost use Rattle.fed_site.specs.declared.complaints.Complaint.{Complaint};
@@ -16,8 +15,8 @@ use fed_board::Board;
 use fed_lattice::NoMemory;
 use fed_model::Outcome;
 use fed_record::{Command, Refusal, Reply, Who};
-use fed_replica::Replica;
-use fed_stamp::{Roster, SiteId, site_is_in_range, version_is_in_range};
+use fed_replica::{Answered, Replica};
+use fed_stamp::{Roster, SiteId};
 use std::alloc::{AllocError, Global};
 use std::borrow::CowStr;
 
@@ -79,20 +78,6 @@ fn reply_line(ready: AnswerText, reply: Reply) -> AnswerText
     }
 }
 
-/// What a replica says to a command, but for want of memory.
-fn told(said: Result<Reply, Refusal>) -> Result<Result<Reply, Refusal>, NoMemory>
-    ensures told { IfOk result (λ told. (told ≡ said) × (said ≢ Err Refusal.NoMemory)) }
-    ensures memory { OnErr result (said ≡ Err Refusal.NoMemory) }
-{
-    match said {
-        Ok(reply) => Ok(Ok(reply)),
-        Err(refusal) => match refusal {
-            Refusal::NoMemory => Err(NoMemory),
-            _ => Ok(Err(refusal)),
-        },
-    }
-}
-
 /// What is said where the command at this index of a line is refused.
 fn refused(
     alloc: Global,
@@ -128,20 +113,15 @@ fn ask(
     ensures site { replica.new.site ≡ here }
     ensures unchanged { OnErr result (replica.new ≡ replica.old) }
 {
-    let before = replica.board().version();
-    version_is_in_range(&before);
-    site_is_in_range(here);
     let text = ready_line(alloc, roster, here, replica.board(), command)?;
-    match told(replica.act(who, command))? {
-        Ok(reply) => {
-            let kept = !replica.board().version().le(&before);
-            let text = reply_line(text, reply);
-            Ok(Done {
-                text,
-                kept,
-                complaint: None,
-            })
-        }
+    let answered = replica.answer(who, command)?;
+    let Answered { said, added } = answered;
+    match said {
+        Ok(reply) => Ok(Done {
+            text: reply_line(text, reply),
+            kept: added,
+            complaint: None,
+        }),
         Err(refusal) => Ok(refused(alloc, roster, index, &refusal)?),
     }
 }

@@ -4,7 +4,6 @@ ghost use Rattle.std.specs.Cow.{cow_str_bytes};
 ghost use Rattle.std.specs.Fmt.{decimal};
 ghost use Rattle.std.specs.List.{list_any};
 ghost use Rattle.fed_stamp.specs.declared.sites.TheConstants.{SITES};
-ghost use Rattle.fed_delta.specs.declared.faults.Absorb.{Absorb};
 ghost use Rattle.fed_wire.specs.declared.faults.WireFault.{WireFault};
 ghost use Rattle.fed_answers.specs.Outcome.{answer_line};
 ghost use Rattle.fed_site.specs.Acts.{DoneAs};
@@ -16,14 +15,11 @@ ghost use Rattle.fed_wire.specs.Reading.{packet_in};
 use crate::acts::{Done, undone};
 use crate::complaints::Complaint;
 use fed_answers::{AnswerText, outcome_line};
-use fed_delta::Absorb;
 use fed_lattice::NoMemory;
 use fed_model::Outcome;
-use fed_replica::{Replica, Taken};
+use fed_replica::{Received, Replica, Taken};
 use fed_stamp::{Roster, SiteId, Version, site_is_in_range};
-use fed_wire::{
-    Packet, Part, Place, WireFault, read, sender_is_in_range, told_packets_are_within_limits, write,
-};
+use fed_wire::{Packet, Part, Place, WireFault, read, told_packets_are_within_limits, write};
 use std::alloc::{AllocError, Global};
 use std::borrow::CowStr;
 
@@ -118,17 +114,6 @@ fn taken_line(taken: Taken) -> AnswerText
     }
 }
 
-/// The site of which something is lacked, but for want of memory.
-fn lacked(fault: Absorb) -> Result<SiteId, NoMemory>
-    ensures lacked { IfOk result (λ site. fault ≡ Absorb.Gap site) }
-    ensures memory { OnErr result (fault ≡ Absorb.NoMemory) }
-{
-    match fault {
-        Absorb::Gap { missing } => Ok(missing),
-        Absorb::NoMemory => Err(NoMemory),
-    }
-}
-
 /// Takes a packet of this federation. Where memory is refused, nothing changes.
 fn take_known(
     alloc: Global,
@@ -141,16 +126,13 @@ fn take_known(
     ensures site { replica.new.site ≡ replica.old.site }
     ensures unchanged { OnErr result (replica.new ≡ replica.old) }
 {
-    sender_is_in_range(packet);
-    match replica.take(packet) {
-        Ok(taken) => Ok(Done {
+    match replica.receive(packet)? {
+        Received::Taken(taken) => Ok(Done {
             text: taken_line(taken),
             kept: true,
             complaint: None,
         }),
-        Err(fault) => {
-            let missing = lacked(fault)?;
-            site_is_in_range(missing);
+        Received::Gap(missing) => {
             let text = outcome_line(alloc, roster, Outcome::Gap(missing))?;
             Ok(undone(text, Complaint::Gap(missing)))
         }

@@ -80,18 +80,21 @@ pub fn grants_are_held_by_one()
         HasOpenGrant ((run n events).site a).set job a → HasOpenGrant ((run n events).site b).set job b → a ≡ b }
 {}
 
-/// No job begins at two sites, or twice: among the operations of all sites it has one Begin at most, made by the site
-/// that holds its grant.
+/// No job begins at two sites, or twice: among the operations of all sites it has one Begin at most.
 pub fn jobs_begin_once()
     ensures one { (n : ℕ) (events : List Event) → n ≤ SITES → (job s t : StampValue) (a b : Beginning) →
         Has (all_operations (run n events) n) (s, Begin job a) →
         Has (all_operations (run n events) n) (t, Begin job b) → (s ≡ t) × (a ≡ b) }
-    ensures by_holder { (n : ℕ) (events : List Event) → n ≤ SITES → (job s : StampValue) (a : Beginning) →
-        Has (all_operations (run n events) n) (s, Begin job a) →
-        IsHolder (all_operations (run n events) n) job s.site }
     ensures at_one_site { (n : ℕ) (events : List Event) → n ≤ SITES → (x y : ℕ) (job s t : StampValue)
         (a b : Beginning) → Has ((run n events).site x).set (s, Begin job a) →
         Has ((run n events).site y).set (t, Begin job b) → s.site ≡ t.site }
+{}
+
+/// The Begin of a job is made by the site that holds its grant.
+pub fn begun_by_the_holder()
+    ensures { (n : ℕ) (events : List Event) → n ≤ SITES → (job s : StampValue) (a : Beginning) →
+        Has (all_operations (run n events) n) (s, Begin job a) →
+        IsHolder (all_operations (run n events) n) job s.site }
 {}
 
 /// Of all requests to begin a job one at most is done, at whatever sites and however often it is asked.

@@ -1,30 +1,25 @@
 -- What a replica does, it does to each state that it reads as.
-use Rattle.std.specs.Prelude.{cond, not, Some, None, Result, Ok, Err, IfErr, IfOk, OnErr, OnOk}
-use Rattle.std.proofs.Common.{◌≡◌, ℕ, ◌<◌, ◌==◌, List, true, get_or, replicate, refl, ap, sym, subst, ◌∙◌}
+use Rattle.std.specs.Prelude.{cond, not, Option, Some, None, Result}
+use Rattle.std.proofs.Common.{◌≡◌, ℕ, ◌<◌, ◌==◌, get_or, replicate, refl, ap, sym, ◌∙◌}
 use Rattle.fed_stamp.specs.Indexes.{put}
-use Rattle.fed_stamp.specs.Version.{is_below, joined, IsFirstAbove}
+use Rattle.fed_stamp.specs.Version.{is_below, joined}
 use Rattle.fed_model.specs.declared.askers.Who.{Who}
 use Rattle.fed_model.specs.declared.commands.Command.{Command}
+use Rattle.fed_model.specs.declared.outcomes.Outcome.{Outcome}
 use Rattle.fed_model.specs.declared.refusals.Refusal.{Refusal}
 use Rattle.fed_model.specs.declared.replies.Reply.{Reply}
-use Rattle.fed_board.specs.Board.{board_reads}
-use Rattle.fed_model.specs.View.{View}
-use Rattle.fed_theory.specs.ViewSteps.{join_records}
-use Rattle.fed_delta.specs.declared.faults.Absorb.{Absorb}
-use Rattle.fed_delta.specs.Absorb.{IsFaultOf}
-use Rattle.fed_wire.specs.Packet.{PacketValue}
-use Rattle.fed_model.specs.declared.taken.Taken.{Taken}
 use Rattle.fed_model.specs.Answer.{Answer, Answer.Refuses, Answer.Replies, answer_to}
-use Rattle.fed_replica.specs.Replica.{ReplicaValue, IsDone, heard_from}
-use Rattle.fed_model.specs.declared.outcomes.Outcome.{Outcome}
-use Rattle.fed_theory.proofs.Posts.{none_missing}
-use Rattle.fed_theory.proofs.Posts.{first_missing}
-use Rattle.fed_threads.specs.declared.journal.Asked.TheVariants.{Do, Ship, Take}
-use Rattle.fed_threads.specs.declared.locked_sites.Delivered.{Delivered}
-use Rattle.fed_replica.specs.State.{State, IsState, after_answer, lacking, after_packet_unless}
 use Rattle.fed_model.specs.Outcome.{outcome_of_answer, outcome_of}
-use Rattle.fed_replica.specs.Outcome.{outcome_of_packet_unless}
-use Rattle.fed_threads.specs.Replay.{IsDeliveredBy, outcome_of_delivered}
+use Rattle.fed_model.specs.Packet.{missing}
+use Rattle.fed_model.specs.View.{View}
+use Rattle.fed_board.specs.Board.{board_reads}
+use Rattle.fed_theory.specs.ViewSteps.{add_to_view, join_records}
+use Rattle.fed_wire.specs.Packet.{PacketValue}
+use Rattle.fed_replica.proofs.Lefts.{heard_in}
+use Rattle.fed_replica.specs.Outcome.{outcome_of_packet_unless, said_by}
+use Rattle.fed_replica.specs.Replica.{ReplicaValue, heard_from}
+use Rattle.fed_replica.specs.State.{State, IsState, after_answer, after_packet_unless, lacking, state_of}
+use Rattle.fed_threads.specs.declared.journal.Asked.TheVariants.{Do, Ship, Take}
 use Rattle.fed_threads.proofs.Journals.{Does}
 
 -- ---- a command
@@ -35,32 +30,33 @@ module _ (old new : ReplicaValue) (who : Who) (command : Command) (site : new.si
   reads_as : (v : View) → board_reads new.board ≡ v → IsState new (record { site = s.site; view = v; heard = s.heard })
   reads_as v e = record { site = site ∙ is.site; board = e; heard = heard_still }
 
-  -- the state and the outcome that an answer comes to
-  abbrev Went : Answer → Outcome → Type 0
-  Went a o = IsState new (after_answer s a) × (o ≡ outcome_of_answer a)
+  -- the state that an answer comes to
+  went : (a : Answer) → board_reads new.board ≡ (after_answer (state_of old) a).view → IsState new (after_answer s a)
+  went (Refuses refusal) e = reads_as s.view (e ∙ is.board)
+  went (Replies reply None) e = reads_as s.view (e ∙ is.board)
+  went (Replies reply (Some new_op)) e = reads_as (add_to_view s.view new_op) (e ∙ ap (λ v. add_to_view v new_op) is.board)
 
-  abbrev Gone : Answer → Result Reply Refusal → Type 0
-  Gone a said = (said ≡ Err Refusal.NoMemory → ⊥) → Went a (outcome_of said)
+  same_answer : answer_to (board_reads old.board) old.site who command ≡ answer_to s.view s.site who command
+  same_answer = λ j. answer_to (is.board j) (is.site j) who command
 
-  went : (a : Answer) (said : Result Reply Refusal) → IsDone a s.view said (board_reads new.board) → Gone a said
-  went (Refuses refusal) said d = subst (Gone (Refuses refusal)) (sym d.0) (λ _. (reads_as s.view d.1, refl))
-  went (Replies reply None) said d = subst (Gone (Replies reply None)) (sym d.0) (λ _. (reads_as s.view d.1, refl))
-  went (Replies reply (Some e)) (Ok said) d = λ _. (reads_as _ d.1, ap (λ r. Outcome.Replied r) d.0)
-  went (Replies reply (Some e)) (Err refusal) d = λ other. absurd (other (ap Err d.0))
+  pub command_went : state_of new ≡ after_answer (state_of old) (answer_to (board_reads old.board) old.site who command) → IsState new (after_answer s (answer_to s.view s.site who command))
+  command_went left = went (answer_to s.view s.site who command) (ap (λ (t : State). t.view) (left ∙ ap (after_answer (state_of old)) same_answer))
 
-  pub command_went : (said : Result Reply Refusal) → IsDone (answer_to (board_reads old.board) old.site who command) (board_reads old.board) said (board_reads new.board)
-      → Gone (answer_to s.view s.site who command) said
-  command_went said d =
-      went (answer_to s.view s.site who command) said
-      (subst (λ v. IsDone (answer_to v s.site who command) v said (board_reads new.board)) is.board
-      (subst (λ (k : ℕ). IsDone (answer_to (board_reads old.board) k who command) (board_reads old.board) said (board_reads new.board)) is.site d))
+  -- the outcome is that of the answer
+  outcome_said : (a : Answer) → outcome_of (said_by a) ≡ outcome_of_answer a
+  outcome_said (Refuses refusal) = refl
+  outcome_said (Replies reply new_op) = refl
+
+  pub command_said : (said : Result Reply Refusal) → said ≡ said_by (answer_to (board_reads old.board) old.site who command) → outcome_of said ≡ outcome_of_answer (answer_to s.view s.site who command)
+  command_said said told = ap outcome_of (told ∙ ap said_by same_answer) ∙ outcome_said (answer_to s.view s.site who command)
 
 pub does_command : (old new : ReplicaValue) (place site : ℕ) (who : Who) (command : Command) → new.site ≡ old.site → new.heard ≡ old.heard → (said : Result Reply Refusal)
-    → IsDone (answer_to (board_reads old.board) old.site who command) (board_reads old.board) said (board_reads new.board) → (said ≡ Err Refusal.NoMemory → ⊥) → Does old new place (Do site who command) None (outcome_of said)
-does_command old new place site who command same heard said done told = record {
+    → said ≡ said_by (answer_to (board_reads old.board) old.site who command) → state_of new ≡ after_answer (state_of old) (answer_to (board_reads old.board) old.site who command)
+    → Does old new place (Do site who command) None (outcome_of said)
+does_command old new place site who command same heard said told left = record {
   same = same;
-  then = λ s is. (command_went old new who command same heard s is said done told).0;
-  says = λ s is. (command_went old new who command same heard s is said done told).1;
+  then = λ s is. command_went old new who command same heard s is left;
+  says = λ s is. command_said old new who command same heard s is said told;
 }
 
 -- ---- a shipment
@@ -68,66 +64,45 @@ pub does_ship : (r : ReplicaValue) (place site to : ℕ) → Does r r place (Shi
 does_ship r place site to = record { same = refl; then = λ s is. is; says = λ s is. refl }
 
 -- ---- a packet
-gap_found : (old : ReplicaValue) (p : PacketValue) (lacks : ℕ) → lacks < 16 → IsFirstAbove p.delta.need old.board.version lacks → (s : State) → IsState old s → lacking s p ≡ Some lacks
-gap_found old p lacks small first s is =
-    let seen : old.board.version ≡ s.view.version = ap (λ (v : View). v.version) is.board in
-    first_missing p.delta.need s.view.version lacks small (subst (λ v. IsFirstAbove p.delta.need v lacks) seen first)
+module _ (old new : ReplicaValue) (p : PacketValue) (sent : p.sender < 16) (s : State) (is : IsState old s) where
+  abbrev before : State
+  before = state_of old
 
-does_gap : (old new : ReplicaValue) (place site sender at : ℕ) (p : PacketValue) (lacks : ℕ) → lacks < 16 → IsFirstAbove p.delta.need old.board.version lacks → new ≡ old
-    → Does old new place (Take site sender at) (Some p) (Outcome.Gap lacks)
-does_gap old new place site sender at p lacks small first same = record {
-  same = ap (λ (r : ReplicaValue). r.site) same;
-  then = λ s is. subst (λ o. IsState new (after_packet_unless o s p)) (sym (gap_found old p lacks small first s is)) (subst (λ r. IsState r s) (sym same) is);
-  says = λ s is. ap (λ o. outcome_of_packet_unless o s p) (sym (gap_found old p lacks small first s is));
+  heard_is : (from : ℕ) → from < 16 → before.heard from ≡ s.heard from
+  heard_is from h = sym (heard_in old from h) ∙ is.heard from h
+
+  joined_heard : (from : ℕ) → from < 16 → put before.heard p.sender (joined (before.heard p.sender) p.delta.changes.version) from ≡ put s.heard p.sender (joined (s.heard p.sender) p.delta.changes.version) from
+  joined_heard from h = λ j. cond (from == p.sender) (joined (heard_is p.sender sent j) p.delta.changes.version) (heard_is from h j)
+
+  same_lacks : lacking before p ≡ lacking s p
+  same_lacks = ap (λ (v : View). missing p.delta.need v.version) is.board
+
+  then_at : (lacks : Option ℕ) → state_of new ≡ after_packet_unless lacks before p → IsState new (after_packet_unless lacks s p)
+  then_at (Some site) left = record {
+    site = ap (λ (t : State). t.site) left ∙ is.site;
+    board = ap (λ (t : State). t.view) left ∙ is.board;
+    heard = λ from h. heard_in new from h ∙ ap (λ (t : State). t.heard from) left ∙ heard_is from h;
+  }
+  then_at None left = record {
+    site = ap (λ (t : State). t.site) left ∙ is.site;
+    board = ap (λ (t : State). t.view) left ∙ ap (λ v. join_records v (board_reads p.delta.changes)) is.board;
+    heard = λ from h. heard_in new from h ∙ ap (λ (t : State). t.heard from) left ∙ joined_heard from h;
+  }
+
+  says_at : (lacks : Option ℕ) → outcome_of_packet_unless lacks before p ≡ outcome_of_packet_unless lacks s p
+  says_at (Some site) = refl
+  says_at None = λ j. Outcome.Taken (record { grew = not (is_below p.delta.changes.version (is.board j).version) })
+
+  pub packet_went : state_of new ≡ after_packet_unless (lacking before p) before p → IsState new (after_packet_unless (lacking s p) s p)
+  packet_went left = then_at (lacking s p) (left ∙ ap (λ o. after_packet_unless o before p) same_lacks)
+
+  pub packet_said : (o : Outcome) → o ≡ outcome_of_packet_unless (lacking before p) before p → o ≡ outcome_of_packet_unless (lacking s p) s p
+  packet_said o said = said ∙ ap (λ l. outcome_of_packet_unless l before p) same_lacks ∙ says_at (lacking s p)
+
+pub does_packet : (old new : ReplicaValue) (place at sender from : ℕ) (p : PacketValue) → p.sender < 16 → new.site ≡ old.site → (o : Outcome) → o ≡ outcome_of_packet_unless (lacking (state_of old) p) (state_of old) p
+    → state_of new ≡ after_packet_unless (lacking (state_of old) p) (state_of old) p → Does old new place (Take at sender from) (Some p) o
+does_packet old new place at sender from p small same o said left = record {
+  same = same;
+  then = λ s is. packet_went old new p small s is left;
+  says = λ s is. packet_said old new p small s is o said;
 }
-
-module _ (old new : ReplicaValue) (p : PacketValue) (told : Taken) (grew : told.grew ≡ not (is_below p.delta.changes.version old.board.version)) (site : new.site ≡ old.site)
-    (below : is_below p.delta.need old.board.version ≡ true) (board : board_reads new.board ≡ join_records (board_reads old.board) (board_reads p.delta.changes)) (sent : p.sender < 16)
-    (heard : (from : ℕ) → from < 16 → heard_from new from ≡ put (heard_from old) p.sender (joined (heard_from old p.sender) p.delta.changes.version) from) where
-  module _ (s : State) (is : IsState old s) where
-    seen : old.board.version ≡ s.view.version
-    seen = ap (λ (v : View). v.version) is.board
-
-    enough : lacking s p ≡ None
-    enough = none_missing p.delta.need s.view.version (subst (λ v. is_below p.delta.need v ≡ true) seen below)
-
-    joined_heard : (from : ℕ) → from < 16 → put (heard_from old) p.sender (joined (heard_from old p.sender) p.delta.changes.version) from ≡ put s.heard p.sender (joined (s.heard p.sender) p.delta.changes.version) from
-    joined_heard from h = λ j. cond (from == p.sender) (joined (is.heard p.sender sent j) p.delta.changes.version) (is.heard from h j)
-
-    taken : IsState new (after_packet_unless None s p)
-    taken = record {
-      site = site ∙ is.site;
-      board = board ∙ ap (λ v. join_records v (board_reads p.delta.changes)) is.board;
-      heard = λ from h. heard from h ∙ joined_heard from h;
-    }
-
-    pub then_taken : IsState new (after_packet_unless (lacking s p) s p)
-    then_taken = subst (λ o. IsState new (after_packet_unless o s p)) (sym enough) taken
-
-    pub says_taken : Outcome.Taken told ≡ outcome_of_packet_unless (lacking s p) s p
-    says_taken =
-        (λ j. Outcome.Taken (record { grew = (grew ∙ ap (λ (v : List ℕ). not (is_below p.delta.changes.version v)) seen) j }))
-        ∙ ap (λ o. outcome_of_packet_unless o s p) (sym enough)
-
-  pub does_take : (place at sender from : ℕ) → Does old new place (Take at sender from) (Some p) (Outcome.Taken told)
-  does_take place at sender from = record { same = site; then = then_taken; says = says_taken }
-
--- what a replica says to a packet, and what it then is
-pub record Takes (old new : ReplicaValue) (p : PacketValue) (said : Result Taken Absorb) : Type 0 where
-  pub joins : OnOk said (board_reads new.board ≡ join_records (board_reads old.board) (board_reads p.delta.changes))
-  pub hears : OnOk said ((from : ℕ) → from < 16 → heard_from new from ≡ put (heard_from old) p.sender (joined (heard_from old p.sender) p.delta.changes.version) from)
-  pub site : new.site ≡ old.site
-  pub grew : IfOk said (λ told. told.grew ≡ not (is_below p.delta.changes.version old.board.version))
-  pub known : OnOk said (is_below p.delta.need old.board.version ≡ true)
-  pub fault : IfErr said (λ e. IsFaultOf p.delta.need old.board.version e)
-  pub unchanged : OnErr said (new ≡ old)
-
-pub does_delivered : (old new : ReplicaValue) (place at sender from : ℕ) (p : PacketValue) → p.sender < 16 → (said : Result Taken Absorb) → Takes old new p said
-    → (delivered : Delivered) → IsDeliveredBy said delivered → Does old new place (Take at sender from) (Some p) (outcome_of_delivered delivered)
-does_delivered old new place at sender from p small (Ok told) t delivered is =
-    subst (λ (r : Delivered). Does old new place (Take at sender from) (Some p) (outcome_of_delivered r)) (sym is)
-    (does_take old new p told t.grew t.site t.known t.joins small t.hears place at sender from)
-does_delivered old new place at sender from p small (Err (Absorb.Gap lacks)) t delivered is =
-    subst (λ (r : Delivered). Does old new place (Take at sender from) (Some p) (outcome_of_delivered r)) (sym is.0)
-    (does_gap old new place at sender from p lacks is.1 t.fault t.unchanged)
-does_delivered old new place at sender from p small (Err Absorb.NoMemory) t delivered is = absurd is

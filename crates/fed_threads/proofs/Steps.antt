@@ -18,12 +18,12 @@ use Rattle.fed_model.specs.Refusals.{refusals}
 use Rattle.fed_model.specs.declared.outcomes.Outcome.{Outcome}
 use Rattle.fed_threads.specs.declared.journal.Asked.{Asked}
 use Rattle.fed_threads.specs.declared.journal.Asked.TheVariants.{Do, Ship, Take}
-use Rattle.fed_threads.specs.declared.locked_sites.Delivered.{Delivered}
+use Rattle.fed_replica.specs.declared.answers.Received.{Received}
 use Rattle.fed_threads.specs.Calls.{Steps}
 use Rattle.fed_replica.specs.State.{State, after_answer, lacking, after_packet_unless}
 use Rattle.fed_model.specs.Outcome.{outcome_of_answer}
-use Rattle.fed_replica.specs.Outcome.{outcome_of_packet_unless}
-use Rattle.fed_threads.specs.Replay.{outcome_of_delivered, after_event, outcome_at, Kept, replay, Appends}
+use Rattle.fed_replica.specs.Outcome.{outcome_of_packet_unless, outcome_of_received}
+use Rattle.fed_threads.specs.Replay.{after_event, outcome_at, Kept, replay, Appends}
 use Rattle.fed_threads.specs.Seat.{Known, claimed, version_of, IsUpToDate, Covers, NamesSite}
 use Rattle.fed_threads.proofs.Journals.{event_grows}
 
@@ -85,9 +85,9 @@ covers_event s place (Ship site to) packet len small = tt
 covers_event s place (Take site sender at) None len small = tt
 covers_event s place (Take site sender at) (Some p) len small = covers_packet (lacking s p) s p
 
-pub named_delivered : (delivered : Delivered) → NamesSite (outcome_of_delivered delivered)
-named_delivered (Delivered.Taken taken) = tt
-named_delivered (Delivered.Gap lacks) = tt
+pub named_received : (received : Received) → NamesSite (outcome_of_received received)
+named_received (Received.Taken taken) = tt
+named_received (Received.Gap lacks) = tt
 
 -- ---- the entry is added to the journal and claimed, where what was found before and after is as the calls say
 pub steps : (old new : Kept) (before kept after : Known) (site index : ℕ) (found left : List ℕ) (asked : Asked) (packet : Option PacketValue) (outcome : Outcome)

@@ -1,9 +1,6 @@
 -- A site's journal, run again from the site's empty replica.
-use Rattle.std.specs.Prelude.{◌≡◌, ℕ, ◌+◌, ◌<◌, List, [], ◌∷◌, ◌++◌, length, Option, Some, None, Result, Ok, Err}
-use Rattle.fed_stamp.specs.declared.sites.TheConstants.{SITES}
-use Rattle.fed_delta.specs.declared.faults.Absorb.{Absorb}
+use Rattle.std.specs.Prelude.{◌≡◌, ℕ, ◌+◌, List, [], ◌∷◌, ◌++◌, length, Option, Some, None}
 use Rattle.fed_wire.specs.Packet.{PacketValue}
-use Rattle.fed_model.specs.declared.taken.Taken.{Taken}
 use Rattle.fed_model.specs.Answer.{answer_to}
 use Rattle.fed_replica.specs.Replica.{ReplicaValue}
 use Rattle.fed_replica.specs.State.{State, IsState, empty_at, after_answer, lacking, after_packet_unless}
@@ -13,7 +10,6 @@ use Rattle.fed_replica.specs.Outcome.{outcome_of_packet_unless}
 use Rattle.fed_threads.specs.declared.journal.Asked.{Asked}
 use Rattle.fed_threads.specs.declared.journal.Asked.TheVariants.{Do, Ship, Take}
 use Rattle.fed_threads.specs.declared.journal.Entry.{Entry}
-use Rattle.fed_threads.specs.declared.locked_sites.Delivered.{Delivered}
 
 -- what an entry leaves of a replica; a take is of the packet that the entry holds
 abbrev pub after_event : State → Asked → Option PacketValue → State
@@ -59,13 +55,3 @@ pub record Appends (old new : Kept) (asked : Asked) (packet : Option PacketValue
   pub entries : new.entries ≡ old.entries ++ record { asked = asked; packet = packet; outcome = outcome } ∷ []
   pub answer : outcome ≡ outcome_at (replay old) (length old.entries) asked packet
   pub state : replay new ≡ after_event (replay old) asked packet
-
-abbrev pub outcome_of_delivered : Delivered → Outcome
-outcome_of_delivered (Delivered.Taken taken) = Outcome.Taken taken
-outcome_of_delivered (Delivered.Gap lacks) = Outcome.Gap lacks
-
--- what `take` says, but for want of memory; a site is one of the 16
-abbrev pub IsDeliveredBy : Result Taken Absorb → Delivered → Type 0
-IsDeliveredBy (Ok taken) delivered = delivered ≡ Delivered.Taken taken
-IsDeliveredBy (Err (Absorb.Gap lacks)) delivered = (delivered ≡ Delivered.Gap lacks) × (lacks < SITES)
-IsDeliveredBy (Err Absorb.NoMemory) delivered = ⊥

@@ -5,18 +5,20 @@ ghost use Rattle.fed_model.specs.declared.refusals.Refusal.{Refusal};
 ghost use Rattle.fed_threads.specs.Calls.{IsFaultOf, Steps, LooksAt};
 ghost use Rattle.fed_replica.specs.State.{IsMadeFor};
 ghost use Rattle.fed_model.specs.Outcome.{outcome_of};
-ghost use Rattle.fed_threads.specs.Replay.{replay, outcome_of_delivered};
+ghost use Rattle.fed_replica.specs.Outcome.{outcome_of_received};
+ghost use Rattle.fed_threads.specs.Replay.{replay};
 ghost use Rattle.fed_threads.specs.Seat.{known_by};
 ghost use Rattle.fed_threads.specs.declared.journal.Asked.TheVariants.{Do, Ship, Take};
 ghost use Rattle.fed_model.specs.declared.outcomes.Outcome.TheVariants as Outcome;
 
 use crate::fault::CallFault;
 use crate::journal::{Asked, Claim};
-use crate::locked_sites::{Delivered, LockedSite, outcome_of, outcome_of_delivered};
+use crate::locked_sites::{LockedSite, outcome_of};
 use crate::parcel::Parcel;
 use crate::seat::Seat;
 use fed_board::Board;
 use fed_record::{Command, Refusal, Reply, Who};
+use fed_replica::Received;
 use fed_stamp::SiteId;
 use fed_world::Outcome;
 
@@ -112,9 +114,9 @@ pub(crate) fn take_in(
     site: SiteId,
     parcel: Parcel,
     seat: &mut Seat,
-) -> Result<Delivered, CallFault>
+) -> Result<Received, CallFault>
     ensures ok { IfOk result (λ r. Steps locked.old locked.new (known_by seat.old) (known_by seat.new) site
-        (Take site parcel.sender parcel.place) (Some parcel.packet) (outcome_of_delivered r)) }
+        (Take site parcel.sender parcel.place) (Some parcel.packet) (outcome_of_received r)) }
     ensures err { OnErr result ((locked.new ≡ locked.old) × (known_by seat.new ≡ known_by seat.old)) }
     ensures behind { IfErr result (IsFaultOf locked.old (known_by seat.old) site) }
 {
@@ -126,11 +128,11 @@ pub(crate) fn take_in(
     let index = locked.len();
     seat.check(site, index, locked.version())?;
     seat.reserve()?;
-    let delivered = locked.take(site, sender, place, packet)?;
+    let received = locked.take(site, sender, place, packet)?;
     let claim = Claim {
         site,
         index,
-        outcome: outcome_of_delivered(&delivered),
+        outcome: received.outcome(),
     };
     let asked = Asked::Take {
         site,
@@ -138,5 +140,5 @@ pub(crate) fn take_in(
         place,
     };
     seat.claim(&claim, locked.len(), locked.version(), &asked);
-    Ok(delivered)
+    Ok(received)
 }

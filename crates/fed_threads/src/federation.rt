@@ -13,14 +13,14 @@ ghost use Rattle.fed_model.specs.declared.outcomes.Outcome.TheVariants as Outcom
 use crate::calls::{call_in, look_in, ship_in, take_in};
 use crate::fault::CallFault;
 use crate::gate::Gate;
-use crate::locked_sites::{Delivered, LockedSite};
+use crate::locked_sites::LockedSite;
 use crate::parcel::Parcel;
 use crate::seat::Seat;
 use crossbeam_channel::{Receiver, SendError, Sender};
 use fed_board::Board;
 use fed_lattice::NoMemory;
 use fed_record::{Command, Refusal, Reply, Who};
-use fed_replica::Taken;
+use fed_replica::{Received, Taken};
 use fed_stamp::{Roster, SiteId};
 use std::alloc::Global;
 use std::sync::{Mutex, Wait};
@@ -237,8 +237,8 @@ impl<G: Gate> Federation<G> {
         };
         let mut locked = self.sites[index].lock(rt);
         match take_in(&mut locked, site, parcel, seat)? {
-            Delivered::Taken(taken) => Ok(Next::Taken(taken)),
-            Delivered::Gap(missing) => Ok(Next::Gap(missing)),
+            Received::Taken(taken) => Ok(Next::Taken(taken)),
+            Received::Gap(missing) => Ok(Next::Gap(missing)),
         }
     }
 

@@ -1,24 +1,21 @@
 //! What lies under a site's lock.
 ghost use Rattle.std.specs.Prelude.{◌≡◌, ◌≢◌, ◌<◌, ◌++◌, ◌∷◌, [], Ok, Err, IfOk, OnOk, OnErr, None, Some, length, vec_capacity, vec_len};
 ghost use Rattle.fed_board.specs.Board.{board_reads};
-ghost use Rattle.fed_delta.specs.declared.faults.Absorb.{Absorb};
 ghost use Rattle.fed_model.specs.declared.refusals.Refusal.{Refusal};
 ghost use Rattle.fed_stamp.specs.Version.{IsVersion};
-ghost use Rattle.fed_stamp.specs.declared.sites.TheConstants.{SITES};
 ghost use Rattle.fed_replica.specs.State.{IsMadeFor};
 ghost use Rattle.fed_model.specs.Outcome.{outcome_of};
-ghost use Rattle.fed_threads.specs.Replay.{replay, Appends, IsDeliveredBy, outcome_of_delivered};
-ghost use Rattle.fed_threads.specs.declared.locked_sites.Delivered.{Delivered};
+ghost use Rattle.fed_replica.specs.Outcome.{outcome_of_received};
+ghost use Rattle.fed_threads.specs.Replay.{replay, Appends};
 ghost use Rattle.fed_threads.specs.Seat.{NamesSite};
 ghost use Rattle.fed_threads.specs.declared.journal.Asked.TheVariants.{Do, Ship, Take};
 ghost use Rattle.fed_model.specs.declared.outcomes.Outcome.TheVariants as Outcome;
 
 use crate::journal::{Asked, Entry};
 use fed_board::Board;
-use fed_delta::Absorb;
 use fed_lattice::NoMemory;
 use fed_record::{Command, Refusal, Reply, Who};
-use fed_replica::{Replica, Taken};
+use fed_replica::{Received, Replica};
 use fed_stamp::{SiteId, Version, site_is_in_range, version_is_in_range};
 use fed_wire::{Packet, sender_is_in_range};
 use fed_world::Outcome;
@@ -41,62 +38,6 @@ impl Model for LockedSite {
     ghost view = { λ s. record { site = s.replica.site; entries = s.journal.items } };
 
     ghost invariant = { λ s. IsReplayed s.replica s.journal.items };
-}
-
-/// What came of a packet.
-#[derive(Clone, Copy, PartialEq, Eq, Debug)]
-pub(crate) enum Delivered {
-    /// It was taken.
-    Taken(Taken),
-    /// The site lacks something of this site.
-    Gap(SiteId),
-}
-
-/// What came of a packet, as an outcome.
-pub(crate) fn outcome_of_delivered(delivered: &Delivered) -> Outcome
-    ensures { result ≡ outcome_of_delivered delivered.now }
-{
-    match delivered {
-        Delivered::Taken(taken) => Outcome::Taken(*taken),
-        Delivered::Gap(missing) => Outcome::Gap(*missing),
-    }
-}
-
-/// What is said to a command, but for want of memory.
-fn told(said: Result<Reply, Refusal>) -> Result<Result<Reply, Refusal>, NoMemory>
-    ensures ok { IfOk result (λ told. (told ≡ said) × (said ≢ Err Refusal.NoMemory)) }
-    ensures err { OnErr result (said ≡ Err Refusal.NoMemory) }
-{
-    match said {
-        Ok(reply) => Ok(Ok(reply)),
-        Err(refusal) => match refusal {
-            Refusal::NoMemory => Err(NoMemory),
-            _ => Ok(Err(refusal)),
-        },
-    }
-}
-
-/// The site that is lacked, which is one of the 16, as its type keeps it.
-fn gap(missing: SiteId) -> Delivered
-    ensures gap { result ≡ Delivered.Gap missing }
-    ensures site { missing < SITES }
-{
-    site_is_in_range(missing);
-    Delivered::Gap(missing)
-}
-
-/// What came of a packet, but for want of memory.
-fn delivered_of(said: Result<Taken, Absorb>) -> Result<Delivered, NoMemory>
-    ensures ok { IfOk result (λ delivered. IsDeliveredBy said delivered) }
-    ensures err { OnErr result (said ≡ Err Absorb.NoMemory) }
-{
-    match said {
-        Ok(taken) => Ok(Delivered::Taken(taken)),
-        Err(fault) => match fault {
-            Absorb::Gap { missing } => Ok(gap(missing)),
-            Absorb::NoMemory => Err(NoMemory),
-        },
-    }
 }
 
 /// An identifier that is replied is of one of the 16 sites, as its type keeps it.
@@ -179,7 +120,8 @@ impl LockedSite {
         ensures err { OnErr result (self.new ≡ self.old) }
     {
         self.journal.reserve(1)?;
-        let said = told(self.replica.act(who, command))?;
+        let answered = self.replica.answer(who, command)?;
+        let said = answered.said;
         replies_name_sites(&said);
         let outcome = outcome_of(&said);
         let asked = Asked::Do {
@@ -212,25 +154,20 @@ impl LockedSite {
         sender: SiteId,
         place: u64,
         packet: Packet,
-    ) -> Result<Delivered, NoMemory>
-        ensures ok { IfOk result (λ r. Appends self.old self.new (Take site sender place) (Some packet) (outcome_of_delivered r)) }
+    ) -> Result<Received, NoMemory>
+        ensures ok { IfOk result (λ r. Appends self.old self.new (Take site sender place) (Some packet) (outcome_of_received r)) }
         ensures err { OnErr result (self.new ≡ self.old) }
     {
         self.journal.reserve(1)?;
         sender_is_in_range(&packet);
-        let delivered = delivered_of(self.replica.take(&packet))?;
+        let received = self.replica.receive(&packet)?;
         let asked = Asked::Take {
             site,
             sender,
             place,
         };
-        keep(
-            &mut self.journal,
-            asked,
-            Some(packet),
-            outcome_of_delivered(&delivered),
-        );
-        Ok(delivered)
+        keep(&mut self.journal, asked, Some(packet), received.outcome());
+        Ok(received)
     }
 
     /// The replica and the journal, taken apart.

@@ -2,9 +2,8 @@
 use Rattle.std.specs.Prelude.{map, IfSome, Option, Some, None}
 use Rattle.std.proofs.Common.{◌≡◌, ◌<◌, ◌==◌, ◌⊎◌, ℕ, List, [], ◌∷◌, ◌++◌, All, Bool, true, false, length, append-nil, append_assoc, refl, sym, subst, ap, ◌∙◌, inl, inr}
 use Rattle.std.proofs.lemmas.Bool.{cases_Bool, eq-eqb, eqb-false, eqb-true}
-use Rattle.std.proofs.lemmas.List.Elements.{All-head, All-tail, All-weaker}
+use Rattle.std.proofs.lemmas.List.Elements.{All-cons, All-head, All-nil, All-tail, All-weaker}
 use Rattle.fed_stamp.specs.Indexes.{put}
-use Rattle.fed_lattice.specs.Sets.{Has}
 use Rattle.fed_lattice.specs.SetLaws.{Has-left}
 use Rattle.fed_replica.specs.State.{State, empty_at}
 use Rattle.fed_script.specs.Line.{Line, skips, begins, acts, lists, misuses, ships, takes, plans, compares, own_line_in}
@@ -15,14 +14,15 @@ use Rattle.fed_looks.specs.Look.{Look}
 use Rattle.fed_looks.specs.LookLine.{look_in_line}
 use Rattle.fed_site.specs.Journal.{after_lines, kept_line, kept_lines}
 use Rattle.fed_site.specs.Line.{packet_text}
+use Rattle.fed_site.proofs.Replays.{replayed}
 use Rattle.fed_answers.specs.Planned.{plan_if_any}
-use Rattle.fed_site.specs.Says.{IsReply, Reply, Text, PacketFor, after_look, after_plan, after_text, after_told, site_says}
+use Rattle.fed_site.specs.Says.{IsReply, Reply, Said, Text, PacketFor, after_look, after_plan, after_text, after_told, site_says}
 use Rattle.fed_turns.specs.Crash.{Happening, answered, cut, MayAllHappen, MayHappen, journal_of, lines_all, lines_at, lines_if, turn_unseen, turns_from, turns_of, turns_unseen, unseen}
-use Rattle.fed_turns.specs.Turn.{Course, MayTurns, Turn, after_turn, after_turns, beginning, shipped_by}
+use Rattle.fed_turns.specs.Turn.{AreCarried, Course, IsCarried, MayTurns, Turn, WasShipped, after_turn, after_turns, beginning, shipped_by}
 
 module _ (roster : List (List ℕ × ℕ)) where
   -- ---- one list of turns behind another
-  after_append : (ts us : List Turn) (c : Course) → after_turns roster c (ts ++ us) ≡ after_turns roster (after_turns roster c ts) us
+  pub after_append : (ts us : List Turn) (c : Course) → after_turns roster c (ts ++ us) ≡ after_turns roster (after_turns roster c ts) us
   after_append [] us c = refl
   after_append (t ∷ ts) us c = after_append ts us (after_turn roster c t)
 
@@ -42,44 +42,6 @@ module _ (roster : List (List ℕ × ℕ)) where
       ∙ sym (append_assoc (kept_line roster said.kept x) (kept_lines roster said.after xs) (kept_lines roster (after_lines roster said.after xs) ys))
 
   -- ---- lines whose answers nobody saw
-  abbrev IsCarried : Course → List ℕ → Type 0
-  IsCarried c line = IfSome (packet_text line) (λ text. Has c.shipped (answer_line text))
-
-  still : (c : Course) (t : Turn) (line : List ℕ) → IsCarried c line → IsCarried (after_turn roster c t) line
-  still c t line h = go (packet_text line) h
-    where
-      more : List (List ℕ)
-      more = shipped_by (site_says roster (c.site t.site) t.line).reply t.answer
-
-      go : (o : Option (List ℕ)) → IfSome o (λ text. Has c.shipped (answer_line text)) → IfSome o (λ text. Has (c.shipped ++ more) (answer_line text))
-      go None k = tt
-      go (Some text) k = Has-left c.shipped more (answer_line text) k
-
-  unseen_may : (site : ℕ) → site < length roster → (lines : List (List ℕ)) (c : Course) → All (IsCarried c) lines → MayTurns roster c (turns_unseen roster c site lines)
-  unseen_may site small [] c carried = tt
-  unseen_may site small (line ∷ lines) c carried = go (λ d. unseen_may site small lines d) (site_says roster (c.site site) line).reply refl
-    where
-      go : ((d : Course) → All (IsCarried d) lines → MayTurns roster d (turns_unseen roster d site lines)) → (reply : Reply) → (site_says roster (c.site site) line).reply ≡ reply
-          → MayTurns roster c (unseen site line reply ++ turns_unseen roster (after_turns roster c (unseen site line reply)) site lines)
-      go rest (PacketFor to) is = rest c (All-tail (IsCarried c) line lines carried)
-      go rest (Text text) is =
-          let t : Turn = record { site = site; line = line; answer = text } in (
-            record { site = small; said = subst (λ r. IsReply (c.site site) r text) (sym is) refl; carried = All-head (IsCarried c) line lines carried },
-            rest (after_turn roster c t) (All-weaker (IsCarried c) (IsCarried (after_turn roster c t)) (still c t) lines (All-tail (IsCarried c) line lines carried)),
-          )
-
-  happening_may : (c : Course) (h : Happening) → MayHappen roster c h → MayTurns roster c (turns_of roster c h)
-  happening_may c (answered turn) may = (may, tt)
-  happening_may c (cut site lines true) may = unseen_may site may.site lines c may.carried
-  happening_may c (cut site lines false) may = tt
-
-  pub all_may : (hs : List Happening) (c : Course) → MayAllHappen roster c hs → MayTurns roster c (turns_from roster c hs)
-  all_may [] c may = tt
-  all_may (h ∷ hs) c may =
-      let d = after_turns roster c (turns_of roster c h) in
-      may_append (turns_of roster c h) (turns_from roster d hs) c (happening_may c h may.0) (all_may hs d may.1)
-
-  -- ---- what a site holds
   -- a ship changes nothing
   ship_stays : (s : State) (line : List ℕ) (to : ℕ) → (site_says roster s line).reply ≡ PacketFor to → (site_says roster s line).after ≡ s
   ship_stays s line to e = go (packet_text line) e
@@ -108,6 +70,54 @@ module _ (roster : List (List ℕ × ℕ)) where
       go None f = looked (look_in_line roster s.site line) f
       go (Some text) f = cc
 
+  -- once more was shipped
+  pub still : (first more : List (List ℕ)) (line : List ℕ) → IsCarried first line → IsCarried (first ++ more) line
+  still first more line h = go (packet_text line) h
+    where
+      go : (o : Option (List ℕ)) → IfSome o (WasShipped first) → IfSome o (WasShipped (first ++ more))
+      go None k = tt
+      go (Some text) k = (k.0, Has-left first more (answer_line k.0) k.1, k.2)
+
+  -- a line and those behind it
+  pub parted : (answers : List (List ℕ)) (line : List ℕ) (kept : Bool) (rest : List (List ℕ)) → All (IsCarried answers) (kept_line roster kept line ++ rest)
+      → All (IsCarried answers) (kept_line roster kept line ++ []) × All (IsCarried answers) rest
+  parted answers line true rest all =
+      (All-cons (IsCarried answers) line [] (All-head (IsCarried answers) line rest all) (All-nil (IsCarried answers)), All-tail (IsCarried answers) line rest all)
+  parted answers line false rest all = (All-nil (IsCarried answers), all)
+
+  unseen_may : (site : ℕ) → site < length roster → (lines : List (List ℕ)) (c : Course) → AreCarried roster c.shipped (c.site site) lines → MayTurns roster c (turns_unseen roster c site lines)
+  unseen_may site small [] c carried = tt
+  unseen_may site small (line ∷ lines) c carried =
+      let first : Said = site_says roster (c.site site) line in
+      let parts = parted c.shipped line first.kept (kept_lines roster first.after lines) carried in
+      go (λ d. unseen_may site small lines d) first.reply refl parts.0 parts.1
+    where
+      go : ((d : Course) → AreCarried roster d.shipped (d.site site) lines → MayTurns roster d (turns_unseen roster d site lines)) → (reply : Reply) → (site_says roster (c.site site) line).reply ≡ reply
+          → AreCarried roster c.shipped (c.site site) (line ∷ []) → AreCarried roster c.shipped (site_says roster (c.site site) line).after lines
+          → MayTurns roster c (unseen site line reply ++ turns_unseen roster (after_turns roster c (unseen site line reply)) site lines)
+      go rest (PacketFor to) is one more = rest c (subst (λ (s : State). AreCarried roster c.shipped s lines) (ship_stays (c.site site) line to is) more)
+      go rest (Text text) is one more =
+          let said : Said = site_says roster (c.site site) line in
+          let t : Turn = record { site = site; line = line; answer = text } in
+          let new : List (List ℕ) = shipped_by said.reply text in
+          let later : AreCarried roster (c.shipped ++ new) said.after lines =
+          All-weaker (IsCarried c.shipped) (IsCarried (c.shipped ++ new)) (still c.shipped new) (kept_lines roster said.after lines) more in (
+            record { site = small; said = subst (λ r. IsReply (c.site site) r text) (sym is) refl; carried = one },
+            rest (after_turn roster c t) (subst (λ (s : State). AreCarried roster (c.shipped ++ new) s lines) (sym (put_same c.site site said.after)) later),
+          )
+
+  happening_may : (c : Course) (h : Happening) → MayHappen roster c h → MayTurns roster c (turns_of roster c h)
+  happening_may c (answered turn) may = (may, tt)
+  happening_may c (cut site lines true) may = unseen_may site may.site lines c may.carried
+  happening_may c (cut site lines false) may = tt
+
+  pub all_may : (hs : List Happening) (c : Course) → MayAllHappen roster c hs → MayTurns roster c (turns_from roster c hs)
+  all_may [] c may = tt
+  all_may (h ∷ hs) c may =
+      let d = after_turns roster c (turns_of roster c h) in
+      may_append (turns_of roster c h) (turns_from roster d hs) c (happening_may c h may.0) (all_may hs d may.1)
+
+  -- ---- what a site holds
   module _ (i : ℕ) where
     -- a turn is one of its site's lines
     turn_holds : (c : Course) (t : Turn) → (after_turn roster c t).site i ≡ after_lines roster (c.site i) (lines_if (t.site == i) (t.line ∷ []))
@@ -178,6 +188,10 @@ module _ (roster : List (List ℕ × ℕ)) where
         ap (kept_lines roster (empty_at i)) (lines_more hs ks)
         ∙ kept_append (empty_at i) (lines_all i hs) (lines_all i ks)
         ∙ ap (λ s. journal_of roster i hs ++ kept_lines roster s (lines_all i ks)) (sym (all_hold hs beginning))
+
+    -- the replay of what was kept is what its lines have left
+    pub opened_holds : (hs : List Happening) → after_lines roster (empty_at i) (journal_of roster i hs) ≡ held hs
+    opened_holds hs = replayed roster (empty_at i) (lines_all i hs) ∙ sym (all_hold hs beginning)
 
     -- a crash leaves it as it was, or with all lines
     pub journal_cut : (hs : List Happening) (lines entries : List (List ℕ)) → (entries ≡ journal_of roster i hs) ⊎ (entries ≡ journal_of roster i hs ++ kept_lines roster (held hs) lines)

@@ -8,3 +8,7 @@ pub mod Turns
 pub mod Alarms
 pub mod Crashes
 pub mod Begins
+pub mod Answered
+pub mod Headers
+pub mod Homes
+pub mod BeginLines

@@ -1,13 +1,11 @@
 -- Turns do what their events do in a run.
-use Rattle.std.specs.Prelude.{codes, map, suc, Option, Some, None, IfSome}
+use Rattle.std.specs.Prelude.{codes, map, nat_lt, suc, Option, Some, None, IfSome, option_map, if◌then◌else◌}
 use Rattle.std.specs.List.{position_or_len}
-use Rattle.std.specs.Str.{bytes_eq}
-use Rattle.std.proofs.Common.{◌≡◌, ◌≢◌, ◌≤◌, ◌<◌, ℕ, List, [], ◌∷◌, ◌++◌, All, Bool, length, append-nil, refl, sym, subst, ap, ◌∙◌, inl, inr}
-use Rattle.std.proofs.lemmas.Bool.{cases_eq}
-use Rattle.std.proofs.lemmas.List.Elements.{All-append, All-cons, All-map, All-nil}
+use Rattle.std.proofs.Common.{◌≡◌, ◌≢◌, ◌≤◌, ◌<◌, ℕ, List, [], ◌∷◌, ◌++◌, All, Bool, true, false, length, append-nil, refl, sym, subst, ap, ◌∙◌, inl, inr}
+use Rattle.std.proofs.lemmas.Bool.{cases_eq, lt-ltb, ltb-true}
+use Rattle.std.proofs.lemmas.List.Elements.{All-append, All-cons, All-head, All-map, All-nil}
 use Rattle.fed_stamp.specs.Indexes.{put}
 use Rattle.fed_stamp.specs.Stamp.{StampValue}
-use Rattle.fed_lattice.specs.Sets.{Has}
 use Rattle.fed_model.specs.declared.askers.Who.{Who}
 use Rattle.fed_model.specs.declared.commands.Command.{Command}
 use Rattle.fed_words.specs.declared.faults.UsageFault.{UsageFault}
@@ -27,13 +25,15 @@ use Rattle.fed_answers.specs.Planned.{plan_if_any, plan_or_none}
 use Rattle.fed_looks.specs.Look.{Look}
 use Rattle.fed_looks.specs.LookLine.{look_in_line}
 use Rattle.fed_looks.specs.LookText.{look_text}
+use Rattle.fed_site.specs.Journal.{kept_line}
 use Rattle.fed_site.specs.Line.{packet_text}
-use Rattle.fed_site.specs.Says.{IsReply, Said, after_commands, after_line, after_look, after_plan, after_reading, after_text, after_told, only, said_of, site_says}
-use Rattle.fed_turns.specs.Turn.{Course, MayTurn, MayTurns, Turn, after_said, after_turn, after_turns, said_to}
-use Rattle.fed_turns.specs.Run.{AreAnswered, AreShipments, Deed, IsDeedAnswer, StandsFor, deed_of, does, events_at, events_done, events_from, looked, number_of, numbered, state_at}
+use Rattle.fed_site.proofs.Replays.{unkept}
+use Rattle.fed_site.specs.Says.{Done, IsReply, Said, after_commands, after_line, after_look, after_plan, after_reading, after_text, after_told, only, said_of, site_says}
+use Rattle.fed_turns.specs.Turn.{Course, IsCarried, MayTurn, MayTurns, Turn, WasShipped, after_said, after_turn, after_turns, said_to}
+use Rattle.fed_turns.specs.Run.{AreAnswered, AreShipments, Deed, IsDeedAnswer, StandsFor, declines, deed_of, does, events_at, events_done, events_from, is_read_in, looked, numbered, state_at, taken_as}
 use Rattle.fed_turns.proofs.Acts.{IsStepped, acted}
 use Rattle.fed_turns.proofs.OwnLines.{own_line_is}
-use Rattle.fed_turns.proofs.Packets.{found, shipment, shipments_push}
+use Rattle.fed_turns.proofs.Packets.{found, placed, shipment, shipments_push}
 use Rattle.fed_turns.proofs.Reached.{Reached, run_reached}
 use Rattle.fed_turns.proofs.Takes.{is_taken}
 
@@ -115,14 +115,16 @@ module _ (roster : List (List ℕ × ℕ)) (few : length roster ≤ 16) (c : Cou
         ranged = All-cons IsRangedEvent (Ship t.site to) [] tt (All-nil IsRangedEvent);
       }
 
-  -- the text of a packet
-  take_played : (text : List ℕ) → Has c.shipped (answer_line text) → t.answer ≡ (after_reading roster here (packet_in text)).text
-      → IsPlayed roster c w t (said_of (after_reading roster here (packet_in text))) (does (Some (takes_line t.site (number_of c.shipped text))))
-  take_played text carried e =
-      let k = position_or_len (bytes_eq (answer_line text)) c.shipped in
-      let it = found w.packets c.shipped text stands.shipped carried in
+  -- the text of a packet that was shipped, taken or not
+  carried_played : (text : List ℕ) → position_or_len (is_read_in text) c.shipped < length c.shipped → t.answer ≡ (after_reading roster here (packet_in text)).text
+      → IsPlayed roster c w t (said_of (after_reading roster here (packet_in text))) (does (Some (takes_line t.site (suc (position_or_len (is_read_in text) c.shipped)))))
+  carried_played text within e =
+      let k = position_or_len (is_read_in text) c.shipped in
+      let it = found text w.packets c.shipped stands.shipped within in
       let does : step n w (Take t.site (suc k)) ≡ takes w t.site (Some it.packet) = take_here n w t.site (suc k) small ∙ ap (takes w t.site) it.is in
-      let one = subst (λ (s : Step). IsStepped roster t.site w s (after_reading roster here (packet_in text))) (sym does) (is_taken roster few w r t.site it.packet (packet_Has w (suc k) it.packet it.is) text it.of) in
+      let taken = is_taken roster few w r t.site it.packet (packet_Has w (suc k) it.packet it.is) it.shipped it.of in
+      let read = subst (λ o. IsStepped roster t.site w (takes w t.site (Some it.packet)) (after_reading roster here o)) (sym it.reads) taken in
+      let one = subst (λ (s : Step). IsStepped roster t.site w s (after_reading roster here (packet_in text))) (sym does) read in
       let s : Step = step n w (Take t.site (suc k)) in
       record {
         answered = e ∙ one.text ∙ sym (append-nil (answer_line (outcome_text roster s.outcome)));
@@ -132,6 +134,42 @@ module _ (roster : List (List ℕ × ℕ)) (few : length roster ≤ 16) (c : Cou
         };
         ranged = All-cons IsRangedEvent (Take t.site (suc k)) [] tt (All-nil IsRangedEvent);
       }
+
+  -- a text that isn't taken, and is of no packet shipped
+  declined_played : (text : List ℕ) → (after_reading roster here (packet_in text)).after ≡ here → t.answer ≡ (after_reading roster here (packet_in text)).text
+      → IsPlayed roster c w t (said_of (after_reading roster here (packet_in text))) (declines text)
+  declined_played text still e = record {
+    answered = e;
+    stands = record {
+      sites = settled c w w t.site (after_reading roster here (packet_in text)).after stands still (λ j apart. refl);
+      shipped = unshipped c w w stands refl;
+    };
+    ranged = All-nil IsRangedEvent;
+  }
+
+  -- a text that was not shipped isn't kept
+  declined : (text : List ℕ) → ((after_reading roster here (packet_in text)).kept ≡ true → WasShipped c.shipped text) → nat_lt (position_or_len (is_read_in text) c.shipped) (length c.shipped) ≡ false
+      → (kept : Bool) → (after_reading roster here (packet_in text)).kept ≡ kept → kept ≡ false
+  declined text carried beyond true is =
+      let was = carried is in
+      let within = placed text w.packets c.shipped was.0 stands.shipped was.1 was.2 in
+      absurd (true_false (sym (lt-ltb (position_or_len (is_read_in text) c.shipped) (length c.shipped) within) ∙ beyond))
+    where
+      true_false : true ≡ false → ⊥
+      true_false e = cc
+  declined text carried beyond false is = refl
+
+  take_played : (text : List ℕ) → packet_text t.line ≡ Some text → ((after_reading roster here (packet_in text)).kept ≡ true → WasShipped c.shipped text)
+      → t.answer ≡ (after_reading roster here (packet_in text)).text
+      → (within : Bool) → nat_lt (position_or_len (is_read_in text) c.shipped) (length c.shipped) ≡ within
+      → IsPlayed roster c w t (said_of (after_reading roster here (packet_in text))) (taken_as t.site text (option_map suc (if within then Some (position_or_len (is_read_in text) c.shipped) else None)))
+  take_played text is carried e true at = carried_played text (ltb-true (position_or_len (is_read_in text) c.shipped) (length c.shipped) at) e
+  take_played text is carried e false at =
+      let done : Done = after_reading roster here (packet_in text) in
+      let said : site_says roster here t.line ≡ said_of done = ap (after_text roster here t.line) is in
+      let none : done.kept ≡ false = declined text carried at done.kept refl in
+      let still : done.after ≡ here = subst (λ (s : Said). s.kept ≡ false → s.after ≡ here) said (unkept roster here t.line) none in
+      declined_played text still e
 
   -- a line that can be read, or can't
   line_played : (o : Option Line) → own_line_in roster t.site t.line ≡ o → IsReply here (after_told roster here o).reply t.answer → IsPlayed roster c w t (after_told roster here o) (does o)
@@ -144,17 +182,24 @@ module _ (roster : List (List ℕ × ℕ)) (few : length roster ≤ 16) (c : Cou
   look_played None reply = line_played (own_line_in roster t.site t.line) refl reply
   look_played (Some look) reply = record { answered = reply; stands = quiet (look_text roster here look); ranged = All-nil IsRangedEvent }
 
-  text_played : (o : Option (List ℕ)) → IfSome o (λ text. Has c.shipped (answer_line text)) → IsReply here (after_text roster here t.line o).reply t.answer
+  text_played : (o : Option (List ℕ)) → packet_text t.line ≡ o → ((after_text roster here t.line o).kept ≡ true → IfSome o (WasShipped c.shipped)) → IsReply here (after_text roster here t.line o).reply t.answer
       → IsPlayed roster c w t (after_text roster here t.line o) (numbered roster c t o)
-  text_played None carried reply = look_played (look_in_line roster t.site t.line) reply
-  text_played (Some text) carried reply = take_played text carried reply
+  text_played None is carried reply = look_played (look_in_line roster t.site t.line) reply
+  text_played (Some text) is carried reply = take_played text is carried reply (nat_lt (position_or_len (is_read_in text) c.shipped) (length c.shipped)) refl
 
 -- ---- turns
+-- a line that is kept took what was shipped
+kept_carried : (roster : List (List ℕ × ℕ)) (answers : List (List ℕ)) (line : List ℕ) (kept : Bool) → All (IsCarried answers) (kept_line roster kept line ++ []) → kept ≡ true → IsCarried answers line
+kept_carried roster answers line true all e = All-head (IsCarried answers) line [] all
+kept_carried roster answers line false all e = cc
+
 module _ (roster : List (List ℕ × ℕ)) (few : length roster ≤ 16) where
   pub turn_played : (c : Course) (w : World) (t : Turn) → StandsFor c w → Reached (length roster) w → MayTurn roster c t → IsPlayed roster c w t (said_to roster c t) (deed_of roster c t)
   turn_played c w t stands r may =
-      subst (λ (s : State). IsReply s (site_says roster s t.line).reply t.answer → IsPlayed roster c w t (site_says roster s t.line) (deed_of roster c t)) (sym (stands.sites t.site))
-      (text_played roster few c w t stands r may.site (packet_text t.line) may.carried) may.said
+      let took = kept_carried roster c.shipped t.line (said_to roster c t).kept may.carried in
+      subst (λ (s : State). ((site_says roster s t.line).kept ≡ true → IsCarried c.shipped t.line) → IsReply s (site_says roster s t.line).reply t.answer
+      → IsPlayed roster c w t (site_says roster s t.line) (deed_of roster c t)) (sym (stands.sites t.site))
+      (text_played roster few c w t stands r may.site (packet_text t.line) refl) took may.said
 
   pub record ArePlayed (c : Course) (w : World) (ts : List Turn) : Type 0 where
     pub answered : AreAnswered roster c w ts

@@ -1,13 +1,10 @@
 -- Lines of sites that crash and are opened again. What a site has answered its disk has; lines whose answers nobody saw the
 -- disk has or not.
-use Rattle.std.specs.Prelude.{ℕ, ◌<◌, ◌==◌, Bool, true, false, List, [], ◌∷◌, ◌++◌, length, All, IfSome, if◌then◌else◌}
-use Rattle.fed_lattice.specs.Sets.{Has}
+use Rattle.std.specs.Prelude.{ℕ, ◌<◌, ◌==◌, Bool, true, false, List, [], ◌∷◌, ◌++◌, length, if◌then◌else◌}
 use Rattle.fed_replica.specs.State.{empty_at}
-use Rattle.fed_answers.specs.Outcome.{answer_line}
 use Rattle.fed_site.specs.Journal.{kept_lines}
-use Rattle.fed_site.specs.Line.{packet_text}
 use Rattle.fed_site.specs.Says.{Reply, Text, PacketFor, site_says}
-use Rattle.fed_turns.specs.Turn.{Turn, Course, MayTurn, after_turns}
+use Rattle.fed_turns.specs.Turn.{Turn, Course, AreCarried, MayTurn, after_turns}
 
 pub data Happening : Type 0 where
   -- a line was answered
@@ -40,10 +37,10 @@ module _ (roster : List (List ℕ × ℕ)) where
   turns_from c (h ∷ hs) = turns_of c h ++ turns_from (after_turns roster c (turns_of c h)) hs
 
   -- ---- what may happen
-  -- a site of the roster was given the lines, and a text that it was to take was the answer to a ship before
+  -- a site of the roster was given the lines, and a text that it took was shipped before
   pub record MayStand (c : Course) (here : ℕ) (lines : List (List ℕ)) : Type 0 where
     pub site : here < length roster
-    pub carried : All (λ line. IfSome (packet_text line) (λ text. Has c.shipped (answer_line text))) lines
+    pub carried : AreCarried roster c.shipped (c.site here) lines
 
   abbrev pub MayHappen : Course → Happening → Type 0
   MayHappen c (answered turn) = MayTurn roster c turn

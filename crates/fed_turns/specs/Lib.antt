@@ -4,3 +4,4 @@ pub mod Run
 pub mod Crash
 pub mod Alarm
 pub mod Own
+pub mod Home

@@ -1,9 +1,11 @@
 -- The run that turns make, and what is answered in it.
-use Rattle.std.specs.Prelude.{◌≡◌, ◌+◌, ℕ, suc, List, [], ◌∷◌, ◌++◌, length, map, codes, Option, Some, None}
-use Rattle.std.specs.List.{position_or_len}
-use Rattle.std.specs.Str.{bytes_eq}
+use Rattle.std.specs.Prelude.{◌≡◌, ◌+◌, ◌-◌, ℕ, suc, Bool, false, List, [], ◌∷◌, ◌++◌, length, map, take, position, codes, Option, Some, None, option_map, Result, Ok}
 use Rattle.fed_model.specs.View.{view}
 use Rattle.fed_model.specs.Packet.{Site, Packet, shipped}
+use Rattle.fed_wire.specs.declared.faults.WireFault.{WireFault}
+use Rattle.fed_wire.specs.Packet.{PacketValue}
+use Rattle.fed_wire.specs.PacketLaws.{same_packet}
+use Rattle.fed_wire.specs.Reading.{packet_in}
 use Rattle.fed_replica.specs.State.{State}
 use Rattle.fed_script.specs.Line.{Line, skips, acts, lists, misuses, ships, takes, plans, own_line_in}
 use Rattle.fed_model.specs.declared.events.Event.{Event}
@@ -18,6 +20,7 @@ use Rattle.fed_looks.specs.Look.{Look}
 use Rattle.fed_looks.specs.LookLine.{look_in_line}
 use Rattle.fed_looks.specs.LookText.{look_text}
 use Rattle.fed_site.specs.Line.{packet_text}
+use Rattle.fed_site.specs.Says.{after_reading}
 use Rattle.fed_turns.specs.Turn.{Turn, Course, after_turn}
 
 -- ---- what a turn does in a run
@@ -26,11 +29,25 @@ pub data Deed : Type 0 where
   looks : (look : Look) → Deed
   -- what the line of a script does that says the same, if it can be read
   does : (line : Option Line) → Deed
+  -- the site is to take a text that is of no packet shipped before, and takes nothing: no line of a script says so
+  declines : (text : List ℕ) → Deed
 
--- The number of the first packet that was shipped by this text: packets are counted from 1. Where none was, no packet has
--- the number
-abbrev pub number_of : List (List ℕ) → List ℕ → ℕ
-number_of answers text = suc (position_or_len (bytes_eq (answer_line text)) answers)
+-- two texts are read, and as the same packet
+abbrev pub is_same_reading : Result PacketValue WireFault → Result PacketValue WireFault → Bool
+is_same_reading (Ok p) (Ok q) = same_packet p q
+is_same_reading _ _ = false
+
+-- the text that an answer to a ship is the line of
+abbrev pub text_of : List ℕ → List ℕ
+text_of answer = take (length answer - 1) answer
+
+-- the answer to a ship has a text that reads as the same packet
+abbrev pub is_read_in : List ℕ → List ℕ → Bool
+is_read_in text answer = is_same_reading (packet_in text) (packet_in (text_of answer))
+
+-- the number of the first packet shipped that the text is read as: packets are counted from 1
+abbrev pub number_of : List (List ℕ) → List ℕ → Option ℕ
+number_of answers text = option_map suc (position (is_read_in text) answers)
 
 -- a line that asks for no look says what it says behind the site's name
 abbrev pub looked : List (List ℕ × ℕ) → Turn → Option Look → Deed
@@ -38,9 +55,13 @@ looked roster t (Some look) = looks look
 looked roster t None = does (own_line_in roster t.site t.line)
 
 -- in a script a packet has a number
+abbrev pub taken_as : ℕ → List ℕ → Option ℕ → Deed
+taken_as site text (Some number) = does (Some (takes site number))
+taken_as site text None = declines text
+
 abbrev pub numbered : List (List ℕ × ℕ) → Course → Turn → Option (List ℕ) → Deed
 numbered roster c t None = looked roster t (look_in_line roster t.site t.line)
-numbered roster c t (Some text) = does (Some (takes t.site (number_of c.shipped text)))
+numbered roster c t (Some text) = taken_as t.site text (number_of c.shipped text)
 
 abbrev pub deed_of : List (List ℕ × ℕ) → Course → Turn → Deed
 deed_of roster c t = numbered roster c t (packet_text t.line)
@@ -59,6 +80,7 @@ events_told (Some line) = events_of line
 abbrev pub events_done : Deed → List Event
 events_done (looks look) = []
 events_done (does line) = events_told line
+events_done (declines text) = []
 
 module _ (roster : List (List ℕ × ℕ)) where
   abbrev pub events_at : Course → Turn → List Event
@@ -111,10 +133,12 @@ abbrev pub IsToldAnswer : List (List ℕ × ℕ) → World → Option Line → L
 IsToldAnswer roster w None outcomes bytes = bytes ≡ answer_line (codes "cannot be read")
 IsToldAnswer roster w (Some line) outcomes bytes = IsAnswer roster w line outcomes bytes
 
--- a look at a site is answered by what the site holds in the world
+-- a look at a site, and a text that it declines, are answered by what the site holds in the world
 abbrev pub IsDeedAnswer : List (List ℕ × ℕ) → World → ℕ → Deed → List Outcome → List ℕ → Type 0
 IsDeedAnswer roster w site (looks look) outcomes bytes = bytes ≡ look_text roster (state_at site (w.site site)) look
 IsDeedAnswer roster w site (does line) outcomes bytes = IsToldAnswer roster w line outcomes bytes
+IsDeedAnswer roster w site (declines text) outcomes bytes =
+    bytes ≡ (after_reading roster (state_at site (w.site site)) (packet_in text)).text
 
 module _ (roster : List (List ℕ × ℕ)) where
   abbrev pub IsAnswered : Course → World → Turn → Type 0

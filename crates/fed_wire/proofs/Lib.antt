@@ -4,6 +4,7 @@ pub mod BoardLaws
 pub mod IdentifierLaws
 pub mod EachLaws
 pub mod ReadLoops
+pub mod MemberLaws
 pub mod BodyLaws
 pub mod TextLaws
 pub mod WriteLaws

@@ -2,6 +2,7 @@
 pub mod Reservations
 pub mod Packet
 pub mod Reading
+pub mod Members
 pub mod Identifiers
 pub mod Faults
 pub mod PacketLaws

@@ -1,20 +1,20 @@
 //! Packets read from JSON values.
 ghost use Rattle.std.specs.Prelude.{◌≡◌};
+ghost use Rattle.serde_json.specs.Data.{Data};
 ghost use Rattle.serde_json.specs.View.{view};
 ghost use Rattle.fed_wire.specs.Faults.{Gives};
-ghost use Rattle.fed_wire.specs.Reading.{least_above, sender_in, need_in, reached_in, jobs_in, reservations_in, body_in, format_in, packet_of};
+ghost use Rattle.fed_wire.specs.Members.{AreMembers};
+ghost use Rattle.fed_wire.specs.Reading.{least_above, body_in, format_in, packet_of};
 
 use crate::faults::{Part, Place, WireFault};
 use crate::jobs::jobs;
+use crate::members::{PacketMembers, packet_members};
 use crate::packets::Packet;
 use crate::readings::{sender, version};
 use crate::reservations::reservations;
 use fed_delta::Delta;
 use fed_job_json::Format;
-use fed_json::has_names;
-use fed_lattice::Table;
-use fed_record::{JobRecord, Reservation};
-use fed_stamp::{JobId, SiteId, Stamp, Version};
+use fed_stamp::{SiteId, Version};
 use serde_json::Value;
 use std::alloc::Global;
 
@@ -23,60 +23,6 @@ const WHOLE: Place = Place {
     index: 0,
 };
 
-fn sender_member(packet: &Value) -> Result<SiteId, WireFault>
-    ensures { result ≡ sender_in (view packet.now) }
-{
-    match packet.get("sender") {
-        Some(value) => sender(value),
-        None => Err(WireFault::Shape { place: WHOLE }),
-    }
-}
-
-fn need_member(packet: &Value) -> Result<Version, WireFault>
-    ensures { result ≡ need_in (view packet.now) }
-{
-    match packet.get("need") {
-        Some(value) => version(value, Part::Need),
-        None => Err(WireFault::Shape { place: WHOLE }),
-    }
-}
-
-fn reached_member(packet: &Value) -> Result<Version, WireFault>
-    ensures { result ≡ reached_in (view packet.now) }
-{
-    match packet.get("reached") {
-        Some(value) => version(value, Part::Reached),
-        None => Err(WireFault::Shape { place: WHOLE }),
-    }
-}
-
-fn jobs_member(
-    alloc: Global,
-    packet: &Value,
-    format: Format,
-    reached: &Version,
-) -> Result<Table<JobId, JobRecord>, WireFault>
-    ensures { Gives (jobs_in format reached.now (view packet.now)) result }
-{
-    match packet.get("jobs") {
-        Some(value) => jobs(alloc, value, format, reached),
-        None => Err(WireFault::Shape { place: WHOLE }),
-    }
-}
-
-fn reservations_member(
-    alloc: Global,
-    packet: &Value,
-    reached: &Version,
-) -> Result<Table<Stamp, Reservation>, WireFault>
-    ensures { Gives (reservations_in reached.now (view packet.now)) result }
-{
-    match packet.get("reservations") {
-        Some(value) => reservations(alloc, value, reached),
-        None => Err(WireFault::Shape { place: WHOLE }),
-    }
-}
-
 // The least site at which the need is above what is reached.
 fn least_site_above(need: &Version, reached: &Version) -> Option<SiteId>
     ensures { result ≡ least_above 0 need.now reached.now }
@@ -84,13 +30,17 @@ fn least_site_above(need: &Version, reached: &Version) -> Option<SiteId>
     need.first_above(reached)
 }
 
-/// The packet of these members, all of which are there.
-pub(crate) fn body(alloc: Global, packet: &Value, format: Format) -> Result<Packet, WireFault>
-    ensures { Gives (body_in format (view packet.now)) result }
+/// The packet of these members.
+pub(crate) fn body(
+    alloc: Global,
+    members: &PacketMembers<'_>,
+    format: Format,
+) -> Result<Packet, WireFault>
+    ensures { (d : Data) → AreMembers d members.now → Gives (body_in format d) result }
 {
-    let sender = sender_member(packet)?;
-    let need = need_member(packet)?;
-    let reached = reached_member(packet)?;
+    let sender = sender(members.sender)?;
+    let need = version(members.need, Part::Need)?;
+    let reached = version(members.reached, Part::Reached)?;
     if let Some(site) = least_site_above(&need, &reached) {
         return Err(WireFault::Range {
             place: Place {
@@ -99,8 +49,8 @@ pub(crate) fn body(alloc: Global, packet: &Value, format: Format) -> Result<Pack
             },
         });
     }
-    let jobs = jobs_member(alloc, packet, format, &reached)?;
-    let reservations = reservations_member(alloc, packet, &reached)?;
+    let jobs = jobs(alloc, members.jobs, format, &reached)?;
+    let reservations = reservations(alloc, members.reservations, &reached)?;
     let delta = Delta::from_parts(need, reached, jobs, reservations);
     Ok(Packet::new(sender, delta))
 }
@@ -122,18 +72,8 @@ pub(crate) fn packet(alloc: Global, value: &Value) -> Result<Packet, WireFault>
     ensures { Gives (packet_of (view value.now)) result }
 {
     let format = format(value)?;
-    if !has_names(
-        value,
-        &[
-            "format",
-            "jobs",
-            "need",
-            "reached",
-            "reservations",
-            "sender",
-        ],
-    ) {
+    let Some(members) = packet_members(value) else {
         return Err(WireFault::Shape { place: WHOLE });
-    }
-    body(alloc, value, format)
+    };
+    body(alloc, &members, format)
 }

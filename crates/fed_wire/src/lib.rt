@@ -13,6 +13,8 @@ pub mod jobs;
 pub mod laws;
 /// The identifiers of a packet's jobs or reservations, as they are read.
 mod identifiers;
+/// The members of a packet's JSON object.
+mod members;
 /// Packets.
 pub mod packets;
 /// The text of a packet, printed job by job.

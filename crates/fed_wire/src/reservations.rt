@@ -1,11 +1,9 @@
 //! Reservations read from JSON values.
-ghost use Rattle.std.specs.Prelude.{◌≡◌, ◌&&◌, [], codes, map, Some, IsSome};
+ghost use Rattle.std.specs.Prelude.{◌≡◌, ◌&&◌, [], map, Some, IsSome};
 ghost use Rattle.serde_json.specs.View.{view};
 ghost use Rattle.fed_json.specs.Numbers.{natural_in};
-ghost use Rattle.fed_json.specs.Objects.{member_of};
 ghost use Rattle.fed_json.specs.Reading.{mapped};
 ghost use Rattle.fed_job_json.specs.Fields.{field_of};
-ghost use Rattle.fed_job_json.specs.Stamps.{stamp_of};
 ghost use Rattle.fed_stamp.specs.Version.{covers};
 ghost use Rattle.fed_wire.specs.declared.faults.Part.TheVariants.{Reservations as TheReservations};
 ghost use Rattle.fed_wire.specs.Faults.{Gives};
@@ -17,7 +15,7 @@ use crate::faults::{Part, Place, WireFault};
 use crate::identifiers::Identifiers;
 use fed_board::MAX_RESERVATIONS;
 use fed_job_json::{read_site, read_stamp};
-use fed_json::{Flaw, both, elements, has_names, member, natural};
+use fed_json::{Flaw, both, elements, natural, read_members};
 use fed_lattice::{Causal, Table};
 use fed_record::{MAX_MOMENT, Reservation, Window};
 use fed_stamp::{MAX_NODES, Stamp, Version};
@@ -68,27 +66,22 @@ fn window_field(value: &Value) -> Result<(Stamp, Option<Window>), Flaw>
 }
 
 fn latest(value: &Value) -> Result<Reservation, Flaw>
-    ensures { result ≡ member_of (codes "window") (field_of window_of) (view value.now) }
+    ensures { result ≡ field_of window_of (view value.now) }
 {
-    let (stamp, window) = window_field(member(value, "window")?)?;
+    let (stamp, window) = window_field(value)?;
     Ok(Reservation::from_parts(stamp, window))
 }
 
-fn id(value: &Value) -> Result<Stamp, Flaw>
-    ensures { result ≡ member_of (codes "id") stamp_of (view value.now) }
-{
-    read_stamp(member(value, "id")?)
-}
-
 /// The identifier of the reservation, and what is read of it.
-#[tactic(auto, unfolding(crate::specs::Reservations::reservation_of))]
 pub fn reservation(value: &Value) -> Result<(Stamp, Reservation), Flaw>
     ensures { result ≡ reservation_of (view value.now) }
 {
-    if !has_names(value, &["id", "window"]) {
+    // Until a member is read, the object itself stands at its index.
+    let mut members = [value; 2];
+    if !read_members(value, &["id", "window"], &mut members) {
         return Err(Flaw::Shape);
     }
-    both(id(value), latest(value))
+    both(read_stamp(members[0]), latest(members[1]))
 }
 
 // Whether the version covers the identifier and the greatest stamp.

@@ -1,6 +1,6 @@
 -- What the code of a world does is what happens in the run.
-use Rattle.std.specs.Prelude.{cond, nat_lt, replicate, Option, Some, None, Result, Ok, Err, MatchResult}
-use Rattle.std.proofs.Common.{◌≡◌, ◌≢◌, ℕ, ◌+◌, ◌<◌, ◌≤◌, List, [], ◌∷◌, ◌++◌, length, get_or, set, refl, sym, ap, subst, ◌∙◌, inl, inr, arith}
+use Rattle.std.specs.Prelude.{cond, nat_lt, replicate, Option, Some, None, Result}
+use Rattle.std.proofs.Common.{◌≡◌, ◌≢◌, ℕ, true, ◌+◌, ◌<◌, ◌≤◌, List, [], ◌∷◌, ◌++◌, length, get_or, set, refl, sym, ap, subst, ◌∙◌, inl, inr, arith}
 use Rattle.std.proofs.lemmas.Bool.{cases_eq, cond-true, lt-ltb}
 use Rattle.std.proofs.lemmas.List.{get_or-set_same, get_or-set_other, get_or_push, get_or_append_left, get_or-replicate, length-set, length_push, take_more}
 use Rattle.std.proofs.Math.ListN.{take}
@@ -18,7 +18,11 @@ use Rattle.fed_model.specs.View.{view}
 use Rattle.fed_theory.proofs.ViewLaws.{view_push}
 use Rattle.fed_model.specs.Answer.{Answer, Answer.Refuses, Answer.Replies, answer, answer_to}
 use Rattle.fed_stamp.specs.Indexes.{put}
-use Rattle.fed_replica.specs.Replica.{ReplicaValue, IsDone, heard_from}
+use Rattle.fed_model.specs.Outcome.{outcome_of}
+use Rattle.fed_theory.specs.ViewSteps.{add_to_view}
+use Rattle.fed_replica.specs.Outcome.{adds, said_by}
+use Rattle.fed_replica.specs.Replica.{ReplicaValue, heard_from}
+use Rattle.fed_replica.specs.State.{State, after_answer, state_of}
 use Rattle.fed_theory.proofs.Allowed.{answer_allowed}
 use Rattle.fed_theory.proofs.NextStamps.{next_uncovered}
 use Rattle.fed_model.specs.declared.events.Event.{Event}
@@ -66,34 +70,32 @@ module _ (w : World) (i : ℕ) (who : Who) (command : Command) (lawful : IsLawfu
   abbrev Went : Answer → Outcome → Type 0
   Went a o = (o ≡ (does w i a).outcome) × IsReplica i ((does w i a).after.site i) new
 
-  abbrev Gone : Answer → Result Reply Refusal → Type 0
-  Gone a said = MatchResult said (λ reply. Went a (Outcome.Replied reply)) (λ refusal. (refusal ≡ Refusal.NoMemory → ⊥) → Went a (Outcome.Refused refusal))
-
-  went : (a : Answer) → answer ops i who command ≡ a → (said : Result Reply Refusal) → IsDone a (view ops) said (board_reads new.board) → Gone a said
-  went (Refuses refusal) is said d = subst (Gone (Refuses refusal)) (sym d.0) (λ _. (refl, stood d.1))
-  went (Replies reply None) is said d = subst (Gone (Replies reply None)) (sym d.0) (refl, stood d.1)
-  went (Replies reply (Some e)) is (Ok said) d =
+  went : (a : Answer) → answer ops i who command ≡ a → state_of new ≡ after_answer (state_of old) a → Went a (outcome_of (said_by a))
+  went (Refuses refusal) is left = (refl, stood (ap (λ (s : State). s.view) left ∙ held.board))
+  went (Replies reply None) is left = (refl, stood (ap (λ (s : State). s.view) left ∙ held.board))
+  went (Replies reply (Some e)) is left =
       let allowed = answer_allowed ops lawful i who command reply e is in
-      (ap (λ r. Outcome.Replied r) d.0, grown e (d.1 ∙ sym (view_push ops e lawful (next_uncovered (version_of ops) i e.0 allowed.0))))
-  went (Replies reply (Some e)) is (Err refusal) d = λ full. absurd (full d.0)
+      (refl, grown e (ap (λ (s : State). s.view) left ∙ ap (λ v. add_to_view v e) held.board ∙ sym (view_push ops e lawful (next_uncovered (version_of ops) i e.0 allowed.0))))
 
-  here_done : (said : Result Reply Refusal) → IsDone (answer_to (board_reads old.board) old.site who command) (board_reads old.board) said (board_reads new.board) → IsDone (answer ops i who command) (view ops) said (board_reads new.board)
-  here_done said d =
-      subst (λ v. IsDone (answer_to v i who command) v said (board_reads new.board)) held.board (subst (λ (k : ℕ). IsDone (answer_to (board_reads old.board) k who command) (board_reads old.board) said (board_reads new.board)) held.site d)
+  -- the answer by what the replica reads as is that of the run
+  same_answer : answer_to (board_reads old.board) old.site who command ≡ answer ops i who command
+  same_answer = λ j. answer_to (held.board j) (held.site j) who command
 
-  pub command_went : (said : Result Reply Refusal) → IsDone (answer_to (board_reads old.board) old.site who command) (board_reads old.board) said (board_reads new.board) → Gone (answer ops i who command) said
-  command_went said d = went (answer ops i who command) refl said (here_done said d)
+  pub command_went : (said : Result Reply Refusal) → said ≡ said_by (answer_to (board_reads old.board) old.site who command)
+      → state_of new ≡ after_answer (state_of old) (answer_to (board_reads old.board) old.site who command) → Went (answer ops i who command) (outcome_of said)
+  command_went said told left =
+      subst (λ r. Went (answer ops i who command) (outcome_of r)) (sym (told ∙ ap said_by same_answer))
+      (went (answer ops i who command) refl (left ∙ ap (after_answer (state_of old)) same_answer))
 
-  -- where want of memory is said, no other refusal was due
-  due_memory : (a : Answer) → IsDone a (view ops) (Err Refusal.NoMemory) (board_reads new.board) → (refusal : Refusal) → (does w i a).outcome ≡ Outcome.Refused refusal → refusal ≡ Refusal.NoMemory
-  due_memory (Refuses due) d refusal e = let p : Refusal.NoMemory ≡ due = (let q = d.0 in cc) in let r : due ≡ refusal = cc in cc
-  due_memory (Replies reply None) d refusal e = cc
-  due_memory (Replies reply (Some op)) d refusal e = cc
+  -- where an operation is to be added, no refusal is due
+  due : (a : Answer) → adds a ≡ true → (refusal : Refusal) → (does w i a).outcome ≡ Outcome.Refused refusal → refusal ≡ Refusal.NoMemory
+  due (Refuses refused) h refusal e = cc
+  due (Replies reply None) h refusal e = cc
+  due (Replies reply (Some op)) h refusal e = cc
 
-  pub memory_went : (said : Result Reply Refusal) → said ≡ Err Refusal.NoMemory → IsDone (answer_to (board_reads old.board) old.site who command) (board_reads old.board) said (board_reads new.board)
+  pub memory_went : adds (answer_to (board_reads old.board) old.site who command) ≡ true
       → (refusal : Refusal) → (does w i (answer ops i who command)).outcome ≡ Outcome.Refused refusal → refusal ≡ Refusal.NoMemory
-  memory_went said e d =
-      due_memory (answer ops i who command) (subst (λ r. IsDone (answer ops i who command) (view ops) r (board_reads new.board)) e (here_done said d))
+  memory_went h = due (answer ops i who command) (sym (ap adds same_answer) ∙ h)
 
 -- ---- in the run
 -- what an outcome and the replicas are of a step
@@ -106,16 +108,13 @@ module _ (n : ℕ) (events : List Event) (few : n ≤ 16) (rs : List ReplicaValu
 
   -- the replica that changed stands at k, the number of the site that was asked
   module _ (i k : ℕ) (at : k ≡ i) (who : Who) (command : Command) (small : k < n) (old new : ReplicaValue) (before : IsReplica k (w.site k) old)
-      (site : new.site ≡ old.site) (heard : new.heard ≡ old.heard) (said : Result Reply Refusal)
-      (done : IsDone (answer_to (board_reads old.board) old.site who command) (board_reads old.board) said (board_reads new.board)) where
+      (site : new.site ≡ old.site) (heard : new.heard ≡ old.heard) where
     abbrev lawful : IsLawful (w.site k).set
     lawful = site_lawful n events few k
 
-    abbrev Told : Result Reply Refusal → Type 0
-    Told r = Gone w k who command lawful old new before site heard (answer (w.site k).set k who command) r
-
-    told : Told said
-    told = command_went w k who command lawful old new before site heard said done
+    -- the answer by what the replica reads as
+    abbrev said_here : Answer
+    said_here = answer_to (board_reads old.board) old.site who command
 
     in_place : (o : Outcome) → Went w k who command lawful old new before site heard (answer (w.site k).set k who command) o → IsStep n (step n w (Do i who command)) o (set rs k new)
     in_place o p =
@@ -124,19 +123,17 @@ module _ (n : ℕ) (events : List Event) (few : n ≤ 16) (rs : List ReplicaValu
         subst (λ s. IsStep n s o (set rs k new)) (sym (do_here n w k who command small)) (p.0, replica_set n w (does w k a).after rs k new small held (does_others w k a) p.1) in
         subst (λ (j : ℕ). IsStep n (step n w (Do j who command)) o (set rs k new)) at here
 
-    pub reply_done : (reply : Reply) → said ≡ Ok reply → IsStep n (step n w (Do i who command)) (Outcome.Replied reply) (set rs k new)
-    reply_done reply e = in_place _ (subst Told e told)
-
-    pub refusal_done : (refusal : Refusal) → said ≡ Err refusal → (refusal ≡ Refusal.NoMemory → ⊥) → IsStep n (step n w (Do i who command)) (Outcome.Refused refusal) (set rs k new)
-    refusal_done refusal e other = in_place _ (subst Told e told other)
+    pub command_done : (said : Result Reply Refusal) → said ≡ said_by said_here → state_of new ≡ after_answer (state_of old) said_here → (o : Outcome) → o ≡ outcome_of said → IsStep n (step n w (Do i who command)) o (set rs k new)
+    command_done said told left o is =
+        in_place o (subst (Went w k who command lawful old new before site heard (answer (w.site k).set k who command)) (sym is) (command_went w k who command lawful old new before site heard said told left))
 
     abbrev OnlyMemory : Step → Type 0
     OnlyMemory s = (refusal : Refusal) → s.outcome ≡ Outcome.Refused refusal → refusal ≡ Refusal.NoMemory
 
-    pub memory_done : said ≡ Err Refusal.NoMemory → OnlyMemory (step n w (Do i who command))
-    memory_done e =
+    pub memory_done : adds said_here ≡ true → OnlyMemory (step n w (Do i who command))
+    memory_done h =
         let here : OnlyMemory (step n w (Do k who command)) =
-        subst OnlyMemory (sym (do_here n w k who command small)) (memory_went w k who command lawful old new before site heard said e done) in
+        subst OnlyMemory (sym (do_here n w k who command small)) (memory_went w k who command lawful old new before site heard h) in
         subst (λ (j : ℕ). OnlyMemory (step n w (Do j who command))) at here
 
 -- ---- the first replicas

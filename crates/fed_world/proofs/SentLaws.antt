@@ -1,14 +1,12 @@
 -- What the code of a world ships and takes is what is shipped and taken in the run.
 use Rattle.std.specs.Prelude.{cond, slice_get, Option, Some, None, Result, Ok}
 use Rattle.std.proofs.Common.{◌≡◌, ℕ, zero, suc, ◌+◌, ◌<◌, ◌≤◌, ◌==◌, ◌⊎◌, List, [], ◌∷◌, ◌++◌, true, not, length, get_or, set, refl, sym, ap, ap₂, subst, ◌∙◌, inl, inr, arith}
-use Rattle.std.proofs.lemmas.Bool.{cases_lt}
-use Rattle.std.proofs.lemmas.List.{get_or_past, take-append-le, take_all}
+use Rattle.std.proofs.lemmas.List.{take-append-le, take_all}
 use Rattle.std.proofs.lemmas.List.Elements.{All-push}
 use Rattle.std.proofs.Math.ListN.{take as list_take, drop}
 use Rattle.serde_json.specs.Written.{compact_text}
 use Rattle.fed_stamp.specs.Indexes.{put}
-use Rattle.fed_stamp.specs.Version.{counter_of, is_below, joined, met, IsFirstAbove}
-use Rattle.fed_stamp.proofs.VersionLaws.{each_from_below}
+use Rattle.fed_stamp.specs.Version.{is_below, joined, met}
 use Rattle.fed_lattice.specs.History.{History}
 use Rattle.fed_lattice.specs.VersionOf.{version_of}
 use Rattle.fed_lattice.proofs.VersionOfLaws.{length-version_of}
@@ -23,9 +21,11 @@ use Rattle.fed_wire.specs.Faults.{Gives}
 use Rattle.fed_model.specs.Limits.{IsWithinLimits}
 use Rattle.fed_wire.specs.Packet.{IsPacket, PacketValue, packet_value}
 use Rattle.fed_wire.specs.Reading.{text_value}
-use Rattle.fed_model.specs.declared.taken.Taken.{Taken}
 use Rattle.fed_model.specs.Packet.{Packet, missing, shipped, taken, takes_unless}
+use Rattle.fed_replica.proofs.Lefts.{heard_in}
+use Rattle.fed_replica.specs.Outcome.{outcome_of_packet_unless}
 use Rattle.fed_replica.specs.Replica.{ReplicaValue, heard_from}
+use Rattle.fed_replica.specs.State.{State, after_packet_unless, lacking, state_of}
 use Rattle.fed_model.specs.declared.events.Event.{Event}
 use Rattle.fed_model.specs.declared.events.Event.TheVariants.{Ship, Take}
 use Rattle.fed_model.specs.declared.outcomes.Outcome.{Outcome}
@@ -36,7 +36,6 @@ use Rattle.fed_theory.proofs.HeardLaws.{heard_counters, met_below}
 use Rattle.fed_world.proofs.KeptLaws.{IsStep, replica_set}
 use Rattle.fed_theory.proofs.RunSteps.{site_lawful, ship_here, take_here, receives_others}
 use Rattle.fed_theory.proofs.PacketLimits.{site_within}
-use Rattle.fed_theory.proofs.Posts.{first_missing, none_missing}
 use Rattle.fed_theory.proofs.Promises.{packets_kin}
 use Rattle.fed_theory.proofs.Runs.{packet_Has, put_same, run-push, run_good}
 
@@ -162,46 +161,44 @@ module _ (n : ℕ) (events : List Event) (few : n ≤ 16) (rs : List ReplicaValu
         take_here n u k number small ∙ ap (takes u k) posted ∙ ap (λ l. receives u k (takes_unless l (u.site k) p)) e in
         subst (λ (j : ℕ). IsStep n (step n u (Take j number)) o (set rs k new)) at (subst (λ s. IsStep n s o (set rs k new)) (sym is) here)
 
-    -- a site of which something is needed is one of the 16
-    few_lack : (lacks : ℕ) → counter_of old.board.version lacks < counter_of c.delta.need lacks → lacks < 16
-    few_lack lacks above = elim (cases_lt lacks 16) [
-      | inl small ↦ small
-      | inr far ↦ (
-          let posts = (run_good n events few).1.sent p (packet_Has u number p posted) in
-          let counters : length p.reached ≡ 16 = ap length posts.exact ∙ length-version_of p.gives in
-          let none : counter_of p.reached lacks ≡ 0 = get_or_past p.reached lacks 0 (omega arith) in
-          let below = each_from_below p.need p.reached posts.need lacks in
-          let needed : counter_of c.delta.need lacks ≡ counter_of p.need lacks = ap (λ v. counter_of v lacks) sent.need in absurd (omega arith))
-    ]
+    -- what it lacks is what the site lacks in the run
+    need : lacking (state_of old) c ≡ missing p.need (version_of (u.site k).set)
+    need = ap₂ missing sent.need seen
 
-    pub gap_done : (lacks : ℕ) → IsFirstAbove c.delta.need old.board.version lacks → new ≡ old → IsStep n (step n u (Take i number)) (Outcome.Gap lacks) (set rs k new)
-    gap_done lacks first same =
-        let f : IsFirstAbove p.need (version_of (u.site k).set) lacks = subst (λ v. IsFirstAbove p.need v lacks) seen (subst (λ v. IsFirstAbove v old.board.version lacks) sent.need first) in
-        in_place (Some lacks) (first_missing p.need (version_of (u.site k).set) lacks (few_lack lacks first.above) f) (Outcome.Gap lacks) refl (subst (IsReplica k (u.site k)) (sym same) before)
+    heard_before : (from : ℕ) → from < 16 → (state_of old).heard from ≡ (u.site k).heard from
+    heard_before from h = sym (heard_in old from h) ∙ before.heard from h
 
-    module _ (told : Taken) (grew : told.grew ≡ not (is_below c.delta.changes.version old.board.version)) (site : new.site ≡ old.site)
-        (below : is_below c.delta.need old.board.version ≡ true)
-        (stands : (ops others : History Body) → AreKin ops others → board_reads old.board ≡ view ops → board_reads c.delta.changes ≡ cut (view others) c.delta.need → board_reads new.board ≡ view (ops ++ others))
-        (heard : (from : ℕ) → from < 16 → heard_from new from ≡ put (heard_from old) c.sender (joined (heard_from old c.sender) c.delta.changes.version) from) where
-      enough : missing p.need (version_of (u.site k).set) ≡ None
-      enough = none_missing p.need (version_of (u.site k).set) (subst (λ v. is_below p.need v ≡ true) seen (subst (λ v. is_below v old.board.version ≡ true) sent.need below))
+    stayed : state_of new ≡ state_of old → IsReplica k (u.site k) new
+    stayed left = record {
+      site = ap (λ (s : State). s.site) left ∙ before.site;
+      board = ap (λ (s : State). s.view) left ∙ before.board;
+      heard = λ from h. heard_in new from h ∙ ap (λ (s : State). s.heard from) left ∙ heard_before from h;
+    }
 
-      joined_heard : (from : ℕ) → from < 16 → put (heard_from old) c.sender (joined (heard_from old c.sender) c.delta.changes.version) from ≡ put (u.site k).heard p.sender (joined ((u.site k).heard p.sender) p.reached) from
+    module _ (stands : (ops others : History Body) → lacking (state_of old) c ≡ None → AreKin ops others → board_reads old.board ≡ view ops
+        → board_reads c.delta.changes ≡ cut (view others) c.delta.need → board_reads new.board ≡ view (ops ++ others)) where
+      joined_heard : (from : ℕ) → from < 16 → put (state_of old).heard c.sender (joined ((state_of old).heard c.sender) c.delta.changes.version) from ≡ put (u.site k).heard p.sender (joined ((u.site k).heard p.sender) p.reached) from
       joined_heard from h =
-          ap (λ (s : ℕ). put (heard_from old) s (joined (heard_from old s) c.delta.changes.version) from) sent.sender
-          ∙ (λ j. cond (from == p.sender) (joined (before.heard p.sender sent.small j) (reached j)) (before.heard from h j))
+          ap (λ (s : ℕ). put (state_of old).heard s (joined ((state_of old).heard s) c.delta.changes.version) from) sent.sender
+          ∙ (λ j. cond (from == p.sender) (joined (heard_before p.sender sent.small j) (reached j)) (heard_before from h j))
 
       then : IsReplica k (taken (u.site k) p) new → IsReplica k (put u.site k (taken (u.site k) p) k) new
       then r = subst (λ s. IsReplica k s new) (sym (put_same u.site k (taken (u.site k) p))) r
 
-      pub taken_done : IsStep n (step n u (Take i number)) (Outcome.Taken told) (set rs k new)
-      taken_done = in_place None enough (Outcome.Taken told)
-          (λ j. Outcome.Taken (record { grew = (grew ∙ ap₂ (λ (a b : List ℕ). not (is_below a b)) reached seen) j }))
+      received : (lacks : Option ℕ) → lacking (state_of old) c ≡ lacks → (o : Outcome) → o ≡ outcome_of_packet_unless lacks (state_of old) c → state_of new ≡ after_packet_unless lacks (state_of old) c
+          → IsStep n (step n u (Take i number)) o (set rs k new)
+      received (Some from) e o said left = in_place (Some from) (sym need ∙ e) o said (stayed left)
+      received None e o said left = in_place None (sym need ∙ e) o
+          (said ∙ (λ j. Outcome.Taken (record { grew = not (is_below (reached j) (seen j)) })))
           (then (record {
-            site = site ∙ before.site;
-            board = stands (u.site k).set p.gives (packets_kin n events few k number p posted) before.board (sent.cut ∙ ap (cut (view p.gives)) (sym sent.need));
-            heard = λ from h. heard from h ∙ joined_heard from h;
+            site = ap (λ (s : State). s.site) left ∙ before.site;
+            board = stands (u.site k).set p.gives e (packets_kin n events few k number p posted) before.board (sent.cut ∙ ap (cut (view p.gives)) (sym sent.need));
+            heard = λ from h. heard_in new from h ∙ ap (λ (s : State). s.heard from) left ∙ joined_heard from h;
           }))
+
+      pub packet_done : (o : Outcome) → o ≡ outcome_of_packet_unless (lacking (state_of old) c) (state_of old) c
+          → state_of new ≡ after_packet_unless (lacking (state_of old) c) (state_of old) c → IsStep n (step n u (Take i number)) o (set rs k new)
+      packet_done o said left = received (lacking (state_of old) c) refl o said left
 
 -- ---- one event more
 pub kept_after : (n : ℕ) (events all : List Event) (event : Event) (rs new : List ReplicaValue) (before texts : List (List ℕ)) → IsKept n events rs before → IsRangedEvent event → all ≡ events ++ event ∷ []

@@ -11,4 +11,4 @@ mod texts;
 pub mod worlds;
 
 pub use fed_model::{Event, Outcome};
-pub use worlds::{World, run};
+pub use worlds::{World, run, site_sets_are_within_limits};

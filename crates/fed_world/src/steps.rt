@@ -10,10 +10,9 @@ ghost use Rattle.fed_model.specs.RangedEvents.{AreRanged, IsRangedEvent};
 ghost use Rattle.fed_model.specs.Run.{run, step};
 
 use crate::texts::Text;
-use fed_delta::Absorb;
 use fed_lattice::NoMemory;
 use fed_model::{Event, Outcome, commands_are_ranged};
-use fed_record::{Command, Refusal, Who};
+use fed_record::{Command, Who};
 use fed_replica::Replica;
 use fed_stamp::SiteId;
 use fed_wire::{read, told_packets_are_within_limits, write};
@@ -40,13 +39,8 @@ pub(crate) fn act_at(
     if index >= replicas.len() {
         return Ok(Outcome::NoSite);
     }
-    match replicas[index].act(who, command) {
-        Ok(reply) => Ok(Outcome::Replied(reply)),
-        Err(refusal) => match refusal {
-            Refusal::NoMemory => Err(NoMemory),
-            _ => Ok(Outcome::Refused(refusal)),
-        },
-    }
+    let answered = replicas[index].answer(who, command)?;
+    Ok(answered.outcome())
 }
 
 /// A site makes a packet for a site.
@@ -103,13 +97,8 @@ pub(crate) fn take_at(
     let Ok(packet) = read(alloc, texts[packet_index].bytes()) else {
         return Err(NoMemory);
     };
-    match replicas[index].take(&packet) {
-        Ok(taken) => Ok(Outcome::Taken(taken)),
-        Err(fault) => match fault {
-            Absorb::Gap { missing } => Ok(Outcome::Gap(missing)),
-            Absorb::NoMemory => Err(NoMemory),
-        },
-    }
+    let received = replicas[index].receive(&packet)?;
+    Ok(received.outcome())
 }
 
 /// The event happens.

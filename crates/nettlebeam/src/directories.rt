@@ -2,7 +2,7 @@
 ghost use Rattle.std.specs.Prelude.{IfOk};
 ghost use Rattle.fed_journal.specs.Device.{LeavesJust};
 ghost use Rattle.fed_journal.specs.Files.{file_may_leave, file_seen};
-ghost use Rattle.fed_home.specs.Home.{IsOpen};
+ghost use Rattle.fed_home.specs.Home.{IsOpen, IsReplayed};
 
 use crate::faults::Fault;
 use fed_home::Home;
@@ -14,6 +14,9 @@ use std::time::{Clock, Duration};
 
 /// The name of the journal's file.
 pub const JOURNAL: &str = "journal";
+
+/// What the names of the files begin with that keep what was cut from the journal.
+pub const CUT: &str = "journal.cut-";
 
 /// How often the lock of a directory is tried, and how long the program waits between: ten seconds in all.
 const TRIES: u32 = 500;
@@ -47,7 +50,7 @@ fn keep_in(
     number: u32,
     cut: &[u8],
 ) -> Result<bool, Fault> {
-    let name = format!(in rt.alloc(); "journal.cut-{number}")?;
+    let name = format!(in rt.alloc(); "{CUT}{number}")?;
     let mut device = FileDevice::make(rt, directory, name.as_str())?;
     Ok(keep(rt.alloc(), &mut device, cut)?)
 }
@@ -67,8 +70,40 @@ fn keep_cut(
     Err(Fault::Directory(ErrorKind::StorageFull.into()))
 }
 
-/// The site of a directory, its journal at rest. What stood behind the journal's gate, as of a group that a crash cut, is
-/// kept in a file of its own, and standard error says so.
+/// The site of a directory as its journal says, and what stands behind the journal's gate.
+pub fn find_home(
+    rt: &(impl Files<File = File> + Clock + AllocGlobal),
+    directory: &str,
+) -> Result<(Home<FileDevice>, Vec<u8>), Fault>
+    ensures { IfOk result (λ found. IsReplayed file_seen file_may_leave found.0 found.1.items) }
+{
+    let device = open_device(rt, directory)?;
+    match Home::open(rt.alloc(), device) {
+        Ok((home, cut)) => Ok((home, cut)),
+        Err(unopened) => Err(Fault::Home(unopened.fault)),
+    }
+}
+
+/// Keeps what is to be cut, as of a group that a crash cut, in a file of its own, and says so on standard error.
+pub fn keep_tail(
+    streams: &impl Eprint,
+    rt: &(impl Files<File = File> + AllocGlobal),
+    directory: &str,
+    cut: &[u8],
+) -> Result<(), Fault> {
+    if cut.is_empty() {
+        return Ok(());
+    }
+    let number = keep_cut(rt, directory, cut)?;
+    let count = cut.len();
+    // the file is there also where standard error takes nothing
+    let _ = eprintln!(streams;
+        "nettlebeam: {directory}/journal: {count} bytes that were never answered are cut, and kept in {CUT}{number}"
+    );
+    Ok(())
+}
+
+/// The site of a directory, its journal at rest. What stood behind the journal's gate is kept in a file of its own first.
 pub fn open_home(
     streams: &impl Eprint,
     rt: &(impl Files<File = File> + Clock + AllocGlobal),
@@ -76,19 +111,23 @@ pub fn open_home(
 ) -> Result<Home<FileDevice>, Fault>
     ensures { IfOk result (λ home. IsOpen file_seen file_may_leave home) }
 {
-    let device = open_device(rt, directory)?;
-    match Home::open(rt.alloc(), device) {
-        Ok((mut home, cut)) => {
-            if !cut.is_empty() {
-                let number = keep_cut(rt, directory, &cut)?;
-                let count = cut.len();
-                let _ = eprintln!(streams;
-                    "nettlebeam: {directory}/journal: {count} bytes that were never answered are cut, and kept in journal.cut-{number}"
-                );
-            }
-            home.repair()?;
-            Ok(home)
-        }
-        Err(unopened) => Err(Fault::Home(unopened.fault)),
-    }
+    let (mut home, cut) = find_home(rt, directory)?;
+    keep_tail(streams, rt, directory, &cut)?;
+    home.repair()?;
+    Ok(home)
+}
+
+/// The site of a directory, its journal at rest, where this process has just answered lines that they aren't kept. What
+/// stands behind the gate is of those lines: where there is no room to keep it, it is cut all the same.
+pub fn open_home_again(
+    streams: &impl Eprint,
+    rt: &(impl Files<File = File> + Clock + AllocGlobal),
+    directory: &str,
+) -> Result<Home<FileDevice>, Fault>
+    ensures { IfOk result (λ home. IsOpen file_seen file_may_leave home) }
+{
+    let (mut home, cut) = find_home(rt, directory)?;
+    let _ = keep_tail(streams, rt, directory, &cut);
+    home.repair()?;
+    Ok(home)
 }

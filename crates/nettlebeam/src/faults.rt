@@ -73,7 +73,7 @@ impl From<DeviceFault> for Fault {
 impl From<ServeFault> for Fault {
     fn from(fault: ServeFault) -> Fault {
         match fault {
-            ServeFault::Home(fault) => Fault::Home(fault),
+            ServeFault::Home(fault) | ServeFault::NotKept(fault) => Fault::Home(fault),
             ServeFault::Read(error) => Fault::Input(error),
             ServeFault::Write(error) => Fault::Output(error),
         }
@@ -137,11 +137,15 @@ fn write_home_fault<W: fmt::Write>(
         HomeFault::NoMemory => write!(f, "out of memory; the site is as its journal says"),
         HomeFault::Failed(error) => write!(
             f,
-            "{directory}/journal: {error}; what was not answered may be kept or not: ask again"
+            "{directory}/journal: {error}; nothing of what wasn't answered is kept"
         ),
         HomeFault::Damaged { line } => write!(
             f,
             "{directory}/journal, line {line}: damaged; nothing is changed: mend the line from a copy of the journal"
+        ),
+        HomeFault::InDoubt(error) => write!(
+            f,
+            "{directory}/journal: {error}; the lines that weren't answered are kept or not: restart the machine, then look with qstat before anything is asked again"
         ),
         HomeFault::Full => write!(f, "{directory}/journal: it may grow no further"),
         HomeFault::NoHeader => write!(

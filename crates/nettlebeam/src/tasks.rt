@@ -1,15 +1,18 @@
 //! What the program does with a site.
 ghost use Rattle.std.specs.Prelude.{◌≡◌};
+ghost use Rattle.std.specs.Prelude.{List, ℕ};
+ghost use Rattle.fed_journal.specs.Files.{file_may_leave, file_seen};
+ghost use Rattle.fed_home.specs.Home.{IsOpen, IsReplayed};
 ghost use Rattle.nettlebeam.specs.Status.{answered_status as status_of};
 
 use crate::command_line::{Asked, Task};
-use crate::directories::{open_device, open_home};
-use crate::faults::Fault;
+use crate::directories::{find_home, keep_tail, open_device, open_home, open_home_again};
+use crate::faults::{Fault, FaultAt};
 use crate::making::make_home;
-use fed_home::replay;
-use fed_journal::Journal;
+use fed_home::{Home, replay};
+use fed_journal::{FileDevice, Journal};
 use fed_reasons::words_beside;
-use fed_serve::{MAX_LINE_BYTES, heard, line_of_words, serve, take_line};
+use fed_serve::{MAX_TAKE_BYTES, ServeFault, heard, line_of_words, serve, take_line};
 use fed_site::{Answered, Complaint, Site};
 use fed_stamp::{SITES, SiteId};
 use std::alloc::Global;
@@ -22,7 +25,7 @@ fn read_input(streams: &(impl Input + AllocGlobal)) -> Result<Vec<u8>, Fault> {
     let mut text = Vec::new(streams.alloc());
     streams
         .reader()
-        .take(MAX_LINE_BYTES as u64 + 1)
+        .take(MAX_TAKE_BYTES as u64 + 1)
         .read_to_end(&mut text)
         .map_err(Fault::Input)?;
     Ok(text)
@@ -83,7 +86,41 @@ fn give_answer(
     Ok(answered_status(&answer.complaint()))
 }
 
-/// Answers one line.
+/// Answers one line by a site at rest.
+fn answer_line(
+    streams: &(impl Print + Eprint + AllocGlobal),
+    home: &mut Home<FileDevice>,
+    line: &[u8],
+) -> Result<u8, Fault>
+    requires { IsOpen file_seen file_may_leave home.old }
+{
+    let answers = home.answer(&[line], false)?;
+    match answers.first() {
+        Some(told) => give_answer(streams, home.site(), line, &told.answer),
+        None => Ok(0),
+    }
+}
+
+/// Answers one line where what a crash left behind the journal's gate can be kept nowhere, for this cause: a line that keeps
+/// nothing is answered all the same.
+fn look_at(
+    streams: &(impl Print + Eprint + AllocGlobal),
+    home: &mut Home<FileDevice>,
+    line: &[u8],
+    fault: Fault,
+) -> Result<u8, Fault>
+    requires { (tail : List ℕ) × IsReplayed file_seen file_may_leave home.old tail }
+{
+    let Some(answers) = home.look(&[line], false)? else {
+        return Err(fault);
+    };
+    match answers.first() {
+        Some(told) => give_answer(streams, home.site(), line, &told.answer),
+        None => Ok(0),
+    }
+}
+
+/// Answers the line of these words.
 fn answer_at(
     streams: &(impl Input + Print + Eprint + AllocGlobal),
     rt: &(impl Files<File = File> + Clock + AllocGlobal),
@@ -92,31 +129,57 @@ fn answer_at(
 ) -> Result<u8, Fault> {
     // before the directory is locked, since standard input may be waited for
     let line = read_line(streams, words)?;
-    let mut home = open_home(streams, rt, directory)?;
-    let given = heard(&line);
-    let answers = home.answer(&[given], false)?;
-    match answers.first() {
-        Some(told) => give_answer(streams, home.site(), given, &told.answer),
-        None => Ok(0),
+    let (mut home, cut) = find_home(rt, directory)?;
+    match keep_tail(streams, rt, directory, &cut) {
+        Ok(()) => {
+            home.repair()?;
+            answer_line(streams, &mut home, heard(&line))
+        }
+        Err(fault) => look_at(streams, &mut home, heard(&line), fault),
     }
 }
 
-/// Answers the lines of standard input, with words behind the answers where these are asked for.
+/// The bytes of answers that are written at once.
+const OUTPUT_BYTES: usize = 65_536;
+
+/// Answers the lines of standard input, with words behind the answers where these are asked for. Where lines can't be kept
+/// they are answered so, standard error says why, and the site is opened again and goes on.
 fn serve_input(
     streams: &(impl Input + Print + Eprint + AllocGlobal),
     rt: &(impl Files<File = File> + Clock + AllocGlobal),
     directory: &str,
     words: bool,
 ) -> Result<u8, Fault> {
+    let alloc = rt.alloc();
     let mut home = open_home(streams, rt, directory)?;
-    let mut writer = io::writer(streams);
-    serve(
-        rt.alloc(),
-        &mut home,
-        &mut streams.reader(),
-        &mut writer,
-        words,
+    let mut reader = streams.reader();
+    let mut writer = BufWriter::with_capacity(alloc, OUTPUT_BYTES, io::writer(streams)).map_err(
+        Fault::Output,
     )?;
+    let mut begun = Vec::new(alloc);
+    for _ in 0..u64::MAX {
+        match serve(
+            alloc,
+            &mut home,
+            &mut begun,
+            &mut reader,
+            &mut writer,
+            words,
+        ) {
+            Ok(()) => return Ok(0),
+            Err(ServeFault::NotKept(fault)) => {
+                let cause = FaultAt {
+                    directory,
+                    fault: Fault::Home(fault),
+                };
+                let _ = eprintln!(streams; "nettlebeam: {cause}; they are answered `not kept`");
+            }
+            Err(fault) => return Err(Fault::from(fault)),
+        }
+        // the lock ends with the home that has it
+        drop(home);
+        home = open_home_again(streams, rt, directory)?;
+    }
     Ok(0)
 }
 
@@ -164,7 +227,7 @@ pub fn do_task<R: Files<File = File> + Clock + AllocGlobal + Clone + Drop>(
     let directory = asked.directory;
     match &asked.task {
         Task::Init { site, sites } => {
-            make_home(rt, directory, site, sites)?;
+            make_home(streams, rt, directory, site, sites)?;
             Ok(0)
         }
         Task::At { words } => answer_at(streams, rt, directory, words),

@@ -1,5 +1,5 @@
-use Rattle.std.proofs.Common.{string_bytes}
-use Rattle.fed_looks.proofs.LookCases.{chart_told, machine_told, reservations_told, why_told}
+use Rattle.std.proofs.Common.{refl, string_bytes}
+use Rattle.fed_looks.proofs.LookCases.{chart_told, machine_told, plan_told, reservations_told, why_told}
 use Rattle.fed_looks.proofs.look_texts.look_text.Goals as goal
 
 pub returns-in-Why : goal.returns-in-Why
@@ -13,3 +13,8 @@ returns-in-Reservations c = reservations_told string_bytes c.reservation_lines.r
 
 pub returns-in-Chart : goal.returns-in-Chart
 returns-in-Chart c = chart_told string_bytes c.chart_svg.result c.args.roster.now c.args.replica.now c.args.look.now c.board-board.result.now c.board-board.ensures c.site-here.result c.in-Chart.moment c.site-here.ensures c.in-Chart.is c.chart_svg.ensures.picture
+
+pub returns-in-Plan : goal.returns-in-Plan
+returns-in-Plan c =
+    plan_told string_bytes c.plan_text_without.result c.args.roster.now c.args.replica.now c.args.look.now c.board-board.result.now c.board-board.ensures c.site-here.result c.in-Plan.moment c.in-Plan.but.items _ c.site-here.ensures c.in-Plan.is refl
+    (rw c.deref-in-Plan.ensures.value at c.plan_text_without.ensures)

@@ -3,7 +3,7 @@ use Rattle.fed_job_json.specs.declared.formats.Format.TheVariants.{Two}
 use Rattle.fed_wire.specs.Reading.{text_value}
 use Rattle.fed_world.specs.Kept.{IsSentOf, IsTextOf}
 use Rattle.fed_model.specs.Run.{packet, run}
-use Rattle.fed_world.proofs.SentLaws.{no_packet, text_at, read_sent, gap_done, taken_done}
+use Rattle.fed_world.proofs.SentLaws.{no_packet, text_at, read_sent, packet_done}
 use Rattle.fed_world.proofs.steps.take_at.Goals.{then-number-eq0-via-then-number-eq0, then-number-eq0-via-else-number-eq0+then-number-texts}
 use Rattle.fed_world.proofs.steps.take_at.Goals as goal
 
@@ -15,28 +15,15 @@ returns-then-number-eq0-clause-done c = λ n events few held all.
       | then-number-eq0-via-else-number-eq0+then-number-texts w ↦ inr (omega arith)
     ])
 
-pub returns-in-Ok-take-clause-done : goal.returns-in-Ok-take-clause-done
-returns-in-Ok-take-clause-done c = λ n events few held all.
+pub returns-clause-done : goal.returns-clause-done
+returns-clause-done c = λ n events few held all.
     let small : c.get-index.result < n = omega (arith, held.count) in
     let there : c.args.number - 1 < length c.args.texts.now = omega arith in
     let numbered : c.args.number ≡ suc (c.args.number - 1) = omega arith in
     let p = text_at (run n events).packets c.args.texts.now (c.args.number - 1) c.index-texts-packet_index.result all there in
     let text : IsTextOf p.0 c.index-texts-packet_index.result = subst (IsTextOf p.0) (sym c.index-texts-packet_index.is) p.2 in
     let sent : IsSentOf p.0 c.in-Ok.packet = read_sent p.0 _ text c.read.result c.in-Ok.packet c.in-Ok.is (c.read.ensures.only Two text.sent text.limits (ap text_value c.bytes.ensures ∙ text.again)) in
-    taken_done n events few c.args.replicas.now held c.args.site c.get-index.result c.get-index.ensures.same small c.args.number p.0 c.in-Ok.packet
+    packet_done n events few c.args.replicas.now held c.args.site c.get-index.result c.get-index.ensures.same small c.args.number p.0 c.in-Ok.packet
     (ap (packet (run n events)) numbered ∙ p.1) sent
-    _ c.take.new.self (held.each c.get-index.result c.index-replicas-index.result small)
-    c.in-Ok-take.taken c.in-Ok-take.ensures.grew c.in-Ok-take.ensures.site c.in-Ok-take.ensures.known c.in-Ok-take.ensures.stands c.in-Ok-take.ensures.heard
-
-pub returns-in-Gap-clause-done : goal.returns-in-Gap-clause-done
-returns-in-Gap-clause-done c = λ n events few held all.
-    let small : c.get-index.result < n = omega (arith, held.count) in
-    let there : c.args.number - 1 < length c.args.texts.now = omega arith in
-    let numbered : c.args.number ≡ suc (c.args.number - 1) = omega arith in
-    let p = text_at (run n events).packets c.args.texts.now (c.args.number - 1) c.index-texts-packet_index.result all there in
-    let text : IsTextOf p.0 c.index-texts-packet_index.result = subst (IsTextOf p.0) (sym c.index-texts-packet_index.is) p.2 in
-    let sent : IsSentOf p.0 c.in-Ok.packet = read_sent p.0 _ text c.read.result c.in-Ok.packet c.in-Ok.is (c.read.ensures.only Two text.sent text.limits (ap text_value c.bytes.ensures ∙ text.again)) in
-    gap_done n events few c.args.replicas.now held c.args.site c.get-index.result c.get-index.ensures.same small c.args.number p.0 c.in-Ok.packet
-    (ap (packet (run n events)) numbered ∙ p.1) sent
-    _ c.take.new.self (held.each c.get-index.result c.index-replicas-index.result small)
-    c.in-Gap.missing (rw c.in-Gap.is at c.in-Err.ensures.fault) c.in-Err.ensures.unchanged
+    _ c.receive.new.self (held.each c.get-index.result c.index-replicas-index.result small)
+    c.in_ok-received.ensures.stands c.outcome.result (c.outcome.ensures ∙ c.in_ok-received.ensures.said) c.in_ok-received.ensures.left

@@ -1,0 +1,61 @@
+-- What the header of a home names is a roster.
+use Rattle.std.specs.Prelude.{codes, Option, Some, None, option_and_then, option_map, ◌&&◌, if◌then◌else◌}
+use Rattle.std.specs.List.{list_any}
+use Rattle.std.specs.Result.{result_ok}
+use Rattle.std.specs.Str.{bytes_eq}
+use Rattle.std.proofs.Common.{◌≡◌, ℕ, List, [], ◌∷◌, Bool, true, false, refl, subst}
+use Rattle.fed_stamp.specs.declared.rosters.RosterFault.{RosterFault}
+use Rattle.fed_stamp.specs.Roster.{IsRoster, first_fault, ok_unless}
+use Rattle.fed_stamp.proofs.RosterLemmas.{roster_from_no_fault}
+use Rattle.fed_words.specs.Site.{site_named}
+use Rattle.fed_script.specs.Forms.{◌>>=◌}
+use Rattle.fed_script.specs.Line.{words_in}
+use Rattle.fed_script.specs.Rosters.{is_reserved, roster_of, sites_in}
+use Rattle.fed_home.specs.declared.headers.Header.{Header}
+use Rattle.fed_home.specs.Header.{header_in, header_of, site_among}
+
+-- ---- rosters that are read
+faultless : (sites roster : List (List ℕ × ℕ)) (f : Option RosterFault) → first_fault sites ≡ f → result_ok (ok_unless f sites) ≡ Some roster → IsRoster roster
+faultless sites roster None is e = let same : sites ≡ roster = cc in subst IsRoster same (roster_from_no_fault sites is)
+faultless sites roster (Some fault) is e = let none : None ≡ Some roster = e in cc
+
+reserved : (sites roster : List (List ℕ × ℕ)) (b : Bool) → (if b then None else result_ok (ok_unless (first_fault sites) sites)) ≡ Some roster → IsRoster roster
+reserved sites roster true e = cc
+reserved sites roster false e = faultless sites roster (first_fault sites) refl e
+
+named : (roster : List (List ℕ × ℕ)) (o : Option (List (List ℕ × ℕ)))
+    → option_and_then (λ sites. if list_any (λ site. is_reserved site.0) sites then None else result_ok (ok_unless (first_fault sites) sites)) o ≡ Some roster → IsRoster roster
+named roster None e = cc
+named roster (Some sites) e = reserved sites roster (list_any (λ site. is_reserved site.0) sites) e
+
+-- ---- headers
+some_same : (x y : Header) → Some x ≡ Some y → x ≡ y
+some_same x y e = cc
+
+module _ (name : List ℕ) (h : Header) where
+  found_roster : (roster : List (List ℕ × ℕ)) → IsRoster roster → (found : Option ℕ) → option_map (λ site. record { roster = roster; site = site }) found ≡ Some h → IsRoster h.roster
+  found_roster roster lawful None e = cc
+  found_roster roster lawful (Some i) e =
+      let made : Header = record { roster = roster; site = i } in
+      subst (λ (x : Header). IsRoster x.roster) (some_same made h e) lawful
+
+  among_roster : (words : List (List ℕ)) (o : Option (List (List ℕ × ℕ))) → roster_of words ≡ o → (o >>= λ roster. option_map (λ site. record { roster = roster; site = site }) (site_named roster name)) ≡ Some h → IsRoster h.roster
+  among_roster words None is e = cc
+  among_roster words (Some roster) is e = found_roster roster (named roster (sites_in words) is) (site_named roster name) e
+
+  tested_roster : (test : Bool) (words : List (List ℕ)) → (if test then site_among name words else None) ≡ Some h → IsRoster h.roster
+  tested_roster true words e = among_roster words (roster_of words) refl e
+  tested_roster false words e = cc
+
+words_roster : (words : List (List ℕ)) (h : Header) → header_of words ≡ Some h → IsRoster h.roster
+words_roster [] h e = cc
+words_roster (format ∷ []) h e = cc
+words_roster (format ∷ version ∷ []) h e = cc
+words_roster (format ∷ version ∷ name ∷ sites) h e = tested_roster name h (bytes_eq format (codes "nettlebeam") && bytes_eq version (codes "1")) sites e
+
+read_roster : (words : Option (List (List ℕ))) (h : Header) → (words >>= header_of) ≡ Some h → IsRoster h.roster
+read_roster None h e = cc
+read_roster (Some words) h e = words_roster words h e
+
+pub header_roster : (line : List ℕ) (h : Header) → header_in line ≡ Some h → IsRoster h.roster
+header_roster line h e = read_roster (words_in line) h e

@@ -1,0 +1,128 @@
+//! Complaints and their words.
+use crate::sites::{complaint, site_of, taking};
+use crate::texts::{BEHIND_OTHERS, OF_A_MEMORY, OF_A_THIRD};
+use fed_record::Refusal;
+use fed_site::Complaint;
+use fed_stamp::SiteId;
+use fed_wire::{Part, Place, WireFault};
+use fed_words::UsageFault;
+use std::process::Abort;
+
+#[test]
+fn complaints_tell_why(rt: HostRuntime) {
+    let mut argonne = site_of(&rt, 0);
+    let lemont = SiteId::new(1).expect(&rt, "a site");
+    let refused = |index: usize, refusal: Refusal| Some(Complaint::Refused { index, refusal });
+    let unread = |fault: WireFault| Some(Complaint::Unread(fault));
+    assert!(rt; complaint(&rt, &mut argonne, b"take") == Some(Complaint::Unreadable));
+    assert!(rt;
+        complaint(&rt, &mut argonne, b"roster a:1")
+            == Some(Complaint::Misused(UsageFault::UnknownUtility))
+    );
+    assert!(rt;
+        complaint(&rt, &mut argonne, b"ann qalter -p 5 9") == refused(0, Refusal::UnknownJob)
+    );
+    assert!(rt; complaint(&rt, &mut argonne, b"ann qsub").is_none());
+    assert!(rt; complaint(&rt, &mut argonne, b"bob qsub").is_none());
+    // the first of two complaints, behind a command that is done
+    assert!(rt;
+        complaint(&rt, &mut argonne, b"ann qdel 1 2 9") == refused(1, Refusal::NotPermitted)
+    );
+    assert!(rt; complaint(&rt, &mut argonne, b"take nothing") == unread(WireFault::NotJson));
+    assert!(rt;
+        complaint(&rt, &mut argonne, b"take {\"format\":3}") == unread(WireFault::Version(3))
+    );
+    let whole = Place {
+        part: Part::Whole,
+        index: 0,
+    };
+    assert!(rt;
+        complaint(&rt, &mut argonne, b"take {}") == unread(WireFault::Shape { place: whole })
+    );
+    assert!(rt; complaint(&rt, &mut argonne, OF_A_THIRD) == Some(Complaint::Foreign));
+    assert!(rt; complaint(&rt, &mut argonne, BEHIND_OTHERS) == Some(Complaint::Gap(lemont)));
+    assert!(rt; complaint(&rt, &mut site_of(&rt, 0), OF_A_MEMORY) == Some(Complaint::Forgotten));
+}
+
+#[test]
+fn what_is_done_has_no_complaint(rt: HostRuntime) {
+    let mut argonne = site_of(&rt, 0);
+    let mut lemont = site_of(&rt, 1);
+    let lines: [&[u8]; 6] = [
+        b"",
+        b"# a comment",
+        b"ann qsub",
+        b"ann qstat",
+        b"plan 0",
+        b"ship lemont",
+    ];
+    for line in lines {
+        assert!(rt; complaint(&rt, &mut argonne, line).is_none());
+    }
+    let packet = taking(&rt, &mut argonne, b"ship lemont");
+    for _ in 0..2 {
+        assert!(rt; complaint(&rt, &mut lemont, &packet).is_none());
+    }
+}
+
+#[test]
+fn complaints_have_words(rt: HostRuntime) {
+    let place = Place {
+        part: Part::Jobs,
+        index: 7,
+    };
+    let told = [
+        (
+            Complaint::Refused {
+                index: 0,
+                refusal: Refusal::Granted,
+            },
+            "refused 4: the job is granted",
+        ),
+        (
+            Complaint::Misused(UsageFault::BadIdentifier),
+            "usage 5: an identifier has a wrong form",
+        ),
+        (
+            Complaint::Unread(WireFault::NotJson),
+            "unread 1: the text is no JSON",
+        ),
+        (
+            Complaint::Unread(WireFault::Version(3)),
+            "unread 2 3: the packet is of format 3, not of 1 or 2",
+        ),
+        (
+            Complaint::Unread(WireFault::Shape { place }),
+            "unread 3 jobs 7: a part of the packet is missing or has a wrong form",
+        ),
+        (
+            Complaint::Unread(WireFault::Range { place }),
+            "unread 4 jobs 7: a value of the packet is out of range",
+        ),
+        (
+            Complaint::NoPlan,
+            "no plan: what the packets say runs here fits no machine",
+        ),
+        (
+            Complaint::Unreadable,
+            "cannot be read: the line has no form that this site knows",
+        ),
+        (
+            Complaint::Foreign,
+            "foreign: the packet tells of a site that is not of this roster",
+        ),
+        (
+            Complaint::Gap(SiteId::default()),
+            "gap: the packet rests on operations that this site has not seen yet",
+        ),
+        // it doesn't say to go on with this directory
+        (
+            Complaint::Forgotten,
+            "forgotten: the packet has seen operations of this site that its journal lacks: stop, and go on with the newest journal",
+        ),
+    ];
+    for (complaint, words) in told {
+        let text = complaint.to_string(rt.alloc()).expect(&rt, "memory");
+        assert!(rt; text.as_str() == words);
+    }
+}
