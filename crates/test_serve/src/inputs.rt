@@ -324,14 +324,12 @@ fn answers_all(rt: &(impl Abort + AllocGlobal), input: &[u8], asked: bool, wante
             Err(ServeFault::Write(error)) => {
                 assert!(rt; error.kind() == ErrorKind::OutOfMemory);
             }
-            // so is the disk, the gate's entry too
-            Err(ServeFault::Home(HomeFault::InDoubt(error))) => {
-                assert!(rt; error.kind() == ErrorKind::OutOfMemory);
-            }
+            // so is the disk, which fails where it has no memory for what it is to have
             Err(fault) => assert!(rt;
                 matches!(
                     fault,
-                    ServeFault::Home(HomeFault::NoMemory) | ServeFault::NotKept(HomeFault::NoMemory)
+                    ServeFault::Home(HomeFault::NoMemory | HomeFault::InDoubt(_))
+                        | ServeFault::NotKept(HomeFault::NoMemory | HomeFault::Failed(_))
                 )
             ),
         }
