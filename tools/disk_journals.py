@@ -39,6 +39,15 @@ def read_journal(file):
     return entries, file[place + 1 :]
 
 
+def journal_of(entries):
+    """The bytes of a journal at rest that has these entries."""
+    lines, digest = [], FIRST_DIGEST
+    for entry in entries:
+        digest = hashlib.sha256(digest + entry).hexdigest()[:16].encode()
+        lines.append(b"+ " + digest + b" " + entry + b"\n")
+    return b"".join(lines) + b"-"
+
+
 class SmallDisk:
     """A file system in memory that can be filled. An OSError where none may be mounted here."""
 

@@ -3,6 +3,7 @@
 Whatever a process answered must be what the model says, and must stand in the journal. Where a process was killed or
 the disk was full, the journal says how far it came, and the model follows it.
 """
+import json
 import os
 import re
 import shutil
@@ -10,10 +11,11 @@ import signal
 import subprocess
 import tempfile
 import threading
+import time
 from itertools import zip_longest
 from typing import NamedTuple
 
-from disk_journals import Damaged, Directory, Wrong, read_journal, shown
+from disk_journals import Damaged, Directory, Wrong, journal_of, read_journal, shown
 from plain_model import Answer, Packet, Site
 from plain_words import READABLE
 
@@ -136,14 +138,21 @@ class DiskSite:
         self.roster = roster
         self.model = Site(roster, number)
         self.name = roster.names[number]
-        self.directory = Directory(path, self.name, " ".join(["nettlebeam 1", self.name, *roster.words()]).encode())
+        self.directory = Directory(path, self.name, self.header(1))
+        # what the site held when its journal was compacted last, and how many entries say so
+        self.base, self.base_entries = Site(roster, number), 1
         self.disk = None
         self.not_kept = 0
+        self.compactions = 0
+
+    def header(self, version):
+        """The first entry of the site's journal."""
+        return " ".join([f"nettlebeam {version}", self.name, *self.roster.words()]).encode()
 
     def replayed(self, entries, packets):
-        """A site of the model that was told these entries, the first being the header."""
-        site = Site(self.roster, self.model.number)
-        for entry in entries[1:]:
+        """A site of the model that was told these entries, of which the first say what it held before."""
+        site = self.base.copy()
+        for entry in entries[self.base_entries :]:
             if entry.startswith(b"take "):
                 site.take(packets[entry[5:]])
             else:
@@ -202,6 +211,10 @@ class DiskSite:
     def follow(self, answers, before, said, is_whole, is_group=False):
         """Sees that the journal has what was answered, and takes the model back to what the journal has. Lines that
         came as one group are all there or none."""
+        needed = sum(answer.kept for _, answer in (answers if is_whole else answers[:said]))
+        if self.is_compacted(needed):
+            done, before = self.find_compaction(answers, before)
+            answers, said = answers[done:], max(0, said - done)
         kept = [line.text for line, answer in answers if answer.kept]
         new = self.directory.new_entries()
         for found, wanted in zip_longest(new, kept[: len(new)], fillvalue=b"nothing"):
@@ -237,11 +250,11 @@ class DiskSite:
             place += len(told[-1][1].text) + 1
         return told
 
-    def serve(self, make_line, count, cut=Cut(), pieces=1):
+    def serve(self, make_line, count, cut=Cut(), pieces=1, options=()):
         """Pipes lines into `serve`. Gives those that were answered, with their answers, but for lines that aren't kept."""
-        before = None if cut == Cut() else self.model.copy()
+        before = self.model.copy()
         answers, given = self.asked(make_line, count)
-        ended = run(self.program, ["serve", self.directory.path], given, cut, pieces)
+        ended = run(self.program, ["serve", *options, self.directory.path], given, cut, pieces)
         if cut.is_full or cut.most_bytes is not None:
             answers = self.behind_lines_not_kept(before, answers, ended.out)
             self.not_kept += sum(answer is NOT_KEPT for _, answer in answers)
@@ -302,6 +315,7 @@ class DiskSite:
 
     def at_beside_serve(self, make_line, count, last):
         """Asks a line by `at` while `serve` has the directory, so that it has to wait until that ends."""
+        before = self.model.copy()
         answers, given = self.asked(make_line, count)
         serving = start(self.program, ["serve", self.directory.path])
         out = ask(serving, given, sum(len(answer.text) + 1 for _, answer in answers))
@@ -312,8 +326,94 @@ class DiskSite:
         answers.append((last, self.expected(last)))
         if finish(asking).out != answers[-1][1].text.encode():
             raise Wrong(f"{self.name}: at beside serve: {shown(last.text)} was answered otherwise")
-        self.follow(answers, None, len(answers), True)
+        self.follow(answers, before, len(answers), True)
         return answers
+
+    # Compacting
+
+    def front_of(self, model):
+        """The entries of a journal that is compacted where the site holds this."""
+        return [self.header(2), *(text.encode() for text in model.compacted())]
+
+    def is_compacted(self, needed):
+        """Whether another journal has come into the place of the one that was known, which would have so many entries more
+        at least. Both may begin with the same, where the lines between two compactions have changed nothing."""
+        entries, known = self.directory.journal()[0], self.directory.entries
+        goes_on = entries[: len(known)] == known and len(entries) >= len(known) + needed
+        return entries[:1] == [self.header(2)] and not goes_on
+
+    def note_compaction(self, front, model):
+        """The journal begins with these entries, which say what the site held."""
+        self.directory.entries, self.base, self.base_entries = front, model.copy(), len(front)
+        self.compactions += 1
+
+    def find_compaction(self, answers, before):
+        """How many of these lines were done when the journal was compacted, and the model as it was then. Where several are
+        possible, since lines changed nothing of what the site holds, it is the most."""
+        entries, _ = self.directory.journal()
+        if before is None or len(entries) < 2:
+            raise Wrong(f"{self.name}: the journal was compacted where nothing may: {shown(self.directory.file())}")
+        reached = json.loads(entries[1])["reached"]
+        kept_now, after, heard, front, found = self.model, before.copy(), None, [], None
+        self.model = after
+        try:
+            for done in range(len(answers) + 1):
+                if after.version == reached:
+                    if heard != after.heard:
+                        heard, front = [list(version) for version in after.heard], self.front_of(after)
+                    kept = [line.text for line, answer in answers[done:] if answer.kept]
+                    new = entries[len(front) :]
+                    if entries[: len(front)] == front and new == kept[: len(new)]:
+                        found = done, front, after.copy()
+                if done < len(answers) and answers[done][1] is not NOT_KEPT:
+                    self.expected(answers[done][0])
+        finally:
+            self.model = kept_now
+        if not found:
+            raise Wrong(f"{self.name}: the journal was compacted to what the site never held: {shown(entries[1])}")
+        done, front, after = found
+        self.note_compaction(front, after)
+        return done, after
+
+    def compact(self, cut=Cut()):
+        """Has the journal compacted. Whatever stops that, it is the old one or the new one, and both are whole."""
+        front, old = self.front_of(self.model), self.directory.entries
+        before, after = len(journal_of(old)), len(journal_of(front))
+        ended = run(self.program, ["compact", self.directory.path], cut=cut)
+        if cut.explains(ended.status):
+            found = self.directory.journal()[0]
+            if found not in ((old,) if ended.status == 3 else (old, front)):
+                raise Wrong(f"{self.name}: a compaction that was stopped left {len(found)} entries: {shown(self.directory.file())}")
+        else:
+            self.expect_status(ended, 0, "compact")
+            told = f"compacted: {before} bytes before, {after} now\n" if after < before else f"not compacted: {before} bytes, {after} if it were\n"
+            if ended.out != told.encode():
+                raise Wrong(f"{self.name}: compact: {shown(ended.out)}, and not {shown(told)}")
+            found, wanted = self.directory.journal()[0], front if after < before else old
+            if found != wanted:
+                raise Wrong(f"{self.name}: compact left {shown(self.directory.file())}, and not {shown(journal_of(wanted))}")
+        self.directory.note_tail(self.directory.journal()[1])
+        if found == front != old:
+            self.note_compaction(front, self.model)
+        return ended
+
+    def at_beside_compact(self, line, kill_after=None):
+        """Asks a line by `at` while the journal is being compacted, or while that is killed: it waits for the directory."""
+        before = self.model.copy()
+        answer = self.expected(line)
+        compacting = start(self.program, ["compact", self.directory.path])
+        asking = start(self.program, self.words_at(line)[0])
+        if kill_after is not None:
+            time.sleep(kill_after)
+            compacting.kill()
+        ended, other = finish(asking), finish(compacting)
+        if ended.out != answer.text.encode():
+            raise Wrong(f"{self.name}: at beside compact: {shown(line.text)}: {shown(ended.out)} {shown(ended.err)}, and not {shown(answer.text)}")
+        self.expect_status(ended, int(is_fault(answer)), "at beside compact")
+        if kill_after is None or other.status != -signal.SIGKILL:
+            self.expect_status(other, 0, "compact")
+        self.follow([(line, answer)], before, 1, True)
+        return other, [(line, answer)]
 
     # Checks
 
@@ -323,7 +423,8 @@ class DiskSite:
         ended = run(self.program, ["check", self.directory.path])
         self.expect_status(ended, 0, "check")
         seen = " ".join(f"{name} {counter}" for name, counter in zip(self.roster.names, self.model.version))
-        front = f"entries {len(self.directory.entries)}, seen {seen}, jobs {len(self.model.jobs())}, "
+        form = " (compacted)" if self.base_entries > 1 else ""
+        front = f"entries {len(self.directory.entries)}{form}, seen {seen}, jobs {len(self.model.jobs())}, "
         wanted = f"{front}unfinished bytes {len(self.directory.tail)}\n".encode()
         if ended.out != wanted:
             raise Wrong(f"{self.name}: check: {shown(ended.out)}, and not {shown(wanted)}")
@@ -357,6 +458,9 @@ class DiskSite:
             return
         if not entries:
             self.expect_status(ended, 3, "a journal without an entry")
+            return
+        if entries == [self.header(2)]:
+            self.expect_status(ended, 3, "a journal without what the site knew")
             return
         self.expect_status(ended, 0, "a journal with a closed gate")
         listing = self.replayed(entries, packets).listing(True).encode()

@@ -343,15 +343,14 @@ class Site:
         """The text of a packet that this site has just made: what changed beyond the packet's need."""
         jobs = [job for job in self.jobs() if not is_at_most(job.version, packet.need)]
         reservations = [last for last in self.reservations() if not covers(packet.need, last.stamp)]
-        value = {
-            "format": 2,
-            "jobs": [job_value(job) for job in jobs],
-            "need": packet.need,
-            "reached": packet.reached,
-            "reservations": [reservation_value(last) for last in reservations],
-            "sender": packet.sender,
-        }
-        return json.dumps(value, separators=(",", ":"), sort_keys=True) + "\n"
+        return packet_text(packet.sender, packet.need, packet.reached, jobs, reservations) + "\n"
+
+    def compacted(self):
+        """What a compacted journal of this site has behind its header: a packet that needs nothing and has all, and for each
+        site that was heard of the line of a packet that tells nothing but what was heard."""
+        texts = [packet_text(self.number, [0] * 16, self.version, self.jobs(), self.reservations())]
+        heard = [(sender, version) for sender, version in enumerate(self.heard) if any(version)]
+        return texts + ["take " + packet_text(sender, version, version, [], []) for sender, version in heard]
 
     # Listings
 
@@ -519,6 +518,19 @@ def reservation_value(last):
     if last.kind == "reserve":
         window = [last.values[it] for it in ("site", "start", "end", "nodes")]
     return {"id": list(last.subject), "window": [window, list(last.stamp)]}
+
+
+def packet_text(sender, need, reached, jobs, reservations):
+    """The text of a packet, without a line feed."""
+    value = {
+        "format": 2,
+        "jobs": [job_value(job) for job in jobs],
+        "need": need,
+        "reached": reached,
+        "reservations": [reservation_value(last) for last in reservations],
+        "sender": sender,
+    }
+    return json.dumps(value, separators=(",", ":"), sort_keys=True)
 
 
 class Federation:

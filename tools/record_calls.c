@@ -1,11 +1,15 @@
 /* Records the calls by which the program that it is loaded into by LD_PRELOAD changes what a disk has: each is one record
- * behind the others in the file that CALLS_RECORD names. A record is a line of numbers, `KIND DESCRIPTOR OFFSET LENGTH`, and
- * LENGTH bytes: those that were written, or a path. Where KILL_AFTER gives a number, the program is killed once it has made
- * so many of them. Locks that were taken and reads are recorded too, and aren't counted. Calls that failed, and bytes that
- * weren't taken, are in no record. */
+ * behind the others in the file that CALLS_RECORD names. A record is a line, `KIND DESCRIPTOR OFFSET LENGTH`, and LENGTH
+ * bytes: those that were written, a path, or of a rename both paths with a zero between. OFFSET is where they were written,
+ * to which length a file was cut, or who may do what with a file. Where KILL_AFTER gives a number, the program is killed
+ * once it has made so many of them. Locks that were taken and reads are recorded too, and aren't counted; an open that cuts
+ * a file has two records and counts once. Calls that failed, and bytes that weren't taken, are in no record.
+ * Where FAIL_AT gives a number, the call of this number, among all of these functions, isn't made and fails with EIO. */
 #define _GNU_SOURCE
 #include <dlfcn.h>
+#include <errno.h>
 #include <fcntl.h>
+#include <limits.h>
 #include <signal.h>
 #include <stdarg.h>
 #include <stdio.h>
@@ -17,17 +21,34 @@
 
 static int file = -1;
 static long left;
+static long before_failure;
+
+/* The number that a variable gives, or -1. */
+static long number_in(const char *name)
+{
+    const char *number = getenv(name);
+    return number ? strtol(number, NULL, 10) : -1;
+}
 
 __attribute__((constructor)) static void begin(void)
 {
     const char *path = getenv("CALLS_RECORD");
-    const char *number = getenv("KILL_AFTER");
-    left = number ? strtol(number, NULL, 10) : -1;
+    left = number_in("KILL_AFTER");
     int made = path ? open(path, O_WRONLY | O_CREAT | O_APPEND, 0600) : -1;
-    if (made < 0)
-        return;
-    file = fcntl(made, F_DUPFD_CLOEXEC, 500);
-    close(made);
+    if (made >= 0) {
+        file = fcntl(made, F_DUPFD_CLOEXEC, 500);
+        close(made);
+    }
+    before_failure = number_in("FAIL_AT");
+}
+
+/* Whether this call is the one that fails. */
+static int fails(void)
+{
+    if (before_failure <= 0 || --before_failure > 0)
+        return 0;
+    errno = EIO;
+    return 1;
 }
 
 /* Adds a record. */
@@ -52,10 +73,15 @@ static void record(const char *kind, int descriptor, long offset, const void *by
 /* The library's own function of this name. */
 #define NEXT(type, name) static type (*next)(); if (!next) next = (type (*)())dlsym(RTLD_NEXT, name)
 
-static int opened(int descriptor, const char *path, int flags)
+static int opened(int descriptor, const char *path, int flags, int mode)
 {
-    if (descriptor >= 0)
-        record(flags & O_CREAT ? "create" : "open", descriptor, 0, path, strlen(path));
+    const char *kind = flags & O_CREAT ? "create" : "open";
+    if (descriptor >= 0 && flags & O_TRUNC) {
+        add(kind, descriptor, mode, path, strlen(path));
+        record("cut", descriptor, 0, "", 0);
+    } else if (descriptor >= 0) {
+        record(kind, descriptor, mode, path, strlen(path));
+    }
     return descriptor;
 }
 
@@ -66,7 +92,9 @@ int open(const char *path, int flags, ...)
     int mode = flags & O_CREAT ? va_arg(more, int) : 0;
     va_end(more);
     NEXT(int, "open");
-    return opened(next(path, flags, mode), path, flags);
+    if (fails())
+        return -1;
+    return opened(next(path, flags, mode), path, flags, mode);
 }
 
 int openat(int folder, const char *path, int flags, ...)
@@ -76,21 +104,67 @@ int openat(int folder, const char *path, int flags, ...)
     int mode = flags & O_CREAT ? va_arg(more, int) : 0;
     va_end(more);
     NEXT(int, "openat");
-    return opened(next(folder, path, flags, mode), path, flags);
+    if (fails())
+        return -1;
+    return opened(next(folder, path, flags, mode), path, flags, mode);
 }
 
 int mkdir(const char *path, mode_t mode)
 {
     NEXT(int, "mkdir");
+    if (fails())
+        return -1;
     int status = next(path, mode);
     if (status == 0)
-        record("mkdir", -1, 0, path, strlen(path));
+        record("mkdir", -1, mode, path, strlen(path));
+    return status;
+}
+
+int rename(const char *old, const char *new)
+{
+    NEXT(int, "rename");
+    if (fails())
+        return -1;
+    char both[2 * PATH_MAX];
+    size_t front = strlen(old) + 1, length = front + strlen(new);
+    int status = next(old, new);
+    if (status == 0 && length > sizeof both)
+        abort();
+    if (status == 0) {
+        memcpy(both, old, front);
+        memcpy(both + front, new, length - front);
+        record("rename", -1, 0, both, length);
+    }
+    return status;
+}
+
+int unlink(const char *path)
+{
+    NEXT(int, "unlink");
+    if (fails())
+        return -1;
+    int status = next(path);
+    if (status == 0)
+        record("unlink", -1, 0, path, strlen(path));
+    return status;
+}
+
+int fchmod(int descriptor, mode_t mode)
+{
+    NEXT(int, "fchmod");
+    if (fails())
+        return -1;
+    int status = next(descriptor, mode);
+    if (status == 0)
+        record("chmod", descriptor, mode, "", 0);
     return status;
 }
 
 ssize_t pwrite(int descriptor, const void *bytes, size_t length, off_t offset)
 {
     NEXT(ssize_t, "pwrite");
+    if (fails())
+        return -1;
     ssize_t done = next(descriptor, bytes, length, offset);
     if (done > 0)
         record("write", descriptor, offset, bytes, done);
@@ -100,6 +174,8 @@ ssize_t pwrite(int descriptor, const void *bytes, size_t length, off_t offset)
 ssize_t write(int descriptor, const void *bytes, size_t length)
 {
     NEXT(ssize_t, "write");
+    if (fails())
+        return -1;
     ssize_t done = next(descriptor, bytes, length);
     if (done > 0)
         record("say", descriptor, 0, bytes, done);
@@ -109,34 +185,42 @@ ssize_t write(int descriptor, const void *bytes, size_t length)
 int ftruncate(int descriptor, off_t length)
 {
     NEXT(int, "ftruncate");
+    if (fails())
+        return -1;
     int status = next(descriptor, length);
     if (status == 0)
         record("cut", descriptor, length, "", 0);
     return status;
 }
 
-static int synced(int status, int descriptor)
+static int synced(int status, int descriptor, const char *kind)
 {
     if (status == 0)
-        record("sync", descriptor, 0, "", 0);
+        record(kind, descriptor, 0, "", 0);
     return status;
 }
 
 int fsync(int descriptor)
 {
     NEXT(int, "fsync");
-    return synced(next(descriptor), descriptor);
+    if (fails())
+        return -1;
+    return synced(next(descriptor), descriptor, "sync");
 }
 
 int fdatasync(int descriptor)
 {
     NEXT(int, "fdatasync");
-    return synced(next(descriptor), descriptor);
+    if (fails())
+        return -1;
+    return synced(next(descriptor), descriptor, "datasync");
 }
 
 int flock(int descriptor, int operation)
 {
     NEXT(int, "flock");
+    if (fails())
+        return -1;
     int status = next(descriptor, operation);
     if (status == 0)
         add("lock", descriptor, 0, "", 0);
@@ -146,6 +230,8 @@ int flock(int descriptor, int operation)
 ssize_t read(int descriptor, void *bytes, size_t length)
 {
     NEXT(ssize_t, "read");
+    if (fails())
+        return -1;
     ssize_t done = next(descriptor, bytes, length);
     if (done >= 0)
         add("read", descriptor, 0, "", 0);

@@ -21,6 +21,7 @@ class Backup:
         self.command = command
         self.copies = Shared(self.copy)
         self.trouble = ""
+        self.copying = asyncio.Lock()  # locked while a copy is made, and while another journal is put in the place of this one
 
     async def made(self) -> None:
         """Waits until a copy is made that was begun after this was called."""
@@ -44,7 +45,8 @@ class Backup:
     async def copy(self) -> None:
         """Runs the command, and keeps whether it failed."""
         try:
-            await self.run()
+            async with self.copying:
+                await self.run()
             self.trouble = ""
         except NoBackup as fault:
             self.trouble = str(fault)

@@ -13,6 +13,7 @@ from typing import Any, List, Optional
 
 from .backup import Backup
 from .clients import Clients, listen
+from .compacting import Compacting
 from .config import Config, ConfigFault, read_config
 from .house import House
 from .memory import Memory
@@ -85,12 +86,13 @@ class Service:
         self.backup = Backup(keys.backup)
         self.runs = Runs(config.jobs, self.site, self.spool, self.backup, log, self.changed)
         running = Running(config.name, self.site, self.runs)
-        self.requests = Requests(list(config.roster), self.site, self.spool, self.backup, running, self.changed)
+        compacting = Compacting(config.house, self.site, self.backup, log)
+        self.requests = Requests(list(config.roster), self.site, self.spool, self.backup, running, compacting, self.changed)
         self.users = Users(config.site)
         self.clients = Clients(config.clients, self.users, self.requests, os.getuid(), log)
         self.peers = Peers(config.name, config.peers, self.site, self.requests, log, self.changed)
         self.scheduler = Scheduler(config, self.site, self.spool, self.backup, self.peers, self.users, self.runs, log)
-        self.house = House(config.name, config.house, self.site, self.spool, log)
+        self.house = House(config.name, config.house, self.site, self.spool, compacting, log)
         self.page = Page(config, self.site, self.backup, self.peers, log)
         self.stopping = asyncio.Event()
 

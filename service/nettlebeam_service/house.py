@@ -1,4 +1,5 @@
-"""House-keeping, at the start and once a day: jobs that are gone are recorded, and their files in the spool removed."""
+"""House-keeping, at the start and once a day: jobs that are gone are recorded, their files in the spool removed, and the
+journal is compacted."""
 from __future__ import annotations
 
 import asyncio
@@ -8,6 +9,7 @@ import time
 from typing import Callable, Dict, Sequence
 
 from .accounting import Accounting
+from .compacting import Compacting
 from .config import HouseKeys
 from .site import Site, Stopped
 from .spool import Spool
@@ -19,10 +21,11 @@ RETRY_SECONDS = 60
 class House:
     """Keeps house for one site."""
 
-    def __init__(self, name: str, keys: HouseKeys, site: Site, spool: Spool, log: Callable[[str], None]):
+    def __init__(self, name: str, keys: HouseKeys, site: Site, spool: Spool, compacting: Compacting, log: Callable[[str], None]):
         self.keys = keys
         self.site = site
         self.spool = spool
+        self.compacting = compacting
         self.log = log
         self.accounting = Accounting(keys.accounting, name)
 
@@ -53,6 +56,7 @@ class House:
         removed = await asyncio.to_thread(self.clear, names, lines)
         if removed:
             self.log(f"the files of {removed} jobs that are gone are removed from the spool")
+        await self.compacting.keep()
 
     def clear(self, names: Sequence[str], lines: Sequence[str]) -> int:
         """Removes the scripts and the runs of jobs that are gone for long enough; of how many."""

@@ -6,6 +6,7 @@ import json
 from typing import Callable, Sequence
 
 from .backup import Backup, NoBackup
+from .compacting import Compacting, Uncompacted
 from .files import remove
 from .lines import CHANGING, FOR_ALL, Client, Denied, asker, check_words, is_complaint, line_of
 from .packets import BadPacket, line_of_packet
@@ -25,6 +26,7 @@ class Requests:
         spool: Spool,
         backup: Backup,
         running: Running,
+        compacting: Compacting,
         changed: Callable[[], None],
     ):
         self.names = names
@@ -33,6 +35,7 @@ class Requests:
         self.backup = backup
         self.changed = changed
         self.running = running
+        self.compacting = compacting
 
     async def answer(self, client: Client, request: Request) -> Reply:
         """The reply to a request of this client."""
@@ -48,6 +51,8 @@ class Requests:
             return Reply(3, words=f"the site stopped: {fault}")
         except NoBackup as fault:
             return Reply(3, words=f"the backup failed, so that no packet may leave: {fault}")
+        except Uncompacted as fault:
+            return Reply(3, words=f"the journal isn't compacted: {fault}")
         except OSError as fault:
             return Reply(3, words=f"the spool: {fault.strerror or fault}")
 
@@ -63,6 +68,8 @@ class Requests:
             return await self.take(client, request)
         if verb == "script":
             return await self.script(client, request)
+        if verb == "compact":
+            return await self.compact(client, request)
         if verb == "qsub" and request.size is not None:
             return await self.submit(client, request)
         line = line_of(client, request.words, request.role)
@@ -118,6 +125,14 @@ class Requests:
         if answer.text.startswith("forgotten"):
             self.site.memory.lose(peer or "a site")
         return answer
+
+    async def compact(self, client: Client, request: Request) -> Reply:
+        """Has the journal compacted now, and tells what the program says."""
+        if not client.is_site:
+            raise Denied("compact is asked by the site's own account alone")
+        if len(request.words) > 1:
+            raise Denied("the words of compact are wrong")
+        return Reply(0, f"{await self.compacting.compact()}\n".encode("ascii"))
 
     async def script(self, client: Client, request: Request) -> Reply:
         """The facts and the script of a job, for the peer that the job is granted to."""

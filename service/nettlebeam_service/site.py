@@ -2,10 +2,11 @@
 from __future__ import annotations
 
 import asyncio
+import contextlib
 import os
 import time
 from collections import deque
-from typing import Callable, Deque, List, NamedTuple, Optional
+from typing import AsyncIterator, Callable, Deque, List, NamedTuple, Optional
 
 from .lines import changes
 from .memory import Memory
@@ -13,7 +14,10 @@ from .memory import Memory
 LONGEST_PAUSE = 60
 CHUNK = 1 << 20
 USAGE_SECONDS = 10
+END_SECONDS = 120
 WORDS_FLAG = "--words"
+# without it the child would compact its journal by itself, at moments that no backup knows of
+HISTORY_FLAG = "--keep-history"
 WORDS_MARK = "# "
 NOT_KEPT = "not kept\n"
 
@@ -72,6 +76,14 @@ def read_answer(data: bytes) -> Answer:
     return Answer(text[:start], text[start + len(WORDS_MARK) :].rstrip("\n"))
 
 
+class Interlude:
+    """A time in which no child has the site's directory."""
+
+    def __init__(self) -> None:
+        self.begun = asyncio.Event()
+        self.over = asyncio.Event()
+
+
 def settle(asked: "asyncio.Future[Answer]", answer: Answer) -> None:
     """Hands an answer to the one who asked: as a fault where the line isn't kept."""
     if answer.text == NOT_KEPT:
@@ -94,9 +106,14 @@ class Site:
         self.trouble = "it hasn't started yet"
         self.ending = False
         self.ready = asyncio.Event()
+        self.can_compact = False  # as far as the program's usage tells
+        self.interlude: Optional[Interlude] = None
+        self.open = asyncio.Event()  # whether lines are written as they come
+        self.open.set()
 
     async def ask(self, line: str) -> Answer:
         """The answer to a line. Stopped where none comes."""
+        await self.open.wait()
         if self.memory.loss and changes(line):
             raise Lost(self.memory.loss)
         if self.process is None or self.process.stdin is None or self.ending:
@@ -121,6 +138,13 @@ class Site:
                 await self.run_once()
             except OSError as fault:
                 self.trouble = f"{self.program}: {fault.strerror}"
+            if self.interlude and not self.interlude.begun.is_set():
+                self.ready.clear()
+                self.interlude.begun.set()
+                await self.interlude.over.wait()
+                pause = 1
+                continue
+            self.open.set()
             if self.ending:
                 break
             if self.ready.is_set() and time.monotonic() - began > pause:
@@ -139,6 +163,7 @@ class Site:
         self.trouble = "its process ended"
         errors = asyncio.ensure_future(self.read_errors(process))
         self.process = process
+        self.open.set()
         probe = asyncio.ensure_future(self.probe())
         try:
             await self.read_answers(process)
@@ -153,8 +178,30 @@ class Site:
             self.fail_waiting()
             await asyncio.wait([probe])
 
+    @contextlib.asynccontextmanager
+    async def alone(self) -> AsyncIterator[None]:
+        """A time in which no child has the directory: the child answers what was asked, and ends. Who asks meanwhile waits for
+        the next child. Stopped where the site doesn't answer anyhow."""
+        process = self.process
+        if process is None or process.stdin is None or self.ending or self.interlude or not self.ready.is_set():
+            raise Stopped(self.trouble)
+        self.open.clear()
+        interlude = self.interlude = Interlude()
+        try:
+            process.stdin.close()
+            try:
+                await asyncio.wait_for(interlude.begun.wait(), END_SECONDS)
+            except asyncio.TimeoutError:
+                self.log(f"the site's process is ended, since it didn't end by itself within {END_SECONDS} s")
+                process.kill()
+                await interlude.begun.wait()
+            yield
+        finally:
+            self.interlude = None
+            interlude.over.set()
+
     async def command(self) -> List[str]:
-        """What starts the child: with words for people behind its answers where the program's usage knows that."""
+        """What starts the child: with what of its options the program's usage knows."""
         pipe, null = asyncio.subprocess.PIPE, asyncio.subprocess.DEVNULL
         process = await asyncio.create_subprocess_exec(self.program, "serve", "--help", stdin=null, stdout=pipe, stderr=pipe)
         try:
@@ -162,7 +209,9 @@ class Site:
         except asyncio.TimeoutError:
             process.kill()
             usage = b""
-        return [self.program, "serve", *([WORDS_FLAG] if WORDS_FLAG.encode() in usage else []), self.folder]
+        options = [flag for flag in (WORDS_FLAG, HISTORY_FLAG) if flag.encode() in usage]
+        self.can_compact = HISTORY_FLAG in options
+        return [self.program, "serve", *options, self.folder]
 
     async def probe(self) -> None:
         """Waits until the site answers, so that others are told that it does."""
@@ -212,6 +261,7 @@ class Site:
     async def stop(self) -> None:
         """Has the child answer what was asked, and end."""
         self.ending = True
+        self.open.set()
         if self.process and self.process.stdin:
             self.process.stdin.close()
             try:

@@ -82,16 +82,15 @@ impl Board {
         }
     }
 
-    /// The board of these records beside the version. It asks for what holds of every board.
-    pub fn from_records(
-        alloc: Global,
-        version: Version,
-        jobs: Table<JobId, JobRecord>,
-        reservations: Table<Stamp, Reservation>,
-    ) -> Board
-        requires { IsBoard (record { version = version; jobs = jobs; reservations = reservations }) }
-        ensures { result ≡ record { version = version; jobs = jobs; reservations = reservations } }
+    /// The board that has these records and no others.
+    pub fn from_records(alloc: Global, records: Records) -> Board
+        ensures { result ≡ records }
     {
+        let Records {
+            version,
+            jobs,
+            reservations,
+        } = records;
         Board {
             alloc,
             changes: none_after(alloc, &version),

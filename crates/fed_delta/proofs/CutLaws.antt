@@ -1,5 +1,5 @@
 -- A cut of what a kin set tells, joined to what a set tells that has seen all that the cut needs, is the whole.
-use Rattle.std.proofs.Common.{◌≡◌, ℕ, List, [], ◌++◌, Bool, true, false, cond, not, Some, None, IfSome, refl, sym, ap, ◌∙◌}
+use Rattle.std.proofs.Common.{◌≡◌, ℕ, List, [], ◌++◌, Bool, true, false, cond, not, replicate, Some, None, IfSome, refl, sym, ap, ◌∙◌}
 use Rattle.std.proofs.lemmas.Bool.{not-false}
 use Rattle.fed_stamp.specs.Stamp.{StampValue}
 use Rattle.fed_stamp.specs.Version.{covers, joined, is_below}
@@ -85,3 +85,21 @@ module _ (ops others : History Body) (kin : AreKin ops others) (need : List ℕ)
 
   pub stands_absorbed : (v w u : View) → u ≡ join_records v w → v ≡ view ops → w ≡ cut (view others) need → u ≡ view (ops ++ others)
   stands_absorbed v w u joined left right = joined ∙ ap (λ x. join_records x w) left ∙ ap (join_records (view ops)) right ∙ cut_joins
+
+-- ---- one who has seen nothing is told all
+module _ (ops : History Body) (kin : AreKin [] ops) where
+  whole_job : (id : StampValue) (c : Bool) → is_changed_job (replicate 16 0) ((view ops).job id) ≡ c → cond c ((view ops).job id) (job_view []) ≡ (view ops).job id
+  whole_job id true e = refl
+  whole_job id false e = sym (untouched_job [] ops kin id (not-false (is_below ((view ops).job id).touched (replicate 16 0)) e))
+
+  whole_reservation : (id : StampValue) (c : Bool) → is_changed_reservation (replicate 16 0) ((view ops).reservation id) ≡ c → cond c ((view ops).reservation id) None ≡ (view ops).reservation id
+  whole_reservation id true e = refl
+  whole_reservation id false e = sym (covered_reservation [] ops kin id (covered (replicate 16 0) ((view ops).reservation id) e))
+
+  pub cut_whole : cut (view ops) (replicate 16 0) ≡ view ops
+  unfolding cut
+  cut_whole = λ i. record {
+    version = version_of ops;
+    job = λ id. whole_job id (is_changed_job (replicate 16 0) ((view ops).job id)) refl i;
+    reservation = λ id. whole_reservation id (is_changed_reservation (replicate 16 0) ((view ops).reservation id)) refl i;
+  }

@@ -24,3 +24,4 @@ pub mod Falls
 pub mod Sized
 pub mod Scenes
 pub mod UsedNodes
+pub mod RosterNodes

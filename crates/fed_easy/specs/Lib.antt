@@ -8,5 +8,6 @@ pub mod Plan
 pub mod Machine
 pub mod Events
 pub mod SitePlan
+pub mod RosterPlan
 pub mod Extra
 pub mod Promises

@@ -17,6 +17,8 @@ mod profiles;
 mod queue_planning;
 /// The jobs that wait at a site.
 mod queues;
+/// The plan of a site of a roster.
+mod roster_plans;
 /// Plans of a site's machine.
 pub mod site_planning;
 /// Profiles of bookings.
@@ -28,4 +30,5 @@ pub use bookings::{Booking, reserved_time};
 pub use machines::{MAX_RUNNING, Machine, MachineFault, Running, machine_of, running_job};
 pub use nodes_in_use::used_nodes;
 pub use plans::Plan;
+pub use roster_plans::{nodes_of, plan_at, plan_at_without};
 pub use site_planning::{PlanFault, plan, plan_without};

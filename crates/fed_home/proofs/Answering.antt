@@ -11,8 +11,8 @@ use Rattle.fed_site.specs.Site.{SiteValue}
 use Rattle.fed_site.specs.declared.site.Answered.{Answered}
 use Rattle.std.specs.List.{All}
 use Rattle.std.proofs.lemmas.List.Elements.{All-nil, All-push, All-same}
-use Rattle.fed_reasons.specs.Told.{IsTold, answers_in}
-use Rattle.fed_reasons.specs.declared.tellings.Told.{Told}
+use Rattle.fed_site.specs.Told.{IsTold, answers_in}
+use Rattle.fed_site.specs.declared.tellings.Told.{Told}
 use Rattle.fed_home.specs.Replay.{AreReplies}
 
 -- of all these lines a site has answered those before the rest, so, and has these to keep

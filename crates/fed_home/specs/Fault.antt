@@ -1,13 +1,15 @@
 -- Why a site on a disk fails.
-use Rattle.std.specs.Prelude.{◌≡◌, ◌<◌, ℕ, Bool, true, false, List, [], ◌∷◌, length, None, Ok, Err, ⊤}
+use Rattle.std.specs.Prelude.{◌≡◌, ◌<◌, ℕ, Bool, true, false, List, [], ◌∷◌, length, Some, None, Ok, Err, ⊤}
 use Rattle.std.specs.declared.io.Error.{Error}
 use Rattle.fed_journal.specs.Fault.{most_bytes}
 use Rattle.fed_journal.specs.Lines.{at_rest, recovered}
 use Rattle.fed_journal.specs.declared.faults.JournalFault.{JournalFault}
 use Rattle.fed_journal.specs.declared.faults.JournalFault.TheVariants as journal
 use Rattle.fed_home.specs.declared.faults.HomeFault.{HomeFault}
-use Rattle.fed_home.specs.declared.faults.HomeFault.TheVariants.{NoMemory, Failed, Damaged, Full, NoHeader, UnreadHeader, HasEntries, InDoubt}
+use Rattle.fed_home.specs.declared.faults.HomeFault.TheVariants.{NoMemory, Failed, Damaged, Full, NoHeader, UnreadHeader, HasEntries, InDoubt, UnreadKnown}
+use Rattle.fed_home.specs.declared.headers.Header.{Header}
 use Rattle.fed_home.specs.Header.{header_in}
+use Rattle.fed_home.specs.Replay.{begun_by, replay}
 
 abbrev pub number_of : HomeFault → ℕ
 number_of NoMemory = 1
@@ -18,6 +20,7 @@ number_of NoHeader = 5
 number_of UnreadHeader = 6
 number_of HasEntries = 7
 number_of (InDoubt error) = 8
+number_of UnreadKnown = 9
 
 -- whether the journal may have the group that was to be added
 abbrev pub is_in_doubt : HomeFault → Bool
@@ -37,6 +40,8 @@ abbrev pub StopsReplay : List (List ℕ) → HomeFault → Type 0
 StopsReplay entries NoMemory = ⊤
 StopsReplay entries NoHeader = entries ≡ []
 StopsReplay entries UnreadHeader = (first : List ℕ) × (lines : List (List ℕ)) × (entries ≡ first ∷ lines) × (header_in first ≡ None)
+StopsReplay entries UnreadKnown = (first : List ℕ) × (lines : List (List ℕ)) × (header : Header)
+    × (entries ≡ first ∷ lines) × (header_in first ≡ Some header) × (begun_by lines header ≡ None)
 StopsReplay entries _ = ⊥
 
 -- Why a home isn't opened: the disk has had this error, by its errors before and now, the newest first; the line of this
@@ -47,19 +52,22 @@ StopsOpening before now file (Failed error) = now ≡ error ∷ before
 StopsOpening before now file (Damaged line) = recovered file ≡ Err line
 StopsOpening before now file NoHeader = recovered file ≡ Ok []
 StopsOpening before now file UnreadHeader = (first : List ℕ) × (lines : List (List ℕ)) × (recovered file ≡ Ok (first ∷ lines)) × (header_in first ≡ None)
+StopsOpening before now file UnreadKnown = (first : List ℕ) × (lines : List (List ℕ)) × (header : Header)
+    × (recovered file ≡ Ok (first ∷ lines)) × (header_in first ≡ Some header) × (begun_by lines header ≡ None)
 StopsOpening before now file _ = ⊥
 
 -- Why a home isn't made: the disk has had this error, by its errors before and now, the newest first; the line of this number
--- is damaged; the file would have too many bytes; the file has entries; or it has none, and the header can't be read. Or there
--- was no memory.
+-- is damaged; the file would have too many bytes; the file has entries; or it has none, and the header is none of a site that
+-- has nothing. Or there was no memory.
 abbrev pub StopsMaking : List Error → List Error → List ℕ → List ℕ → HomeFault → Type 0
 StopsMaking before now file header NoMemory = now ≡ before
 StopsMaking before now file header (Failed error) = now ≡ error ∷ before
 StopsMaking before now file header (Damaged line) = recovered file ≡ Err line
 StopsMaking before now file header Full = most_bytes < length (at_rest (header ∷ []))
-StopsMaking before now file header UnreadHeader = (recovered file ≡ Ok []) × (header_in header ≡ None)
+StopsMaking before now file header UnreadHeader = (recovered file ≡ Ok []) × (replay (header ∷ []) ≡ None)
 StopsMaking before now file header HasEntries = (first : List ℕ) × (lines : List (List ℕ)) × (recovered file ≡ Ok (first ∷ lines))
 StopsMaking before now file header NoHeader = ⊥
+StopsMaking before now file header UnreadKnown = ⊥
 StopsMaking before now file header (InDoubt error) = now ≡ error ∷ before
 
 -- why a file isn't brought to rest
@@ -75,3 +83,10 @@ StopsAnswers before now bytes (Failed error) = now ≡ error ∷ before
 StopsAnswers before now bytes Full = most_bytes < bytes
 StopsAnswers before now bytes (InDoubt error) = now ≡ error ∷ before
 StopsAnswers before now bytes _ = ⊥
+
+-- why a journal isn't compacted: also where it would have too many bytes
+abbrev pub StopsCompaction : List Error → List Error → HomeFault → Type 0
+StopsCompaction before now NoMemory = now ≡ before
+StopsCompaction before now (Failed error) = now ≡ error ∷ before
+StopsCompaction before now Full = now ≡ before
+StopsCompaction before now _ = ⊥

@@ -1,5 +1,5 @@
 -- What the contracts of this crate cite.
 pub mod Header
-pub mod Fault
 pub mod Replay
+pub mod Fault
 pub mod Home

@@ -1,11 +1,15 @@
 -- The site that entries stand for, and what it answers to lines.
-use Rattle.std.specs.Prelude.{◌≡◌, ℕ, List, [], ◌∷◌, Option, None, option_map, ⊤}
+use Rattle.std.specs.Prelude.{◌≡◌, ℕ, List, [], ◌∷◌, Option, Some, None, option_map, ⊤}
 use Rattle.fed_replica.specs.State.{State, empty_at, state_of}
+use Rattle.fed_script.specs.Forms.{◌>>=◌}
 use Rattle.fed_site.specs.Answered.{bytes_of, complaint_of, kept_of}
 use Rattle.fed_site.specs.Journal.{after_lines}
+use Rattle.fed_site.specs.Known.{known_in}
 use Rattle.fed_site.specs.Says.{IsReply, site_says}
 use Rattle.fed_site.specs.Site.{SiteValue}
 use Rattle.fed_site.specs.declared.site.Answered.{Answered}
+use Rattle.fed_home.specs.declared.headers.Format.{Format}
+use Rattle.fed_home.specs.declared.headers.Format.TheVariants.{One, Two}
 use Rattle.fed_home.specs.declared.headers.Header.{Header}
 use Rattle.fed_home.specs.Header.{header_in}
 
@@ -14,17 +18,24 @@ pub record Replayed : Type 0 where
   pub roster : List (List ℕ × ℕ)
   pub state : State
 
--- the site of the header that has answered these lines
-abbrev pub site_after : List (List ℕ) → Header → Replayed
-site_after lines header = record {
-  roster = header.roster;
-  state = after_lines header.roster (empty_at header.site) lines;
-}
+-- a site of the roster that has answered these lines, by what it held before them
+abbrev pub site_after : List (List ℕ × ℕ) → List (List ℕ) → State → Replayed
+site_after roster lines before = record { roster = roster; state = after_lines roster before lines }
 
--- the site that entries stand for: the first is the header, and it has answered the others
+-- The site that the entries behind a header stand for. In format 1 it had nothing, and has answered them; in format 2 the
+-- first is what it knew, and it has answered the others.
+abbrev pub begun : Format → List (List ℕ × ℕ) → ℕ → List (List ℕ) → Option Replayed
+begun One roster here lines = Some (site_after roster lines (empty_at here))
+begun Two roster here [] = None
+begun Two roster here (text ∷ lines) = option_map (site_after roster lines) (known_in roster here text)
+
+abbrev pub begun_by : List (List ℕ) → Header → Option Replayed
+begun_by lines header = begun header.format header.roster header.site lines
+
+-- the site that entries stand for: the first is the header
 abbrev pub replay : List (List ℕ) → Option Replayed
 replay [] = None
-replay (first ∷ lines) = option_map (site_after lines) (header_in first)
+replay (first ∷ lines) = header_in first >>= begun_by lines
 
 -- a site as the code keeps it
 abbrev pub replayed_of : SiteValue → Replayed

@@ -25,8 +25,8 @@ pub enum HomeFault {
     /// 5: the journal has no entry, so that no site is named.
     #[error("the journal has no entry")]
     NoHeader,
-    /// 6: the header doesn't say `nettlebeam 1`, the name of a site, and a roster that has it.
-    #[error("the header doesn't name a site and its roster in format 1")]
+    /// 6: the header doesn't say `nettlebeam 1` or `nettlebeam 2`, the name of a site, and a roster that has it.
+    #[error("the header doesn't name a site and its roster in format 1 or 2")]
     UnreadHeader,
     /// 7: the journal has entries, so that no site can be made there.
     #[error("the journal has entries")]
@@ -34,13 +34,16 @@ pub enum HomeFault {
     /// 8: the disk failed with this error as the first gate of a group was opened. The journal may have the group or not.
     #[error("{0}")]
     InDoubt(io::Error),
+    /// 9: the header is of format 2, and the entry behind it isn't what a site of that name and roster knew.
+    #[error("line 2 of the journal is damaged: it isn't what the site knew")]
+    UnreadKnown,
 }
 
 impl HomeFault {
     ghost use Rattle.fed_home.specs.Fault.{is_in_doubt, number_of};
 
     /// The number of the fault: 1 for `NoMemory`, 2 for `Failed`, 3 for `Damaged`, 4 for `Full`, 5 for `NoHeader`, 6 for
-    /// `UnreadHeader`, 7 for `HasEntries` and 8 for `InDoubt`.
+    /// `UnreadHeader`, 7 for `HasEntries`, 8 for `InDoubt` and 9 for `UnreadKnown`.
     pub fn number(self) -> u8
         ensures { result ≡ number_of self }
     {
@@ -53,6 +56,7 @@ impl HomeFault {
             HomeFault::UnreadHeader => 6,
             HomeFault::HasEntries => 7,
             HomeFault::InDoubt(_) => 8,
+            HomeFault::UnreadKnown => 9,
         }
     }
 

@@ -1,12 +1,22 @@
 //! The first entry of a site's journal, as `nettlebeam 1 argonne argonne:8 lemont:4`.
 ghost use Rattle.std.specs.Prelude.{◌≡◌, IfOk};
 ghost use Rattle.fed_words.specs.Item.{words_of as texts_of};
-ghost use Rattle.fed_home.specs.Header.{header_in, header_of, site_among};
+ghost use Rattle.fed_home.specs.Header.{format_of, header_in, header_of, site_among};
 
 use fed_lattice::NoMemory;
 use fed_script::{BoxedRoster, read_roster, told_words};
-use fed_stamp::SiteId;
+use fed_site::Site;
+use fed_stamp::{SITES, SiteId};
 use std::alloc::Global;
+
+/// The formats of a journal.
+#[derive(Clone, Copy, PartialEq, Eq, Debug)]
+pub enum Format {
+    /// Version 1: the site had nothing before the entries behind the header.
+    One,
+    /// Version 2, of a journal that was compacted: the entry behind the header is what the site knew.
+    Two,
+}
 
 /// What the first entry of a journal names.
 #[derive(Drop)]
@@ -15,39 +25,65 @@ pub struct Header {
     pub roster: BoxedRoster,
     /// The site whose journal it is, one of the roster.
     pub site: SiteId,
+    /// The journal's format.
+    pub format: Format,
+}
+
+/// The format of this version.
+fn read_format(version: &str) -> Option<Format>
+    ensures { result ≡ format_of version.now }
+{
+    if version == "1" {
+        Some(Format::One)
+    } else if version == "2" {
+        Some(Format::Two)
+    } else {
+        None
+    }
 }
 
 /// The site of this name, of the roster that the words name.
-fn find_site(alloc: Global, name: &str, sites: &[&str]) -> Result<Option<Header>, NoMemory>
-    ensures { IfOk result (λ header. header ≡ site_among name.now (texts_of sites.now)) }
+fn find_site(
+    alloc: Global,
+    format: Format,
+    name: &str,
+    sites: &[&str],
+) -> Result<Option<Header>, NoMemory>
+    ensures { IfOk result (λ header. header ≡ site_among format name.now (texts_of sites.now)) }
 {
     let Some(roster) = read_roster(alloc, sites)? else {
         return Ok(None);
     };
     match roster.get().find(name) {
-        Some(site) => Ok(Some(Header { roster, site })),
+        Some(site) => Ok(Some(Header {
+            roster,
+            site,
+            format,
+        })),
         None => Ok(None),
     }
 }
 
-/// What the words of a header say: the format and its version, the name of a site, and the roster.
+/// What the words of a header say: the program, the version of the format, the name of a site, and the roster.
 fn read_words(alloc: Global, words: &[&str]) -> Result<Option<Header>, NoMemory>
     ensures { IfOk result (λ header. header ≡ header_of (texts_of words.now)) }
 {
     match words {
-        [format, version, name, sites @ ..] => {
-            if *format == "nettlebeam" && *version == "1" {
-                find_site(alloc, name, sites)
-            } else {
-                Ok(None)
+        [program, version, name, sites @ ..] => {
+            if *program != "nettlebeam" {
+                return Ok(None);
+            }
+            match read_format(version) {
+                Some(format) => find_site(alloc, format, name, sites),
+                None => Ok(None),
             }
         }
         [] | [_] | [_, _] => Ok(None),
     }
 }
 
-/// What a header says: `nettlebeam`, `1`, the name of a site, and `NAME:NODES` for each site of a roster that has it, parted
-/// by spaces and tabs. `None` where it says anything else.
+/// What a header says: `nettlebeam`, `1` or `2`, the name of a site, and `NAME:NODES` for each site of a roster that has it,
+/// parted by spaces and tabs. `None` where it says anything else.
 pub fn read_header(alloc: Global, line: &[u8]) -> Result<Option<Header>, NoMemory>
     ensures { IfOk result (λ header. header ≡ header_in line.now) }
 {
@@ -55,4 +91,22 @@ pub fn read_header(alloc: Global, line: &[u8]) -> Result<Option<Header>, NoMemor
         Some(words) => read_words(alloc, words.as_slice()),
         None => Ok(None),
     }
+}
+
+/// The header of a site's journal in format 2.
+pub(crate) fn write_header(alloc: Global, site: &Site) -> Result<Vec<u8>, NoMemory> {
+    let roster = site.roster();
+    let mut text = String::from_str(alloc, "nettlebeam 2")?;
+    if let Some(name) = roster.name(site.here()) {
+        text.push_str(format!(in alloc; " {name}")?.as_str())?;
+    }
+    for number in 0..SITES as u8 {
+        if let Some(other) = SiteId::new(number)
+            && let Some(name) = roster.name(other)
+            && let Some(nodes) = roster.nodes(other)
+        {
+            text.push_str(format!(in alloc; " {name}:{nodes}")?.as_str())?;
+        }
+    }
+    Ok(text.into_bytes())
 }

@@ -1,22 +1,23 @@
 //! What entries and lines come to at a site.
-ghost use Rattle.std.specs.Prelude.{◌≡◌, Some, IfErr, IfOk, map};
+ghost use Rattle.std.specs.Prelude.{◌≡◌, ◌⊎◌, ◌<◌, Some, None, IfErr, IfOk, length, map};
 ghost use Rattle.std.specs.List.{All};
 ghost use Rattle.fed_replica.specs.State.{state_of};
 ghost use Rattle.fed_site.specs.Journal.{after_lines, kept_lines};
-ghost use Rattle.fed_reasons.specs.Told.{IsTold, answers_in};
+ghost use Rattle.fed_site.specs.Told.{IsTold, answers_in};
 ghost use Rattle.fed_journal.specs.Lines.{texts_of};
 ghost use Rattle.fed_home.specs.Fault.{StopsReplay};
-ghost use Rattle.fed_home.specs.Replay.{AreReplies, replay as replay_of, replayed_of};
+ghost use Rattle.fed_home.specs.Replay.{AreReplies, begun, begun_by, replay as replay_of, replayed_of};
 
 use crate::faults::HomeFault;
-use crate::headers::read_header;
+use crate::headers::{Format, Header, read_header};
 use fed_lattice::NoMemory;
-use fed_reasons::Told;
-use fed_site::Site;
+use fed_script::BoxedRoster;
+use fed_site::{Site, Told};
+use fed_stamp::SiteId;
 use std::alloc::{AllocError, Global};
 
 /// The texts of entries.
-fn texts(alloc: Global, entries: &[Vec<u8>]) -> Result<Vec<&[u8]>, AllocError>
+pub(crate) fn texts(alloc: Global, entries: &[Vec<u8>]) -> Result<Vec<&[u8]>, AllocError>
     ensures { IfOk result (λ texts. map (λ text. text.now) texts.items ≡ texts_of entries.now) }
 {
     let mut texts = Vec::new(alloc);
@@ -26,8 +27,47 @@ fn texts(alloc: Global, entries: &[Vec<u8>]) -> Result<Vec<&[u8]>, AllocError>
     Ok(texts)
 }
 
-/// The site that entries stand for: the first is the header, and it has answered the others. Errors: `NoHeader` where there
-/// is no entry, `UnreadHeader` where the first is no header, and `NoMemory`.
+/// The site of a journal of format 2, by the entries behind the header: the first is what the site knew. Errors:
+/// `UnreadKnown` where it isn't, and `NoMemory`.
+#[tactic(auto, using(crate::proofs::Beginnings::begun_from_known, crate::proofs::Beginnings::begun_nowhere, crate::proofs::Beginnings::begun_unknown))]
+fn open_known(
+    alloc: Global,
+    roster: BoxedRoster,
+    here: SiteId,
+    lines: &[&[u8]],
+) -> Result<Site, HomeFault>
+    requires { here < length roster }
+    ensures begun { IfOk result (λ site. begun Format.Two roster here (map (λ line. line.now) lines.now) ≡ Some (replayed_of site)) }
+    ensures fault { IfErr result (λ fault. (fault ≡ HomeFault.NoMemory)
+        ⊎ ((fault ≡ HomeFault.UnreadKnown) × (begun Format.Two roster here (map (λ line. line.now) lines.now) ≡ None))) }
+{
+    let Some((text, lines)) = lines.split_first() else {
+        return Err(HomeFault::UnreadKnown);
+    };
+    let Some(mut site) = Site::knowing(alloc, roster, here, text)? else {
+        return Err(HomeFault::UnreadKnown);
+    };
+    site.replay(alloc, lines)?;
+    Ok(site)
+}
+
+/// The site that the entries behind a header stand for. Errors: `UnreadKnown` where the first of them should be what the
+/// site knew, and isn't, and `NoMemory`.
+#[tactic(auto, using(crate::proofs::Beginnings::begun_from_nothing))]
+fn open_site(alloc: Global, header: Header, lines: &[&[u8]]) -> Result<Site, HomeFault>
+    requires { header.site < length header.roster }
+    ensures begun { IfOk result (λ site. begun_by (map (λ line. line.now) lines.now) header ≡ Some (replayed_of site)) }
+    ensures fault { IfErr result (λ fault. (fault ≡ HomeFault.NoMemory)
+        ⊎ ((fault ≡ HomeFault.UnreadKnown) × (begun_by (map (λ line. line.now) lines.now) header ≡ None))) }
+{
+    match header.format {
+        Format::One => Ok(Site::open(alloc, header.roster, header.site, lines)?),
+        Format::Two => open_known(alloc, header.roster, header.site, lines),
+    }
+}
+
+/// The site that entries stand for: the first is the header. Errors: `NoHeader` where there is no entry, `UnreadHeader`
+/// where the first is no header, `UnreadKnown` where the second should be what the site knew, and isn't, and `NoMemory`.
 pub fn replay(alloc: Global, entries: &[Vec<u8>]) -> Result<Site, HomeFault>
     ensures replayed { IfOk result (λ site. replay_of (texts_of entries.now) ≡ Some (replayed_of site)) }
     ensures fault { IfErr result (StopsReplay (texts_of entries.now)) }
@@ -38,7 +78,7 @@ pub fn replay(alloc: Global, entries: &[Vec<u8>]) -> Result<Site, HomeFault>
     match read_header(alloc, first)? {
         Some(header) => {
             let lines = texts(alloc, lines)?;
-            Ok(Site::open(alloc, header.roster, header.site, &lines)?)
+            open_site(alloc, header, &lines)
         }
         None => Err(HomeFault::UnreadHeader),
     }

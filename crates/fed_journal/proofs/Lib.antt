@@ -6,5 +6,6 @@ pub mod Hexadecimal
 pub mod Moments
 pub mod Reading
 pub mod Repair
+pub mod Replacing
 pub mod Tearing
 pub mod Writing

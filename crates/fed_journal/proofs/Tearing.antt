@@ -8,7 +8,7 @@ use Rattle.std.specs.declared.io.Error.{Error}
 use Rattle.fed_journal.specs.Device.{Holds, Passes, Shortened, Torn}
 use Rattle.fed_journal.specs.Calls.{AnsweredCall, CallAnswer, IsCached, IsTornBy, errors_by, left_by, left_since, overlaid, seen_after, seen_by}
 use Rattle.fed_journal.specs.declared.calls.Call.{Call}
-use Rattle.fed_journal.specs.declared.calls.Call.TheVariants.{Wrote, Resized, Flushed}
+use Rattle.fed_journal.specs.declared.calls.Call.TheVariants.{Wrote, Resized, Flushed, Replaced}
 
 -- ---- a file with other bytes at an offset
 
@@ -204,6 +204,12 @@ module _ (calls new : List AnsweredCall) where
       → MatchOption change (c ≡ disk) (λ call. IsTornBy call disk c) → ∥ left_by (reverse new) c ∥₁
   unsynced error disk bytes c None is left cached same = still_disk error disk c is left same
   unsynced error disk bytes c (Some call) is left cached torn = unsynced_disk error disk bytes c (Some call) call is cached refl torn
+
+  -- a replacement that failed, of which the disk has the old file or the new one
+  pub unreplaced : (bytes : Vec ℕ Global) (error : Error) (disk c : List ℕ) → new ≡ calls ++ (Replaced bytes, Err error) ∷ [] → ∥ left_by (reverse calls) disk ∥₁ → (c ≡ disk) ⊎ (c ≡ bytes.items) → ∥ left_by (reverse new) c ∥₁
+  unreplaced bytes error disk c is left which =
+      ∥∥₁_map left (λ l. subst (λ (events : List AnsweredCall). left_by events c) (sym (noted (Replaced bytes, Err error) is))
+      (⊎_elim (λ old. inl (subst (λ (f : List ℕ). left_by (reverse calls) f) (sym old) l)) (λ fresh. inr fresh) which))
 
   -- what is seen and failed behind a call that succeeded
   pub same_after : (call : Call) (old now : List ℕ) → new ≡ calls ++ (call, Ok tt) ∷ [] → old ≡ seen_by (reverse calls) → now ≡ seen_after call old → now ≡ seen_by (reverse new)

@@ -4,7 +4,7 @@ use Rattle.std.proofs.Common.{inl, inr, arith}
 use Rattle.std.specs.declared.io.Error.{Error}
 use Rattle.fed_journal.specs.Device.{LeavesJust, Shortened, Torn}
 use Rattle.fed_journal.specs.declared.calls.Call.{Call}
-use Rattle.fed_journal.specs.declared.calls.Call.TheVariants.{Found, Wrote, Resized, Flushed, Refused}
+use Rattle.fed_journal.specs.declared.calls.Call.TheVariants.{Found, Wrote, Resized, Flushed, Replaced, Refused}
 
 -- what a call answers: an error where it failed
 abbrev pub CallAnswer : Type 0
@@ -23,6 +23,7 @@ seen_after (Found bytes) file = bytes.items
 seen_after (Wrote at bytes) file = overlaid at bytes.items file
 seen_after (Resized len) file = take len file
 seen_after Flushed file = file
+seen_after (Replaced bytes) file = bytes.items
 seen_after Refused file = file
 
 -- and after any call: one that failed is taken as not seen
@@ -35,13 +36,16 @@ seen_by [] = []
 seen_by (event ∷ earlier) = seen_next event.0 event.1 (seen_by earlier)
 
 -- What a crash may leave after a call, by what a read gave before it and by what a crash might leave then. Of a write or a cut of a
--- file that the disk didn't have, that is anything. A write or a cut that failed may leave as much as one that succeeded.
+-- file that the disk didn't have, that is anything. A write or a cut that failed may leave as much as one that succeeded. Where a file was
+-- to take the place of this one, it is there whole, and where that failed it isn't there or it is there whole.
 abbrev pub left_after : Call → CallAnswer → List ℕ → (List ℕ → Type 0) → List ℕ → Type 0
 left_after (Found bytes) answer file left c = c ≡ bytes.items
 left_after (Wrote at bytes) answer file left c = LeavesJust file left → Torn at bytes.items file c
 left_after (Resized len) answer file left c = LeavesJust file left → Shortened len file c
 left_after Flushed (Ok done) file left c = left c × (c ≡ file)
 left_after Flushed (Err error) file left c = left c
+left_after (Replaced bytes) (Ok done) file left c = c ≡ bytes.items
+left_after (Replaced bytes) (Err error) file left c = left c ⊎ (c ≡ bytes.items)
 left_after Refused answer file left c = left c
 
 abbrev pub left_by : List AnsweredCall → List ℕ → Type 0
@@ -52,6 +56,7 @@ left_by (event ∷ earlier) c = left_after event.0 event.1 (seen_by earlier) (le
 abbrev pub IsTornBy : Call → List ℕ → List ℕ → Type 0
 IsTornBy (Wrote at bytes) before c = Torn at bytes.items before c
 IsTornBy (Resized len) before c = len ≤ length before → Shortened len before c
+IsTornBy (Replaced bytes) before c = (c ≡ before) ⊎ (c ≡ bytes.items)
 IsTornBy _ before c = c ≡ before
 
 -- Of a file that has these bytes and whose disk has that: a crash may leave the bytes, and any part of the last change.

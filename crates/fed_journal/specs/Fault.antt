@@ -93,3 +93,11 @@ StopsRepair before now (journal.Failed error) = now ≡ error ∷ before
 StopsRepair before now (journal.Damaged line) = ⊥
 StopsRepair before now journal.Full = ⊥
 StopsRepair before now (journal.InDoubt error) = ⊥
+
+-- Why a journal doesn't take the place of another: the disk has had this error, or the file would have too many bytes. Or there was no memory.
+abbrev pub StopsReplacing : List Error → List Error → ℕ → JournalFault → Type 0
+StopsReplacing before now bytes journal.NoMemory = now ≡ before
+StopsReplacing before now bytes (journal.Failed error) = now ≡ error ∷ before
+StopsReplacing before now bytes (journal.Damaged line) = ⊥
+StopsReplacing before now bytes journal.Full = most_bytes < bytes
+StopsReplacing before now bytes (journal.InDoubt error) = ⊥

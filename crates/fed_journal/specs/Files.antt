@@ -4,12 +4,12 @@ use Rattle.fed_journal.specs.Calls.{AnsweredCall, left_by, seen_by}
 use Rattle.fed_journal.specs.declared.files.FileDevice.{FileDevice}
 
 -- the calls on it, the newest first
-abbrev pub calls_of : FileDevice → List AnsweredCall
+abbrev pub calls_of : {R : Type 0} → FileDevice R → List AnsweredCall
 calls_of device = reverse device.calls.items
 
 -- its members `seen` and `may_leave`
-abbrev pub file_seen : FileDevice → List ℕ
+abbrev pub file_seen : {R : Type 0} → FileDevice R → List ℕ
 file_seen device = seen_by (calls_of device)
 
-abbrev pub file_may_leave : FileDevice → List ℕ → Type 0
+abbrev pub file_may_leave : {R : Type 0} → FileDevice R → List ℕ → Type 0
 file_may_leave device = left_by (calls_of device)

@@ -38,3 +38,7 @@ pub record IsSettled {D : Type 0} (seen : D → List ℕ) (may_leave : D → Lis
 -- a file that stands for these entries, with all of the group behind them or with none of it
 abbrev pub IsBeforeOrAfter : List (List ℕ) → List (List ℕ) → List ℕ → Type 0
 IsBeforeOrAfter entries group file = (recovered file ≡ Ok entries) ⊎ (recovered file ≡ Ok (entries ++ group))
+
+-- a file that stands for what this one stood for, or for these entries alone
+abbrev pub IsOldOrNew : List ℕ → List (List ℕ) → List ℕ → Type 0
+IsOldOrNew old entries file = (recovered file ≡ recovered old) ⊎ (recovered file ≡ Ok entries)

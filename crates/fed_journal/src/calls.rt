@@ -16,6 +16,8 @@ pub enum Call {
     Resized { len: usize },
     /// A sync.
     Flushed,
+    /// A file with these bytes, which the disk has, in the place of this one.
+    Replaced { bytes: Vec<u8> },
     /// A call that changed nothing.
     Refused,
 }
@@ -37,6 +39,7 @@ impl Call {
             } => unreachable!(),
             Call::Resized { len: _len } => unreachable!(),
             Call::Flushed => unreachable!(),
+            Call::Replaced { bytes: _bytes } => unreachable!(),
             Call::Refused => unreachable!(),
         }
     }

@@ -4,34 +4,45 @@
 //! what a journal promises holds of a real disk under these suppositions, which no proof shows:
 //!
 //! - Each method below makes just the call that it notes, and notes its answer. A body that notes a sync and makes none
-//!   would be proved as well, so this file has to be read. A write that the system does in parts is noted as one.
+//!   would be proved as well, so this file has to be read. A write that the system does in parts is noted as one, and so is
+//!   a replacement, which is a file made beside this one, written and synced, a rename and a sync of the directory.
 //! - After a crash the file is one of those that the noted calls allow: outside of a write's range nothing changes, a write
 //!   of one byte is done or it isn't, and what was there when a sync returned stays.
+//! - A rename over a file is done or it isn't: at each moment the name is the old file's or the new one's. What it was when
+//!   a sync of the directory returned, it stays. The new file is synced before it is renamed, so it is whole by then.
 //! - What `open` reads is what the disk has. The file and its directory are synced first. A system that forgot, after a
 //!   sync that failed in an earlier process, that its copy is not the disk's may still show that copy.
-//! - Nobody else changes the file. The lock keeps out other processes that take it, and no others.
+//! - Nobody else changes the file, or what has its name. The lock keeps out other processes that take it, and no others.
 ghost use Rattle.std.specs.Prelude.{◌≡◌, ℕ, true, [], ◌∷◌, ◌++◌, length, reverse, Vec, Some, None, is_some, IfOk};
 ghost use Rattle.std.specs.declared.alloc.Global.{Global};
 ghost use Rattle.fed_journal.specs.Calls.{counts_now, errors_by, left_by, left_since, only_now, seen_by};
 
 use crate::calls::{Call, Calls, note_found};
-use crate::devices::Device;
+use crate::devices::{Device, Replacement};
 use crate::faults::{DeviceFault, OpenFault};
-use std::alloc::Global;
-use std::fs::{File, OpenOptions, TryLockError};
-use std::io::{self, Read};
-use std::os::fd::AsRawFd;
-use std::os::unix::fs::{FileExt, OpenOptionsExt};
-use std::path::Path;
+use std::alloc::{AllocError, Global};
+use std::fs::{self, File, Metadata, OpenOptions, TryLockError};
+use std::io::{self, ErrorKind, Read};
+use std::os::fd::{AsFd, AsRawFd};
+use std::os::unix::fs::{FileExt, MetadataExt, OpenOptionsExt, fchown};
+use std::path::{Path, PathBuf};
 use std::rt::Files;
 
 /// Who may do what with a file that is made: its owner may read and write it.
 const OWNER_ALONE: u32 = 0o600;
 
+/// What the name of a file has behind it until the file takes the place of another.
+const NEW_SUFFIX: &str = ".new";
+
+/// How many bytes of a new file are read back at a time.
+const PART_BYTES: usize = 8192;
+
 /// An open file, which this process has to itself until it is dropped.
 #[derive(Drop)]
-pub struct FileDevice {
+pub struct FileDevice<R: Drop> {
+    rt: R,
     alloc: Global,
+    place: Place,
     file: File,
     // what was found there, until it is read or the file is changed
     found: Option<Vec<u8>>,
@@ -43,9 +54,44 @@ pub struct FileDevice {
     ghost whole: { failed ≡ None → errors_by (reverse calls.items) ≡ [] },
 }
 
+/// Where a file stands.
+#[derive(Drop)]
+struct Place {
+    directory: PathBuf,
+    path: PathBuf,
+    // where a file is made that is to take its place
+    new_path: PathBuf,
+}
+
+/// A file that is to take the place of another, and the directory of both.
+#[derive(Drop)]
+struct NewFile {
+    file: File,
+    directory: File,
+}
+
 /// Why a file isn't read again.
 fn already_read() -> io::Error {
     io::Error::new(io::ErrorKind::Unsupported, "the file was read before")
+}
+
+/// Where the file of this name stands.
+fn place_of(alloc: Global, directory: &str, name: &str) -> Result<Place, AllocError> {
+    let directory = PathBuf::from_str(alloc, directory)?;
+    let new_name = format!(in alloc; "{name}{NEW_SUFFIX}")?;
+    Ok(Place {
+        path: directory.join(alloc, name)?,
+        new_path: directory.join(alloc, new_name.as_str())?,
+        directory,
+    })
+}
+
+/// The file under a number beyond those of the standard streams: what is meant for one that was closed must not land in it.
+fn beyond_streams(file: File) -> io::Result<File> {
+    if file.as_raw_fd() > 2 {
+        return Ok(file);
+    }
+    file.try_clone()
 }
 
 /// Locks a file. No other open of it has the lock then, in this process or another.
@@ -57,6 +103,86 @@ fn lock(file: &File) -> Result<(), OpenFault> {
     }
 }
 
+/// Whether these are of one file.
+fn is_same_file(one: &Metadata, other: &Metadata) -> bool {
+    one.dev() == other.dev() && one.ino() == other.ino()
+}
+
+/// Whether the path leads to the file: another one may have taken its place while its lock was waited for.
+fn is_named(rt: &impl Files, path: Path<'_>, file: &File) -> io::Result<bool> {
+    Ok(is_same_file(&fs::metadata(rt, path)?, &file.metadata()?))
+}
+
+/// An error where a rename to this path would not put a file in the place of this one: the path is a symbolic link, or
+/// another file's.
+fn check_name(rt: &impl Files, path: Path<'_>, file: &Metadata) -> io::Result<()> {
+    let named = fs::symlink_metadata(rt, path)?;
+    if named.is_symlink() {
+        let why = "the file is a symbolic link";
+        return Err(io::Error::new(ErrorKind::Unsupported, why));
+    }
+    if !is_same_file(&named, file) {
+        return Err(io::Error::other("another file has its name"));
+    }
+    Ok(())
+}
+
+/// Removes a file, if it is there.
+fn remove_left(rt: &impl Files, path: Path<'_>) -> io::Result<()> {
+    match fs::remove_file(rt, path) {
+        Err(error) if error.kind() != ErrorKind::NotFound => Err(error),
+        _ => Ok(()),
+    }
+}
+
+/// Gives a file the owner, the group and the permissions of another.
+fn give_as(file: &File, old: &Metadata) -> io::Result<()> {
+    let new = file.metadata()?;
+    if new.uid() != old.uid() || new.gid() != old.gid() {
+        fchown(file.as_fd(), Some(old.uid()), Some(old.gid()))?;
+    }
+    file.set_permissions(old.permissions())
+}
+
+/// Whether a read of the file, which has not been read, gives these bytes.
+fn has_bytes(file: &mut File, bytes: &[u8]) -> io::Result<bool> {
+    let mut buffer = [0u8; PART_BYTES];
+    for part in bytes.chunks(PART_BYTES) {
+        let read = &mut buffer[..part.len()];
+        file.read_exact(read)?;
+        if *read != *part {
+            return Ok(false);
+        }
+    }
+    Ok(file.read(&mut buffer)? == 0)
+}
+
+/// Makes a file with these bytes, which this process has to itself, and waits until the disk has it.
+fn write_new(
+    rt: &impl Files<File = File>,
+    path: Path<'_>,
+    old: &Metadata,
+    bytes: &[u8],
+) -> io::Result<File> {
+    let made = OpenOptions::new()
+        .read(true)
+        .write(true)
+        .create_new(true)
+        .mode(OWNER_ALONE)
+        .open(rt, path)?;
+    let mut file = beyond_streams(made)?;
+    // before it has a byte: from the rename on nobody else may have it
+    file.try_lock()?;
+    give_as(&file, old)?;
+    file.write_all_at(bytes, 0)?;
+    file.sync_all()?;
+    if !has_bytes(&mut file, bytes)? {
+        let why = "what is read back isn't what was written";
+        return Err(io::Error::new(ErrorKind::InvalidData, why));
+    }
+    Ok(file)
+}
+
 /// Reads a file, once the disk has what is read, and the file's name.
 fn read_settled(alloc: Global, file: &mut File, directory: &File) -> io::Result<Vec<u8>> {
     file.sync_all()?;
@@ -66,17 +192,13 @@ fn read_settled(alloc: Global, file: &mut File, directory: &File) -> io::Result<
     Ok(bytes)
 }
 
-impl FileDevice {
+impl<R: Files<File = File> + AllocGlobal + Clone + Drop> FileDevice<R> {
     ghost use Rattle.fed_journal.specs.Device.{LeavesJust};
     ghost use Rattle.fed_journal.specs.Files.{file_may_leave, file_seen};
 
     /// Opens the file of this name in a directory. Where the file or the directory is missing, `Failed` has an error of
-    /// kind `NotFound`; `InUse` comes while another open of the file lasts.
-    pub fn open<R: Files<File = File> + AllocGlobal>(
-        rt: &R,
-        directory: &str,
-        name: &str,
-    ) -> Result<FileDevice, OpenFault>
+    /// kind `NotFound`; `InUse` comes while another open of the file lasts, and where another file has just taken its place.
+    pub fn open(rt: &R, directory: &str, name: &str) -> Result<FileDevice<R>, OpenFault>
         ensures { IfOk result (λ device. LeavesJust (file_seen device) (file_may_leave device)) }
     {
         FileDevice::open_as(rt, directory, name, false)
@@ -84,45 +206,70 @@ impl FileDevice {
 
     /// Opens the file of this name in a directory, and makes it where it is missing, empty and for its owner alone. The
     /// errors are those of `open`, but that the file may be missing.
-    pub fn make<R: Files<File = File> + AllocGlobal>(
-        rt: &R,
-        directory: &str,
-        name: &str,
-    ) -> Result<FileDevice, OpenFault>
+    pub fn make(rt: &R, directory: &str, name: &str) -> Result<FileDevice<R>, OpenFault>
         ensures { IfOk result (λ device. LeavesJust (file_seen device) (file_may_leave device)) }
     {
         FileDevice::open_as(rt, directory, name, true)
     }
 
-    fn open_as<R: Files<File = File> + AllocGlobal>(
+    fn open_as(
         rt: &R,
         directory: &str,
         name: &str,
         is_made: bool,
-    ) -> Result<FileDevice, OpenFault>
+    ) -> Result<FileDevice<R>, OpenFault>
         ensures { IfOk result (λ device. LeavesJust (file_seen device) (file_may_leave device)) }
     {
-        let path = Path::new(directory).join(rt.alloc(), name)?;
-        let mut file = OpenOptions::new()
+        let alloc = rt.alloc();
+        let place = place_of(alloc, directory, name)?;
+        let opened = OpenOptions::new()
             .read(true)
             .write(true)
             .create(is_made)
             .mode(OWNER_ALONE)
-            .open(rt, path.as_path())?;
-        // What is meant for a standard stream that was closed must not land in the file.
-        if file.as_raw_fd() <= 2 {
-            file = file.try_clone()?;
-        }
+            .open(rt, place.path.as_path())?;
+        let mut file = beyond_streams(opened)?;
         lock(&file)?;
-        let bytes = read_settled(rt.alloc(), &mut file, &File::open(rt, directory)?)?;
+        if !is_named(rt, place.path.as_path(), &file)? {
+            return Err(OpenFault::InUse);
+        }
+        let bytes = read_settled(alloc, &mut file, &File::open(rt, directory)?)?;
         let (calls, bytes) = note_found(bytes);
         Ok(FileDevice {
-            alloc: rt.alloc(),
+            rt: rt.clone()?,
+            alloc,
+            place,
             file,
             found: Some(bytes),
             failed: None,
             calls,
         })
+    }
+
+    /// Makes the file that is to take the place of this one, with its owner, group and permissions. Where that fails, it is
+    /// removed as far as it can be.
+    fn make_new(&self, bytes: &[u8]) -> io::Result<NewFile> {
+        let old = self.file.metadata()?;
+        check_name(&self.rt, self.place.path.as_path(), &old)?;
+        // opened here, so that from the rename on nothing is left to fail but the disk
+        let directory = File::open(&self.rt, self.place.directory.as_path())?;
+        let new_path = self.place.new_path.as_path();
+        // as a crash left it before its rename
+        remove_left(&self.rt, new_path)?;
+        match write_new(&self.rt, new_path, &old, bytes) {
+            Ok(file) => Ok(NewFile { file, directory }),
+            Err(error) => {
+                let _ = fs::remove_file(&self.rt, new_path);
+                Err(error)
+            }
+        }
+    }
+
+    /// Renames the new file over this one, and waits until the disk has that.
+    fn rename_new(&self, directory: &File) -> io::Result<()> {
+        let place = &self.place;
+        fs::rename(&self.rt, place.new_path.as_path(), place.path.as_path())?;
+        directory.sync_all()
     }
 
     /// Notes a call with its answer. What was found before it is then nothing to rely on.
@@ -137,7 +284,7 @@ impl FileDevice {
     }
 }
 
-impl Device for FileDevice {
+impl<R: Files<File = File> + AllocGlobal + Clone + Drop> Device for FileDevice<R> {
     ghost seen = { λ d. seen_by (reverse d.calls.items) };
 
     ghost may_leave = { λ d c. left_by (reverse d.calls.items) c };
@@ -189,5 +336,24 @@ impl Device for FileDevice {
         }
         let answer = self.file.sync_data();
         self.note(Call::Flushed, answer)
+    }
+
+    /// `Refused` where the path of the file is a symbolic link or another file's, or a file can't be made beside it that has
+    /// its owner, group and permissions and these bytes, as for want of room. What was made of it is removed, as far as it
+    /// can be. After `Done` this process has the new file to itself.
+    fn replace(&mut self, bytes: Vec<u8>) -> Result<Replacement, DeviceFault> {
+        if let Some(error) = self.failed {
+            let _ = self.note(Call::Refused, Err(error));
+            return Err(DeviceFault::Failed(error));
+        }
+        match self.make_new(&bytes) {
+            Err(error) => Ok(Replacement::Refused(error)),
+            Ok(new) => {
+                let answer = self.rename_new(&new.directory);
+                self.note(Call::Replaced { bytes }, answer)?;
+                self.file = new.file;
+                Ok(Replacement::Done)
+            }
+        }
     }
 }

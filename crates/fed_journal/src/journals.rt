@@ -1,13 +1,14 @@
 //! Journals: texts in groups, each group on the disk before it is acknowledged.
 ghost use Rattle.std.specs.Prelude.{◌≡◌, ◌≤◌, ◌++◌, ◌∷◌, [], List, ℕ, false, length, map, IfErr, IfOk, IsErrOf, MatchResult, OnOk};
 ghost use Rattle.std.specs.List.{All};
+ghost use Rattle.std.specs.declared.io.Error.{Error};
 ghost use Rattle.fed_journal.specs.Device.{Holds, LeavesJust, LeavesOnly, Torn};
 ghost use Rattle.fed_journal.specs.Journal.{Has};
-ghost use Rattle.fed_journal.specs.Fault.{StopsGate, StopsGroup, StopsOpening, StopsRepair, is_in_doubt};
+ghost use Rattle.fed_journal.specs.Fault.{StopsGate, StopsGroup, StopsOpening, StopsRepair, StopsReplacing, is_in_doubt};
 ghost use Rattle.fed_journal.specs.Lines.{IsLine, Stands, at_rest, recovered, texts_of};
 
-use crate::devices::Device;
-use crate::digests::Digest;
+use crate::devices::{Device, Replacement};
+use crate::digests::{Digest, FIRST_DIGEST};
 use crate::faults::{DeviceFault, JournalFault};
 use crate::lines::{behind_gate, read_lines, write_lines};
 use crate::steps::{put, shorten};
@@ -100,7 +101,7 @@ fn open_gate<D: Device>(device: &mut D, gate: usize) -> Result<(), JournalFault>
 }
 
 impl<D: Device + Drop> Journal<D> {
-    ghost use Rattle.fed_journal.specs.Journal.{IsBeforeOrAfter, IsRead, IsSettled, device_of, entries_in};
+    ghost use Rattle.fed_journal.specs.Journal.{IsBeforeOrAfter, IsOldOrNew, IsRead, IsSettled, device_of, entries_in};
 
     /// Reads the journal of a file that the disk has, as after a crash, or of a new file, which is empty. Changes nothing:
     /// so the tail can be kept elsewhere before `repair` cuts it, and nothing is lost by a crash in between.
@@ -193,6 +194,47 @@ impl<D: Device + Drop> Journal<D> {
         let digest = group.digest;
         self.digest = digest;
         Ok(())
+    }
+
+    /// Puts a journal of these texts alone in the place of this one: at `Done` the disk has it. At `Refused` nothing is done.
+    /// After `Failed` the file is the one or the other, and has to be opened again; after any other `Err` nothing is done.
+    pub fn replace(&mut self, texts: &[&[u8]]) -> Result<Replacement, JournalFault>
+        requires settled { IsSettled D.seen D.may_leave self.old }
+        requires lines { All IsLine (map (λ text. text.now) texts.now) }
+        ensures settled { IfOk result (λ r. IsSettled D.seen D.may_leave self.new) }
+        ensures replaced { IfOk result (λ r. r ≡ Replacement.Done → recovered (D.seen (device_of self.new)) ≡ Ok (map (λ text. text.now) texts.now)) }
+        ensures undone { IfOk result (λ r. (e : Error) → r ≡ Replacement.Refused e → self.new ≡ self.old) }
+
+        // A crash at any moment of the call leaves the entries from before it, or these alone.
+        ensures any_moment { LeavesOnly D.moment D.left_since (device_of self.old) (device_of self.new)
+            (IsOldOrNew (D.seen (device_of self.old)) (map (λ text. text.now) texts.now)) }
+        ensures no_error { IfOk result (λ r. D.errors (device_of self.new) ≡ D.errors (device_of self.old)) }
+        ensures fault { IfErr result (StopsReplacing (D.errors (device_of self.old)) (D.errors (device_of self.new))
+            (length (at_rest (map (λ text. text.now) texts.now)))) }
+        ensures untouched { IsErrOf result JournalFault.NoMemory → self.new ≡ self.old }
+        ensures full { IsErrOf result JournalFault.Full → self.new ≡ self.old }
+    {
+        let group = write_lines(self.alloc, &FIRST_DIGEST, texts)?;
+        let digest = group.digest;
+        let len = group.bytes.len();
+        if len > MAX_BYTES {
+            return Err(JournalFault::Full);
+        }
+        let replacement = self.device.replace(group.bytes)?;
+        if let Replacement::Done = replacement {
+            self.len = len;
+            self.gate = len - 1;
+            self.digest = digest;
+        }
+        Ok(replacement)
+    }
+
+    /// How many bytes the file has.
+    pub fn file_len(&self) -> usize
+        requires { IsSettled D.seen D.may_leave self.now }
+        ensures { result ≡ length (D.seen (device_of self.now)) }
+    {
+        self.len
     }
 
     /// Gives the device back.

@@ -25,7 +25,7 @@ mod steps;
 /// What a journal cuts.
 pub mod tails;
 
-pub use devices::Device;
+pub use devices::{Device, Replacement};
 pub use faults::{DeviceFault, JournalFault, OpenFault};
 pub use files::FileDevice;
 pub use journals::{Journal, MAX_BYTES, Recovered, Unopened};

@@ -6,7 +6,7 @@ ghost use Rattle.fed_journal.specs.Calls.{IsCached, IsTornBy, counts_now, errors
 ghost use Rattle.fed_journal.specs.Device.{Torn};
 
 use crate::calls::{Call, Calls};
-use crate::devices::Device;
+use crate::devices::{Device, Replacement};
 use crate::faults::DeviceFault;
 use std::alloc::{AllocError, Global};
 use std::io;
@@ -14,9 +14,10 @@ use std::io;
 /// How much the disk has of the last change where a file stops before the sync of it.
 #[derive(Clone, Copy, PartialEq, Eq, Debug, Drop)]
 pub enum Tear {
-    /// So many bytes of a write, from its front. A cut isn't done.
+    /// So many bytes of a write, from its front. Neither a cut nor a replacement is done.
     Front(usize),
-    /// So many bytes of a write, from its back, with zeros where the file had none before them. A cut is done.
+    /// So many bytes of a write, from its back, with zeros where the file had none before them. A cut is done, and so is a
+    /// replacement.
     Back(usize),
 }
 
@@ -101,9 +102,10 @@ fn tear_change(alloc: Global, disk: &[u8], change: &Call, tear: Tear) -> Result<
             Tear::Front(count) => tear_behind(alloc, disk, *at, bytes, count),
             Tear::Back(count) => tear_before(alloc, disk, *at, bytes, count),
         },
-        Call::Resized { len } if tear != Tear::Front(0) && *len <= disk.len() => {
+        Call::Resized { len } if matches!(tear, Tear::Back(_)) && *len <= disk.len() => {
             disk[..*len].to_vec(alloc)
         }
+        Call::Replaced { bytes } if matches!(tear, Tear::Back(_)) => bytes.to_vec(alloc),
         _ => disk.to_vec(alloc),
     }
 }
@@ -268,5 +270,24 @@ impl Device for Memory {
         self.change = None;
         self.left -= 1;
         Ok(())
+    }
+
+    fn replace(&mut self, bytes: Vec<u8>) -> Result<Replacement, DeviceFault> {
+        if !self.is_up {
+            return Err(DeviceFault::Failed(stop(&mut self.calls, &mut self.is_up, &Call::Refused)));
+        }
+        let seen = bytes.to_vec(self.alloc)?;
+        let disk = bytes.to_vec(self.alloc)?;
+        let call = Call::Replaced { bytes };
+        if self.left == 0 {
+            tear_disk(self.alloc, &mut self.disk, &call, self.tear);
+            return Err(DeviceFault::Failed(stop(&mut self.calls, &mut self.is_up, &call)));
+        }
+        self.calls = self.calls.and(&call, &Ok(()));
+        self.bytes = seen;
+        self.disk = disk;
+        self.change = None;
+        self.left -= 1;
+        Ok(Replacement::Done)
     }
 }

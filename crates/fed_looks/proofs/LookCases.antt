@@ -7,7 +7,7 @@ use Rattle.fed_replica.specs.Replica.{ReplicaValue}
 use Rattle.fed_replica.specs.State.{state_of}
 use Rattle.fed_looks.specs.declared.looks.Look.{Look}
 use Rattle.fed_looks.specs.declared.looks.Look.TheVariants.{Why, Machine, Reservations, Chart}
-use Rattle.fed_answers.specs.Planned.{plan_text_without}
+use Rattle.fed_qstat.specs.Planned.{plan_text_without}
 use Rattle.fed_looks.specs.Look.{plans}
 use Rattle.fed_machine.specs.Chart.{chart_svg}
 use Rattle.fed_looks.specs.LookText.{look_text}

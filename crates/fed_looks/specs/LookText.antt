@@ -1,7 +1,7 @@
 -- The text of a look, by what is read of a site.
 use Rattle.std.specs.Prelude.{ℕ, List}
 use Rattle.fed_replica.specs.State.{State}
-use Rattle.fed_answers.specs.Planned.{plan_text_without}
+use Rattle.fed_qstat.specs.Planned.{plan_text_without}
 use Rattle.fed_machine.specs.Chart.{chart_svg}
 use Rattle.fed_looks.specs.JobObject.{jobs_json}
 use Rattle.fed_looks.specs.Look.{Look, whys, machines, reserves, tells, sees, charts, plans}

@@ -14,8 +14,8 @@ use Rattle.fed_easy.specs.Plan.{PlanValue, ids}
 use Rattle.fed_easy.specs.Queue.{queue_in}
 use Rattle.fed_qstat.specs.Identifier.{identifier_text, site_text}
 use Rattle.fed_qstat.specs.JobText.{field_text, holder_text, holds_text}
-use Rattle.fed_answers.specs.Outcome.{answer_line}
-use Rattle.fed_answers.specs.Planned.{plan_in}
+use Rattle.fed_qstat.specs.Outcome.{answer_line}
+use Rattle.fed_easy.specs.RosterPlan.{plan_in}
 
 -- where the job began, when, and on how many nodes
 abbrev pub begun_text : List (List ℕ × ℕ) → StampValue × Beginning → List ℕ

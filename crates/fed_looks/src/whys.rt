@@ -7,12 +7,11 @@ ghost use Rattle.fed_board.specs.Board.{board_reads};
 ghost use Rattle.fed_easy.specs.Plan.{plan_reads};
 ghost use Rattle.fed_qstat.specs.Identifier.{site_text as text_of_site};
 ghost use Rattle.fed_qstat.specs.JobText.{holder_text as text_of_holder};
-ghost use Rattle.fed_answers.specs.Planned.{plan_in};
+ghost use Rattle.fed_easy.specs.RosterPlan.{plan_in};
 ghost use Rattle.fed_looks.specs.Why.{behind_text as text_of_behind, begun_text as text_of_begun, job_text as text_of_job, obstacle as obstacle_of, place_text as text_of_place, why_line as line_of_why};
 
-use fed_answers::{nodes_of, plan_at};
 use fed_board::Board;
-use fed_easy::Plan;
+use fed_easy::{Plan, nodes_of, plan_at};
 use fed_lattice::NoMemory;
 use fed_qstat::{holder_text, holds_text, identifier_text, site_text};
 use fed_record::{Beginning, JobRecord, Moment};

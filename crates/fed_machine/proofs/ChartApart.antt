@@ -18,7 +18,7 @@ use Rattle.fed_machine.specs.declared.machines.Reserved.{Reserved}
 use Rattle.fed_machine.specs.Chart.{chart_bars, plan_or_empty}
 use Rattle.fed_machine.specs.ChartBars.{LiesBelow, bar_of, bars_in, last_top, level_over, meets, raised, said, standing_in, top, top_if, with_bar, with_head, with_job, with_kept, with_standing}
 use Rattle.fed_machine.specs.Machine.{kept_in}
-use Rattle.fed_answers.specs.Planned.{plan_in}
+use Rattle.fed_easy.specs.RosterPlan.{plan_in}
 
 -- ---- levels
 raised_least : (from seconds level : ℕ) (b : Bar) → level ≤ raised from seconds level b

@@ -9,7 +9,7 @@ use Rattle.fed_qstat.specs.Identifier.{site_text}
 use Rattle.fed_machine.specs.declared.chart_bars.Bar.{Bar}
 use Rattle.fed_machine.specs.ChartBars.{bars_in}
 use Rattle.fed_machine.specs.ChartMarks.{box_text, levels_in, rise, row_text, span_in}
-use Rattle.fed_answers.specs.Planned.{plan_in}
+use Rattle.fed_easy.specs.RosterPlan.{plan_in}
 
 -- the start of a picture with a list of so many rows
 unfoldable pub head_text : ℕ → List ℕ

@@ -7,9 +7,8 @@ ghost use Rattle.fed_machine.specs.ChartBars.{LiesBelow};
 
 use crate::chart_bars::{Bar, bars_at};
 use crate::chart_marks::{boxes_text, levels_of, rise, rows_text, span_of};
-use fed_answers::{nodes_of, plan_at};
 use fed_board::Board;
-use fed_easy::Plan;
+use fed_easy::{Plan, nodes_of, plan_at};
 use fed_lattice::NoMemory;
 use fed_qstat::site_text;
 use fed_record::Moment;

@@ -9,9 +9,9 @@ use Rattle.fed_threads.specs.declared.journal.Asked.TheVariants.{Do, Ship}
 use Rattle.fed_threads.specs.Calls.{AddsClaim, Looks}
 use Rattle.fed_threads.specs.Seat.{Known, known_by}
 use Rattle.fed_script.specs.Line.{Line, skips, begins, acts, lists, misuses, ships, takes, plans, compares}
-use Rattle.fed_answers.specs.Outcome.{answer_line, outcome_text, usage_line}
-use Rattle.fed_answers.specs.Listed.{listed}
-use Rattle.fed_answers.specs.Planned.{plan_text}
+use Rattle.fed_qstat.specs.Outcome.{answer_line, outcome_text, usage_line}
+use Rattle.fed_qstat.specs.Listed.{listed}
+use Rattle.fed_qstat.specs.Planned.{plan_text}
 use Rattle.fed_main.specs.declared.live_sites.Log.{Log}
 
 -- what a thread's seat knows, and what was answered so far

@@ -5,13 +5,13 @@ ghost use Rattle.fed_board.specs.Board.{board_reads};
 ghost use Rattle.fed_script.specs.LineView.{said_by};
 ghost use Rattle.fed_threads.specs.Calls.{Looks};
 ghost use Rattle.fed_threads.specs.Seat.{known_by, starts};
-ghost use Rattle.fed_answers.specs.Listed.{listed};
-ghost use Rattle.fed_answers.specs.Outcome.{usage_line as line_of_usage};
+ghost use Rattle.fed_qstat.specs.Listed.{listed};
+ghost use Rattle.fed_qstat.specs.Outcome.{usage_line as line_of_usage};
 ghost use Rattle.fed_main.specs.Thread.{asks as asks_site, reads, Answers, Does, Each, LineSays, Looked, MakesPacket, Only, ThreadSays};
-ghost use Rattle.fed_answers.specs.Planned.{plan_text};
+ghost use Rattle.fed_qstat.specs.Planned.{plan_text};
 
-use fed_answers::{listing_text, outcome_line, plan_line, usage_line};
 use fed_board::Board;
+use fed_qstat::{listing_text, outcome_line, plan_line, usage_line};
 use fed_record::{Command, Moment, Who};
 use fed_script::Line;
 use fed_stamp::{JobId, Roster, SiteId};

@@ -4,6 +4,9 @@ pub mod Full
 pub mod Identifier
 pub mod JobText
 pub mod Layout
+pub mod Listed
 pub mod Listing
+pub mod Outcome
 pub mod PlanText
+pub mod Planned
 pub mod Short

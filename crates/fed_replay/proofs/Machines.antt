@@ -8,7 +8,8 @@ use Rattle.fed_model.specs.View.{View, view}
 use Rattle.fed_easy.specs.Machine.{first_fault, running_in}
 use Rattle.fed_easy.specs.SitePlan.{site_plan}
 use Rattle.fed_model.specs.Limits.{IsWithinLimits}
-use Rattle.fed_answers.specs.Planned.{machine_in, plan_or_none, plan_text, planned}
+use Rattle.fed_easy.specs.RosterPlan.{machine_in}
+use Rattle.fed_qstat.specs.Planned.{plan_or_none, plan_text, planned}
 use Rattle.fed_qstat.specs.PlanText.{plan_lines}
 use Rattle.fed_replay.proofs.RunMachines.{machine_within}
 

@@ -13,8 +13,8 @@ use Rattle.fed_world.specs.Kept.{WorldValue}
 use Rattle.fed_model.specs.Run.{World, run, step}
 use Rattle.fed_theory.proofs.Runs.{run-push}
 use Rattle.fed_replay.specs.ScriptWorld.{reads}
-use Rattle.fed_answers.specs.Listed.{listed}
-use Rattle.fed_answers.specs.Outcome.{answer_line, outcome_text}
+use Rattle.fed_qstat.specs.Listed.{listed}
+use Rattle.fed_qstat.specs.Outcome.{answer_line, outcome_text}
 use Rattle.fed_script.specs.Line.{Line}
 use Rattle.fed_script.specs.LineSites.{HasSites}
 use Rattle.fed_replay.specs.Script.{Answered, Script, State, after_commands, after_event, does, followed, later, says}

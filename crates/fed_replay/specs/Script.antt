@@ -9,9 +9,9 @@ use Rattle.fed_model.specs.declared.events.Event.{Event}
 use Rattle.fed_model.specs.declared.events.Event.TheVariants.{Do, Ship, Take}
 use Rattle.fed_model.specs.Run.{World, run, start, step}
 use Rattle.fed_script.specs.Line.{Line, skips, begins, acts, lists, misuses, ships, takes, plans, compares, first_line_in, later_line_in}
-use Rattle.fed_answers.specs.Outcome.{answer_line, outcome_text, usage_line}
-use Rattle.fed_answers.specs.Listed.{listed}
-use Rattle.fed_answers.specs.Planned.{planned}
+use Rattle.fed_qstat.specs.Outcome.{answer_line, outcome_text, usage_line}
+use Rattle.fed_qstat.specs.Listed.{listed}
+use Rattle.fed_qstat.specs.Planned.{planned}
 
 -- the sites, and the world of the run so far
 pub record Script : Type 0 where

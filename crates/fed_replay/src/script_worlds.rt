@@ -8,14 +8,14 @@ ghost use Rattle.fed_model.specs.declared.events.Event.TheVariants.{Do};
 ghost use Rattle.fed_script.specs.LineSites.{HasSites};
 ghost use Rattle.fed_script.specs.LineView.{said_by};
 ghost use Rattle.fed_replay.specs.ScriptWorld.{reads};
-ghost use Rattle.fed_answers.specs.Outcome.{answer_line, outcome_text};
-ghost use Rattle.fed_answers.specs.Listed.{listed};
-ghost use Rattle.fed_answers.specs.Planned.{planned};
+ghost use Rattle.fed_qstat.specs.Outcome.{answer_line, outcome_text};
+ghost use Rattle.fed_qstat.specs.Listed.{listed};
+ghost use Rattle.fed_qstat.specs.Planned.{planned};
 ghost use Rattle.fed_replay.specs.Script.{after_commands, after_event, answered, compared, does, later, says, view_at};
 
-use fed_answers::{AnswerText, listing_text, outcome_line, plan_line, usage_line};
 use fed_board::Board;
 use fed_lattice::NoMemory;
+use fed_qstat::{AnswerText, listing_text, outcome_line, plan_line, usage_line};
 use fed_record::{Command, Moment, Who};
 use fed_script::laws::lines_name_sites_of_the_roster;
 use fed_script::{BoxedRoster, Line, read_later_line};

@@ -7,8 +7,8 @@ ghost use Rattle.fed_script.specs.LineView.{said_by};
 ghost use Rattle.fed_replay.specs.Script.{answered, begun_by, does, says};
 
 use crate::script_worlds::ScriptWorld;
-use fed_answers::AnswerText;
 use fed_lattice::NoMemory;
+use fed_qstat::AnswerText;
 use fed_script::{Line, read_first_line};
 use std::alloc::Global;
 use std::borrow::CowStr;

@@ -6,3 +6,4 @@ pub mod GrantAnswers
 pub mod WantOfMemory
 pub mod Lefts
 pub mod Receipts
+pub mod SameReplicas

@@ -61,3 +61,10 @@ pub record IsMadeFor (s : State) (to : ℕ) (p : PacketValue) : Type 0 where
   pub need : p.delta.need ≡ met (s.heard to) s.view.version
   pub reached : p.delta.changes.version ≡ s.view.version
   pub cut_is : board_reads p.delta.changes ≡ cut s.view p.delta.need
+
+-- the packet of another site that tells nothing but that it has seen what was heard from it
+abbrev pub hearing : State → ℕ → PacketValue
+hearing s from = record {
+  sender = from;
+  delta = record { need = s.heard from; changes = record { version = s.heard from; jobs = []; reservations = [] } };
+}

@@ -1,5 +1,5 @@
 //! Replicas: the boards of sites, and what was heard from other sites.
-ghost use Rattle.std.specs.Prelude.{◌≡◌, ◌≢◌, ◌<◌, ◌++◌, ℕ, [], true, false, not, replicate, None, Err, IfOk, IfErr, OnOk, OnErr, IsTrue};
+ghost use Rattle.std.specs.Prelude.{◌≡◌, ◌≢◌, ◌↔◌, ◌<◌, ◌++◌, ℕ, [], true, false, not, replicate, None, Err, IfOk, IfErr, OnOk, OnErr, IsTrue};
 ghost use Rattle.fed_stamp.specs.declared.sites.TheConstants.{SITES};
 ghost use Rattle.fed_stamp.specs.Version.{is_below, joined, met};
 ghost use Rattle.fed_lattice.specs.History.{History};
@@ -15,14 +15,14 @@ ghost use Rattle.fed_model.specs.declared.refusals.Refusal.{Refusal};
 ghost use Rattle.fed_stamp.specs.Indexes.{put};
 ghost use Rattle.fed_replica.specs.declared.answers.Received.{Received};
 ghost use Rattle.fed_replica.specs.Outcome.{adds, outcome_of_packet_unless, outcome_of_received, said_by};
-ghost use Rattle.fed_replica.specs.State.{after_answer, after_packet_unless, lacking, state_of};
+ghost use Rattle.fed_replica.specs.State.{after_answer, after_packet_unless, hearing as hearing_of, lacking, state_of};
 
 use crate::answers::{Answered, Received, refused};
 use crate::commands::next_step;
 use crate::steps::Step;
-use fed_board::Board;
-use fed_delta::{Absorb, absorb, delta_since};
-use fed_lattice::NoMemory;
+use fed_board::{Board, Records};
+use fed_delta::{Absorb, Delta, absorb, delta_since};
+use fed_lattice::{Causal, NoMemory, Table};
 use fed_model::Taken;
 use fed_record::{Command, Refusal, Reply, Who};
 use fed_stamp::{SITES, SiteId, Version, site_is_in_range};
@@ -52,6 +52,13 @@ impl Model for Replica {
     ghost invariant = { λ r. length r.heard ≡ SITES };
 }
 
+/// Whether the same was heard of each site.
+fn is_heard_the_same(one: &[Version; SITES], other: &[Version; SITES]) -> bool
+    ensures { IsTrue result ↔ (one.now ≡ other.now) }
+{
+    one == other
+}
+
 impl Replica {
     ghost use Rattle.fed_replica.specs.Replica.{IsDone, heard_from};
 
@@ -66,6 +73,20 @@ impl Replica {
             alloc,
             site,
             board: Board::new(alloc),
+            heard: [Version::default(); SITES],
+        }
+    }
+
+    /// The replica of a site whose board has these records and no others, and that has heard nothing.
+    pub fn holding(alloc: Global, site: SiteId, records: Records) -> Replica
+        ensures site { result.site ≡ site }
+        ensures board { result.board ≡ records }
+        ensures heard { result.heard ≡ replicate SITES (replicate SITES 0) }
+    {
+        Replica {
+            alloc,
+            site,
+            board: Board::from_records(alloc, records),
             heard: [Version::default(); SITES],
         }
     }
@@ -155,6 +176,43 @@ impl Replica {
     {
         let answered = self.answer(who, command)?;
         answered.said
+    }
+
+    /// Whether the other replica is identical: of the same site, with the same board, and the same was heard.
+    pub fn is_same(&self, other: &Replica) -> bool
+        ensures { IsTrue result ↔ (self.now ≡ other.now) }
+    {
+        if self.site != other.site || self.board != other.board {
+            return false;
+        }
+        is_heard_the_same(&self.heard, &other.heard)
+    }
+
+    /// The packet of all that the board tells, as for a site that has seen nothing.
+    pub fn whole(&self) -> Result<Packet, NoMemory>
+        ensures sender { IfOk result (λ p. p.sender ≡ self.now.site) }
+        ensures need { IfOk result (λ p. p.delta.need ≡ met (replicate SITES 0) self.now.board.version) }
+        ensures reached { IfOk result (λ p. p.delta.changes.version ≡ self.now.board.version) }
+        ensures cut { IfOk result (λ p. board_reads p.delta.changes ≡ cut (board_reads self.now.board) p.delta.need) }
+    {
+        let delta = delta_since(self.alloc, &self.board, &Version::default())?;
+        Ok(Packet::new(self.site, delta))
+    }
+
+    /// The packet of another site that tells nothing but that it has seen what was heard from it. Taken by a replica that
+    /// has heard nothing, it restores what was heard from that site.
+    pub fn hearing(&self, from: SiteId) -> Packet
+        ensures { result ≡ hearing_of (state_of self.now) from }
+    {
+        site_is_in_range(from);
+        let heard = self.heard(from);
+        let delta = Delta::from_parts(
+            heard,
+            heard,
+            Table::bottom(self.alloc),
+            Table::bottom(self.alloc),
+        );
+        Packet::new(from, delta)
     }
 
     /// The packet for the site: what the board tells that was not heard from there.

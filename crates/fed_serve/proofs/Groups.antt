@@ -1,5 +1,5 @@
 -- An input that is served group by group.
-use Rattle.std.specs.Prelude.{IfErr, IsErrAnd, OnOk, Some, None, Option, Result, Ok, Err, length}
+use Rattle.std.specs.Prelude.{IfErr, IfOk, IsErrAnd, OnOk, Some, None, Option, Result, Ok, Err, length}
 use Rattle.std.specs.declared.io.Error.{Error}
 use Rattle.std.specs.Io.KnownBytes.{Appends, Consumes, IsAtEnd, Keeps}
 use Rattle.std.proofs.Common.{◌≡◌, ◌⊎◌, ◌≤◌, inl, inr, ℕ, List, [], ◌∷◌, ◌++◌, take, refl, sym, ap, subst, ◌∙◌, append_assoc, append-nil}
@@ -11,8 +11,8 @@ use Rattle.fed_replica.specs.State.{State}
 use Rattle.fed_site.specs.Journal.{after_lines, kept_line, kept_lines}
 use Rattle.fed_site.specs.Says.{site_says}
 use Rattle.fed_site.specs.declared.site.Answered.{Answered}
-use Rattle.fed_reasons.specs.Told.{IsTold, answers_in}
-use Rattle.fed_reasons.specs.declared.tellings.Told.{Told}
+use Rattle.fed_site.specs.Told.{IsTold, answers_in}
+use Rattle.fed_site.specs.declared.tellings.Told.{Told}
 use Rattle.fed_journal.specs.Device.{LeavesOnly}
 use Rattle.fed_journal.specs.Journal.{IsBeforeOrAfter, entries_in, entries_of}
 use Rattle.fed_journal.specs.Lines.{Reading, at_rest, recovered}
@@ -30,6 +30,8 @@ use Rattle.fed_serve.specs.Served.{HasAnswered, HasKept, HasServed, IsDone, Keep
 use Rattle.fed_serve.specs.Written.{told_bytes, told_text}
 use Rattle.fed_serve.specs.declared.faults.ServeFault.{ServeFault}
 use Rattle.fed_serve.specs.declared.faults.ServeFault.TheVariants as serve
+use Rattle.fed_serve.specs.declared.serving.Served.{Served}
+use Rattle.fed_serve.specs.declared.serving.Served.TheVariants.{Ended, Long}
 
 -- ---- what was read
 pub keeps_same : (known : Option (List ℕ)) → Keeps known known
@@ -129,6 +131,10 @@ module _ {D : Type 0} (asked : Bool) (seen : D → List ℕ) (may_leave : D → 
 
   pub served_none : (home : Home D) (known : Option (List ℕ)) → IsOpen seen may_leave home → HasServed asked seen may_leave home home [] known known
   served_none home known opened = record { done = done_none home opened; answered = answered_none asked (site_of home).roster (state_in home) known }
+
+  pub served_open : (old new : Home D) (given : List (List ℕ)) (a b : Option (List ℕ)) (r : Result Served ServeFault) → OnOk r (HasServed asked seen may_leave old new given a b) → OnOk r (IsOpen seen may_leave new)
+  served_open old new given a b (Ok end) served = served.done.is_open
+  served_open old new given a b (Err fault) served = tt
 
   -- the entries that a group leaves behind those of the lines before it
   kept_behind : (old mid : Home D) (first group : List (List ℕ)) → IsDone asked seen may_leave old mid first
@@ -246,8 +252,8 @@ module _ {D : Type 0} (asked : Bool) (seen : D → List ℕ) (may_leave : D → 
 
     -- ---- how it ends
     -- the clauses of `serve` on what was served and on what a crash leaves
-    abbrev pub Served : (errors : D → List Error) → Home D → Home D → Option (List ℕ) → Option (List ℕ) → (start begun : List ℕ) → Option (List ℕ) → Option (List ℕ) → Result (Unit {0}) ServeFault → Type 0
-    Served errors old new had now start begun before after result =
+    abbrev pub Serves : (errors : D → List Error) → Home D → Home D → Option (List ℕ) → Option (List ℕ) → (start begun : List ℕ) → Option (List ℕ) → Option (List ℕ) → Result Served ServeFault → Type 0
+    Serves errors old new had now start begun before after result =
         (read : List ℕ) × (unread : List ℕ) × IsKnownAs had (read ++ unread) × IsKnownAs now unread
         × ServesAs asked seen may_leave errors old new (lines_in (start ++ (read ++ unread))) (lines_in (begun ++ unread)) before after result
 
@@ -305,8 +311,8 @@ module _ {D : Type 0} (asked : Bool) (seen : D → List ℕ) (may_leave : D → 
       from_group old given group unread file (inr after) = (group, unread, refl, after)
 
       -- no memory for the input, behind lines that are served
-      pub served_memory : (old mid : Home D) (had has now : Option (List ℕ)) (start begun chunk left : List ℕ) (a b : Option (List ℕ)) (r : Result (Unit {0}) ServeFault) → IsServing old mid had has start begun a b → Consumes has now chunk
-          → IsErrAnd r (λ fault. fault ≡ serve.Home home.NoMemory) → Served errors old mid had now start left a b r
+      pub served_memory : (old mid : Home D) (had has now : Option (List ℕ)) (start begun chunk left : List ℕ) (a b : Option (List ℕ)) (r : Result Served ServeFault) → IsServing old mid had has start begun a b → Consumes has now chunk
+          → IsErrAnd r (λ fault. fault ≡ serve.Home home.NoMemory) → Serves errors old mid had now start left a b r
       served_memory old mid had has now start begun chunk left a b (Ok done) run consumed e = absurd e
       served_memory old mid had has now start begun chunk left a b (Err fault) run consumed e =
           let others = lines_in (begun ++ (chunk ++ rest_of now)) in
@@ -326,9 +332,19 @@ module _ {D : Type 0} (asked : Bool) (seen : D → List ℕ) (may_leave : D → 
             ),
           )
 
+      -- a journal that is long
+      pub served_long : (old mid : Home D) (had now : Option (List ℕ)) (start begun : List ℕ) (a b : Option (List ℕ)) → IsServing old mid had now start begun a b → Serves errors old mid had now start begun a b (Ok Long)
+      served_long old mid had now start begun a b run = (
+        run.read,
+        rest_of now,
+        known_input had now run.read run.came,
+        known_rest now,
+        (run.given, run.lines (rest_of now), run.served),
+      )
+
       -- an input that can't be read further
       pub served_read : (old mid : Home D) (had has now : Option (List ℕ)) (start begun : List ℕ) (a b : Option (List ℕ)) (fault : ServeFault) → IsServing old mid had has start begun a b → Keeps has now
-          → ((error : Error) × (fault ≡ serve.Read error)) → Served errors old mid had now start begun a b (Err fault)
+          → ((error : Error) × (fault ≡ serve.Read error)) → Serves errors old mid had now start begun a b (Err fault)
       served_read old mid had has now start begun a b fault run same is =
           let others = lines_in (begun ++ rest_of now) in
           let behind : StopsBehind asked seen may_leave errors old mid run.given others others a b (serve.Read is.0) = (run.served, refl) in (
@@ -361,7 +377,7 @@ module _ {D : Type 0} (asked : Bool) (seen : D → List ℕ) (may_leave : D → 
         stops_behind old mid new given group unread a b c (serve.Read error) one stopped more = absurd stopped
 
         pub served_stop : (old mid new : Home D) (had has now : Option (List ℕ)) (start begun chunk taken left : List ℕ) (a b c : Option (List ℕ)) (fault : ServeFault) → IsServing old mid had has start begun a b → Takes begun chunk taken left
-            → Consumes has now chunk → StopsAt asked seen errors moment left_since mid new (lines_in taken) b c fault → LeavesGroup mid new (lines_in taken) → Served errors old new had now start left a c (Err fault)
+            → Consumes has now chunk → StopsAt asked seen errors moment left_since mid new (lines_in taken) b c fault → LeavesGroup mid new (lines_in taken) → Serves errors old new had now start left a c (Err fault)
         served_stop old mid new had has now start begun chunk taken left a b c fault run takes consumed stopped more = (
           run.read ++ chunk,
           rest_of now,
@@ -375,15 +391,15 @@ module _ {D : Type 0} (asked : Bool) (seen : D → List ℕ) (may_leave : D → 
           ),
         )
 
-        pub served_at_the_end : (old mid new : Home D) (had has now : Option (List ℕ)) (start begun left : List ℕ) (a b c : Option (List ℕ)) (r : Result (Unit {0}) ServeFault) → IsServing old mid had has start begun a b
-            → Consumes has now [] → IsAtEnd now → left ≡ [] → OnOk r (HasServed asked seen may_leave mid new (cut_line begun) b c) → IfErr r (StopsAt asked seen errors moment left_since mid new (cut_line begun) b c)
-            → LeavesGroup mid new (cut_line begun) → Served errors old new had now start left a c r
-        served_at_the_end old mid new had has now start begun left a b c r run consumed ended empty two stopped more = (
+        pub served_at_the_end : (old mid new : Home D) (had has now : Option (List ℕ)) (start begun left : List ℕ) (a b c : Option (List ℕ)) (r : Result Served ServeFault) → IsServing old mid had has start begun a b
+            → Consumes has now [] → IsAtEnd now → left ≡ [] → IfOk r (λ served. served ≡ Ended) → OnOk r (HasServed asked seen may_leave mid new (cut_line begun) b c) → IfErr r (StopsAt asked seen errors moment left_since mid new (cut_line begun) b c)
+            → LeavesGroup mid new (cut_line begun) → Serves errors old new had now start left a c r
+        served_at_the_end old mid new had has now start begun left a b c r run consumed ended empty whole two stopped more = (
           run.read,
           rest_of now,
           known_input had now run.read (read_all had has now run.read run.came consumed),
           known_rest now,
-          ends r two stopped,
+          ends r whole two stopped,
         )
           where
             is : lines_in (start ++ (run.read ++ rest_of now)) ≡ run.given ++ cut_line begun
@@ -392,10 +408,14 @@ module _ {D : Type 0} (asked : Bool) (seen : D → List ℕ) (may_leave : D → 
             unread : lines_in (left ++ rest_of now) ≡ []
             unread = (λ i. lines_in (empty i ++ rest_at_end now ended i))
 
-            ends : (r : Result (Unit {0}) ServeFault) → OnOk r (HasServed asked seen may_leave mid new (cut_line begun) b c) → IfErr r (StopsAt asked seen errors moment left_since mid new (cut_line begun) b c)
+            ends : (r : Result Served ServeFault) → IfOk r (λ served. served ≡ Ended) → OnOk r (HasServed asked seen may_leave mid new (cut_line begun) b c) → IfErr r (StopsAt asked seen errors moment left_since mid new (cut_line begun) b c)
                 → ServesAs asked seen may_leave errors old new (lines_in (start ++ (run.read ++ rest_of now))) (lines_in (left ++ rest_of now)) a c r
-            ends (Ok done) two stopped = subst (λ (ls : List (List ℕ)). HasServed asked seen may_leave old new ls a c) (sym is) (served_both old mid new run.given (cut_line begun) a b c run.served two)
-            ends (Err fault) two stopped = (
+            ends (Ok Long) whole two stopped = absurd (other whole)
+              where
+                other : Long ≡ Ended → ⊥
+                other e = cc
+            ends (Ok Ended) whole two stopped = subst (λ (ls : List (List ℕ)). HasServed asked seen may_leave old new ls a c) (sym is) (served_both old mid new run.given (cut_line begun) a b c run.served two)
+            ends (Err fault) whole two stopped = (
               run.given,
               cut_line begun ++ lines_in (left ++ rest_of now),
               is ∙ ap (λ ls. run.given ++ ls) (sym (append-nil (cut_line begun))) ∙ ap (λ ls. run.given ++ (cut_line begun ++ ls)) (sym unread),

@@ -1,5 +1,5 @@
 -- A group that isn't served.
-use Rattle.std.specs.Prelude.{Option, Result, Ok, Err, IfErr}
+use Rattle.std.specs.Prelude.{Option, Result, Ok, Err, IfErr, IfOk}
 use Rattle.std.specs.Io.KnownBytes.{Appends}
 use Rattle.std.specs.Str.Lines.{lines}
 use Rattle.std.specs.declared.io.Error.{Error}
@@ -16,6 +16,8 @@ use Rattle.fed_serve.specs.Served.{AreNotKept, IsStop, StopsAt, bytes_with}
 use Rattle.fed_serve.specs.Written.{not_kept_bytes, not_kept_text}
 use Rattle.fed_serve.specs.declared.faults.ServeFault.{ServeFault}
 use Rattle.fed_serve.specs.declared.faults.ServeFault.TheVariants as serve
+use Rattle.fed_serve.specs.declared.serving.Served.{Served}
+use Rattle.fed_serve.specs.declared.serving.Served.TheVariants.{Ended, Long}
 use Rattle.fed_serve.proofs.InputLines.{whole_lines}
 
 -- as much is written to the lines as to what is given of them
@@ -50,6 +52,14 @@ pub cut_lines : (begun : List ℕ) → (length begun == 0) ≡ false → lines_i
 cut_lines begun some = rw some refl
 
 -- what holds whatever the fault is
-pub whatever_fault : (r : Result (Unit {0}) ServeFault) (P : Type 0) → P → IfErr r (λ fault. (cause : HomeFault) → fault ≡ serve.NotKept cause → P)
+pub whatever_fault : {A : Type 0} (r : Result A ServeFault) (P : Type 0) → P → IfErr r (λ fault. (cause : HomeFault) → fault ≡ serve.NotKept cause → P)
 whatever_fault (Ok done) P p = tt
 whatever_fault (Err fault) P p = λ cause is. p
+
+-- an input that is answered to its end didn't stop before
+apart : Long ≡ Ended → ⊥
+apart e = cc
+
+pub never_long : (r : Result Served ServeFault) (P : Type 0) → IfOk r (λ served. served ≡ Ended) → IfOk r (λ served. served ≡ Long → P)
+never_long (Ok served) P ended = λ long. absurd (apart (sym long ∙ ended))
+never_long (Err fault) P ended = tt

@@ -5,8 +5,8 @@ use Rattle.std.specs.Io.KnownBytes.{Appends, Keeps}
 use Rattle.std.specs.declared.io.Error.{Error}
 use Rattle.fed_replica.specs.State.{State}
 use Rattle.fed_site.specs.Journal.{after_lines, kept_lines}
-use Rattle.fed_reasons.specs.Told.{IsTold, answers_in}
-use Rattle.fed_reasons.specs.declared.tellings.Told.{Told}
+use Rattle.fed_site.specs.Told.{IsTold, answers_in}
+use Rattle.fed_site.specs.declared.tellings.Told.{Told}
 use Rattle.fed_journal.specs.Device.{Leaves, LeavesOnly}
 use Rattle.fed_journal.specs.Journal.{entries_in}
 use Rattle.fed_journal.specs.Lines.{at_rest, recovered}
@@ -19,6 +19,8 @@ use Rattle.fed_home.specs.declared.homes.Home.{Home}
 use Rattle.fed_serve.specs.Written.{not_kept_text, told_text}
 use Rattle.fed_serve.specs.declared.faults.ServeFault.{ServeFault}
 use Rattle.fed_serve.specs.declared.faults.ServeFault.TheVariants as serve
+use Rattle.fed_serve.specs.declared.serving.Served.{Served}
+use Rattle.fed_serve.specs.declared.serving.Served.TheVariants.{Ended, Long}
 
 -- The answers to these lines, one after another, were written, with words where they are asked for.
 abbrev pub HasAnswered : (asked : Bool) → List (List ℕ × ℕ) → State → List (List ℕ) → Option (List ℕ) → Option (List ℕ) → Type 0
@@ -93,9 +95,12 @@ module _ {D : Type 0} (asked : Bool) (seen : D → List ℕ) (may_leave : D → 
     StopsBehind old new first others unread before after (serve.Write error) =
         Leaves (KeepsFrom (site_of old).roster (state_in old) (entries_in (seen (home_device old))) first others) (may_leave (home_device new))
 
-    -- How it ends, by the lines of the input and by those that are left to be read: all are served, or it stops behind some first ones.
-    abbrev pub ServesAs : Home D → Home D → (given unread : List (List ℕ)) → Option (List ℕ) → Option (List ℕ) → Result (Unit {0}) ServeFault → Type 0
-    ServesAs old new given unread before after (Ok done) = HasServed old new given before after
+    -- How it ends, by the lines of the input and by those that are left to be read: all are served, or all but those, or it
+    -- stops behind some first ones.
+    abbrev pub ServesAs : Home D → Home D → (given unread : List (List ℕ)) → Option (List ℕ) → Option (List ℕ) → Result Served ServeFault → Type 0
+    ServesAs old new given unread before after (Ok Ended) = HasServed old new given before after
+    ServesAs old new given unread before after (Ok Long) =
+        (first : List (List ℕ)) × (given ≡ first ++ unread) × HasServed old new first before after
     ServesAs old new given unread before after (Err fault) =
         (first : List (List ℕ)) × (others : List (List ℕ)) × (given ≡ first ++ others) × StopsBehind old new first others unread before after fault
 

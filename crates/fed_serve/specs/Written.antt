@@ -3,7 +3,7 @@ use Rattle.std.specs.Prelude.{ℕ, List, [], ◌∷◌, ◌++◌, Option, Some, 
 use Rattle.std.specs.List.{flat_map}
 use Rattle.std.specs.Str.Lines.{lines}
 use Rattle.fed_site.specs.Answered.{bytes_of}
-use Rattle.fed_reasons.specs.declared.tellings.Told.{Told}
+use Rattle.fed_site.specs.declared.tellings.Told.{Told}
 
 abbrev pub first_line : List ℕ → List ℕ
 first_line text = unwrap_or (slice_get (lines text) 0) []

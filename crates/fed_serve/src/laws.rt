@@ -2,8 +2,8 @@
 ghost use Rattle.std.specs.Prelude.{◌≡◌, ◌++◌, ◌∷◌, [], List, false};
 ghost use Rattle.std.specs.List.{All, flat_map};
 ghost use Rattle.fed_site.specs.Answered.{bytes_of};
-ghost use Rattle.fed_reasons.specs.Told.{IsTold, answers_in};
-ghost use Rattle.fed_reasons.specs.declared.tellings.Told.{Told};
+ghost use Rattle.fed_site.specs.Told.{IsTold, answers_in};
+ghost use Rattle.fed_site.specs.declared.tellings.Told.{Told};
 ghost use Rattle.fed_serve.specs.Written.{told_text};
 
 /// Where no words are asked for, the answers are written, an empty line behind each, and nothing else.

@@ -17,4 +17,4 @@ mod written;
 pub use faults::ServeFault;
 pub use inputs::{MAX_LINE_BYTES, MAX_TAKE_BYTES, heard};
 pub use lines::{line_of_words, take_line};
-pub use serving::serve;
+pub use serving::{Served, serve};

@@ -8,7 +8,7 @@ ghost use Rattle.fed_journal.specs.Device.{LeavesOnly};
 ghost use Rattle.fed_journal.specs.Journal.{IsBeforeOrAfter, entries_in};
 ghost use Rattle.fed_journal.specs.Lines.{recovered};
 ghost use Rattle.fed_site.specs.Journal.{kept_lines};
-ghost use Rattle.fed_reasons.specs.Told.{IsTold, answers_in};
+ghost use Rattle.fed_site.specs.Told.{IsTold, answers_in};
 ghost use Rattle.fed_home.specs.Fault.{StopsAnswers, is_in_doubt};
 ghost use Rattle.fed_home.specs.Home.{IsOpen, state_in, home_device, site_of};
 ghost use Rattle.fed_home.specs.Replay.{AreReplies};
@@ -23,6 +23,15 @@ use fed_home::{Home, HomeFault, Told};
 use fed_journal::Device;
 use std::alloc::Global;
 use std::io::{ErrorKind, Read, Write};
+
+/// How serving ends where nothing fails.
+#[derive(Clone, Copy, PartialEq, Eq, Debug)]
+pub enum Served {
+    /// The input has ended, and all of it is answered.
+    Ended,
+    /// The journal has more bytes than it was to have. What has come is answered, and the call may be made again to go on.
+    Long,
+}
 
 /// The bytes that are asked for at once. The lines among those that come are one group.
 const CHUNK_BYTES: usize = 65_536;
@@ -142,8 +151,9 @@ fn answer_cut<D: Device + Drop, W: Write>(
     begun: &mut Vec<u8>,
     writer: &mut W,
     asked: bool,
-) -> Result<(), ServeFault>
+) -> Result<Served, ServeFault>
     requires { IsOpen D.seen D.may_leave home.old }
+    ensures ended { IfOk result (λ served. served ≡ Served.Ended) }
     ensures served { OnOk result (HasServed asked D.seen D.may_leave home.old home.new (cut_line begun.old.items) (W.contents writer.old) (W.contents writer.new)) }
     ensures stopped { IfErr result (StopsAt asked D.seen D.errors D.moment D.left_since home.old home.new (cut_line begun.old.items) (W.contents writer.old) (W.contents writer.new)) }
     ensures any_moment { LeavesOnly D.moment D.left_since (home_device home.old) (home_device home.new)
@@ -153,16 +163,20 @@ fn answer_cut<D: Device + Drop, W: Write>(
     ensures taken { begun.new.items ≡ [] }
 {
     if begun.is_empty() {
-        return Ok(());
+        return Ok(Served::Ended);
     }
     begun.clear();
-    answer_text(alloc, home, CUT, writer, asked)
+    match answer_text(alloc, home, CUT, writer, asked) {
+        Ok(()) => Ok(Served::Ended),
+        Err(fault) => Err(fault),
+    }
 }
 
 /// Answers each line of an input, until it ends: the text that the site says to it; where words are asked for and the user
 /// is told something of the line, a line of `# ` and these words; and an empty line. A last line without its line feed was
 /// cut on its way: it is given as a line that can't be read. The lines that come together are one group, which the disk has
-/// before one of them is answered. Of the next line `begun` has what has come of it, at first nothing.
+/// before one of them is answered. Of the next line `begun` has what has come of it, at first nothing. Between two groups
+/// the call ends with `Long` once the journal has more than `most_bytes` bytes, at once where it has.
 ///
 /// Errors: `Read` of an input that can't be read: what came before is answered. `Write` of answers that can't be written:
 /// the lines are kept. `NotKept` of a group that can't be kept, for want of memory or of room on the disk, or since the
@@ -176,7 +190,8 @@ pub fn serve<D: Device + Drop, R: Read, W: Write>(
     reader: &mut R,
     writer: &mut W,
     asked: bool,
-) -> Result<(), ServeFault>
+    most_bytes: usize,
+) -> Result<Served, ServeFault>
     requires open { IsOpen D.seen D.may_leave home.old }
     requires begun { HasNoLineFeed begun.old.items }
     ensures served { (read : List ℕ) × (unread : List ℕ) × IsKnownAs (R.remaining reader.old) (read ++ unread) × IsKnownAs (R.remaining reader.new) unread
@@ -188,10 +203,16 @@ pub fn serve<D: Device + Drop, R: Read, W: Write>(
         × LeavesOnly D.moment D.left_since (home_device home.old) (home_device home.new)
         (KeepsSome (site_of home.old).roster (state_in home.old) (entries_in (D.seen (home_device home.old))) (lines_in (begun.old.items ++ input))) }
     ensures begun { IfErr result (λ fault. (cause : HomeFault) → fault ≡ ServeFault.NotKept cause → HasNoLineFeed begun.new.items) }
+    ensures paused { IfOk result (λ served. served ≡ Served.Long → HasNoLineFeed begun.new.items) }
+    ensures long { IfOk result (λ served. served ≡ Served.Long → most_bytes < length (D.seen (home_device home.new))) }
+    ensures open { OnOk result (IsOpen D.seen D.may_leave home.new) }
     ensures fault { IfErr result (StopsServing (D.errors (home_device home.new))) }
 {
     let mut chunk = vec![in alloc; 0u8; CHUNK_BYTES]?;
     for _ in 0..u64::MAX {
+        if home.journal_len() > most_bytes {
+            return Ok(Served::Long);
+        }
         let count = match read_chunk(reader, &mut chunk) {
             Ok(0) => return answer_cut(alloc, home, begun, writer, asked),
             Ok(count) => count,

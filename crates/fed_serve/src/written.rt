@@ -4,8 +4,8 @@ ghost use Rattle.std.specs.Io.KnownBytes.{Appends};
 ghost use Rattle.std.specs.Str.Lines.{lines};
 ghost use Rattle.fed_serve.specs.Written.{first_line as first_line_of, not_kept_bytes, not_kept_text, told_bytes, told_text, words_line};
 
-use fed_reasons::Told;
 use fed_script::split_line;
+use fed_site::Told;
 use std::io::{self, Write};
 
 /// The first line of a text.

@@ -19,7 +19,7 @@ use Rattle.fed_model.specs.Outcome.{outcome_of_answer}
 use Rattle.fed_replica.specs.Outcome.{said_by}
 use Rattle.fed_replica.specs.Replica.{ReplicaValue}
 use Rattle.fed_replica.specs.State.{State, state_of}
-use Rattle.fed_answers.specs.Outcome.{answer_line, outcome_text, reply_text}
+use Rattle.fed_qstat.specs.Outcome.{answer_line, outcome_text, reply_text}
 use Rattle.fed_site.specs.Acts.{DoneAs, line_for, next_line, stamp_line}
 use Rattle.fed_site.specs.declared.complaints.Complaint.{Complaint}
 use Rattle.fed_site.specs.Says.{Done, after_command, after_commands, followed, refused_at}

@@ -2,3 +2,4 @@ pub mod Commands
 pub mod Replays
 pub mod Openings
 pub mod Lines
+pub mod KnownTexts

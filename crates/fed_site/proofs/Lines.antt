@@ -6,10 +6,10 @@ use Rattle.fed_stamp.specs.Stamp.{StampValue}
 use Rattle.fed_board.specs.Board.{board_reads}
 use Rattle.fed_replica.specs.State.{State, state_of}
 use Rattle.fed_script.specs.Line.{Line, lists, plans}
-use Rattle.fed_answers.specs.Listed.{listed}
+use Rattle.fed_qstat.specs.Listed.{listed}
 use Rattle.fed_site.specs.Journal.{SaidAs, after_lines}
 use Rattle.fed_site.specs.Site.{SiteValue}
-use Rattle.fed_answers.specs.Planned.{plan_if_any, plan_or_none}
+use Rattle.fed_qstat.specs.Planned.{plan_if_any, plan_or_none}
 use Rattle.fed_site.specs.declared.complaints.Complaint.{Complaint}
 use Rattle.fed_site.specs.declared.site.Answered.{Answered}
 use Rattle.fed_site.specs.Answered.{bytes_of, complaint_of, kept_of}

@@ -10,8 +10,8 @@ use Rattle.fed_model.specs.Answer.{Answer, Answer.Refuses, Answer.Replies, answe
 use Rattle.fed_replica.specs.Outcome.{adds}
 use Rattle.fed_replica.specs.State.{State, after_answer, after_packet_unless, lacking}
 use Rattle.fed_script.specs.Line.{Line, skips, begins, acts, lists, misuses, ships, takes, plans, compares, own_line_in}
-use Rattle.fed_answers.specs.Outcome.{answer_line}
-use Rattle.fed_answers.specs.Planned.{plan_if_any}
+use Rattle.fed_qstat.specs.Outcome.{answer_line}
+use Rattle.fed_qstat.specs.Planned.{plan_if_any}
 use Rattle.fed_looks.specs.Look.{Look}
 use Rattle.fed_looks.specs.LookLine.{look_in_line}
 use Rattle.fed_site.specs.declared.complaints.Complaint.{Complaint}

@@ -8,7 +8,7 @@ use Rattle.fed_model.specs.declared.replies.Reply.{Reply}
 use Rattle.fed_model.specs.declared.replies.Reply.TheVariants.{Submitted, Done as IsDone, Granted, Yours, Reserved}
 use Rattle.fed_replica.specs.Replica.{ReplicaValue}
 use Rattle.fed_qstat.specs.Identifier.{identifier_text}
-use Rattle.fed_answers.specs.Outcome.{answer_line}
+use Rattle.fed_qstat.specs.Outcome.{answer_line}
 use Rattle.fed_replica.specs.State.{state_of}
 use Rattle.fed_site.specs.declared.complaints.Complaint.{Complaint}
 use Rattle.fed_site.specs.Says.{Done}

@@ -5,4 +5,6 @@ pub mod Packets
 pub mod Says
 pub mod Acts
 pub mod Answered
+pub mod Told
 pub mod Journal
+pub mod Known

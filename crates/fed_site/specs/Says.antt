@@ -1,5 +1,5 @@
 -- What a site says to a line, what it holds then, whether the line is to be kept, and why it isn't done as it asks.
-use Rattle.std.specs.Prelude.{◌≡◌, ℕ, ◌+◌, Bool, true, false, ◌||◌, List, [], ◌∷◌, ◌++◌, codes, Option, Some, None, is_none, Result, Ok, Err, if◌then◌else◌}
+use Rattle.std.specs.Prelude.{◌≡◌, ℕ, ◌+◌, Bool, false, ◌||◌, List, [], ◌∷◌, ◌++◌, codes, Option, Some, None, is_none, Result, Ok, Err, if◌then◌else◌}
 use Rattle.std.specs.Option.{option_map, option_or}
 use Rattle.fed_model.specs.declared.askers.Who.{Who}
 use Rattle.fed_model.specs.declared.commands.Command.{Command}
@@ -11,9 +11,9 @@ use Rattle.fed_replica.specs.State.{State, after_answer, after_packet_unless, la
 use Rattle.fed_model.specs.Outcome.{outcome_of_answer}
 use Rattle.fed_replica.specs.Outcome.{adds, outcome_of_packet_unless}
 use Rattle.fed_script.specs.Line.{Line, skips, acts, lists, misuses, ships, plans, own_line_in}
-use Rattle.fed_answers.specs.Outcome.{answer_line, outcome_text, usage_line}
-use Rattle.fed_answers.specs.Planned.{plan_if_any, plan_or_none}
-use Rattle.fed_answers.specs.Listed.{listed}
+use Rattle.fed_qstat.specs.Outcome.{answer_line, outcome_text, usage_line}
+use Rattle.fed_qstat.specs.Planned.{plan_if_any, plan_or_none}
+use Rattle.fed_qstat.specs.Listed.{listed}
 use Rattle.fed_looks.specs.Look.{Look}
 use Rattle.fed_looks.specs.LookLine.{look_in_line}
 use Rattle.fed_looks.specs.LookText.{look_text}

@@ -3,17 +3,17 @@ ghost use Rattle.std.specs.Prelude.{◌≡◌, ◌||◌, false, Some, None, IfOk
 ghost use Rattle.std.specs.Cow.{cow_str_bytes};
 ghost use Rattle.fed_board.specs.Board.{board_reads};
 ghost use Rattle.fed_model.specs.declared.outcomes.Outcome.{Outcome};
-ghost use Rattle.fed_answers.specs.Outcome.{answer_line, outcome_text};
+ghost use Rattle.fed_qstat.specs.Outcome.{answer_line, outcome_text};
 ghost use Rattle.fed_site.specs.declared.complaints.Complaint.{Complaint};
 ghost use Rattle.fed_site.specs.Acts.{DoneAs, line_for, next_line};
 ghost use Rattle.fed_replica.specs.State.{state_of};
 ghost use Rattle.fed_site.specs.Says.{after_command, after_commands};
 
 use crate::complaints::Complaint;
-use fed_answers::{AnswerText, outcome_line};
 use fed_board::Board;
 use fed_lattice::NoMemory;
 use fed_model::Outcome;
+use fed_qstat::{AnswerText, outcome_line};
 use fed_record::{Command, Refusal, Reply, Who};
 use fed_replica::{Answered, Replica};
 use fed_stamp::{Roster, SiteId};

@@ -1,7 +1,15 @@
 //! Laws of what sites say and keep. Each function does nothing: its contract is the law.
-ghost use Rattle.std.specs.Prelude.{◌≡◌, ℕ, List, false};
+ghost use Rattle.std.specs.Prelude.{◌≡◌, ◌<◌, ℕ, List, Some, drop, false, length, nat_lt};
+ghost use Rattle.std.specs.List.{list_any};
+ghost use Rattle.fed_lattice.specs.History.{History};
+ghost use Rattle.fed_model.specs.Body.{Body};
+ghost use Rattle.fed_model.specs.Lawful.{IsLawful};
+ghost use Rattle.fed_model.specs.Limits.{IsWithinLimits};
+ghost use Rattle.fed_model.specs.View.{view};
 ghost use Rattle.fed_replica.specs.State.{State, IsMadeFor};
 ghost use Rattle.fed_site.specs.Journal.{after_lines, kept_lines};
+ghost use Rattle.fed_site.specs.Known.{known_in, unheard};
+ghost use Rattle.fed_site.specs.Packets.{IsPacketText};
 ghost use Rattle.fed_site.specs.Says.{site_says};
 
 use fed_board::records_that_read_the_same_are_equal;
@@ -19,6 +27,15 @@ pub fn kept_lines_are_enough()
         after_lines roster s (kept_lines roster s lines) ≡ after_lines roster s lines }
     ensures again { (roster : List (List ℕ × ℕ)) (s : State) (lines : List (List ℕ)) →
         kept_lines roster s (kept_lines roster s lines) ≡ kept_lines roster s lines }
+{}
+
+/// What a site knows is read of its text again, where it knows a lawful set of operations within limits, of sites of the
+/// roster alone. So its journal can begin from that text.
+pub fn known_texts_are_read_again()
+    ensures { (roster : List (List ℕ × ℕ)) (s : State) (ops : History Body) (text : List ℕ) →
+        IsLawful ops → IsWithinLimits ops → s.view ≡ view ops → s.site < length roster →
+        list_any (λ counter. nat_lt 0 counter) (drop (length roster) s.view.version) ≡ false →
+        IsPacketText (unheard s) 0 text → known_in roster s.site text ≡ Some (unheard s) }
 {}
 
 /// Two packets that a site makes for another are equal.

@@ -1,16 +1,28 @@
-//! One site of a federation by itself: what it says to lines of bytes, and the replay of those that it keeps.
+//! One site of a federation by itself: what it says to lines of bytes, what the user is told beside that, and the replay of
+//! the lines that it keeps.
 #![tactic(auto)]
 
 /// What a site does to commands.
 mod acts;
 /// Why lines aren't done as they ask.
 mod complaints;
+/// What a site holds, as text.
+mod knowing;
 /// Laws of what sites say and keep.
 pub mod laws;
+/// What the user is told of words that ask nothing.
+mod misused;
 /// What a site does to the texts of packets.
 mod packets;
+/// What the user is told of a line.
+mod reasons;
+/// What the user is told of commands that are refused.
+mod refused;
 /// Sites.
 pub mod site;
+/// Answers, and what the user is told beside them.
+pub mod tellings;
 
 pub use complaints::Complaint;
 pub use site::{Answered, Site};
+pub use tellings::{Told, words_beside};

@@ -5,7 +5,7 @@ ghost use Rattle.std.specs.Fmt.{decimal};
 ghost use Rattle.std.specs.List.{list_any};
 ghost use Rattle.fed_stamp.specs.declared.sites.TheConstants.{SITES};
 ghost use Rattle.fed_wire.specs.declared.faults.WireFault.{WireFault};
-ghost use Rattle.fed_answers.specs.Outcome.{answer_line};
+ghost use Rattle.fed_qstat.specs.Outcome.{answer_line};
 ghost use Rattle.fed_site.specs.Acts.{DoneAs};
 ghost use Rattle.fed_replica.specs.State.{state_of};
 ghost use Rattle.fed_site.specs.Packets.{is_foreign as tells_of_others, is_forgotten as has_seen_more, part_text as text_of_part, place_text as text_of_place, unread_text, IsPacketText};
@@ -14,9 +14,9 @@ ghost use Rattle.fed_wire.specs.Reading.{packet_in};
 
 use crate::acts::{Done, undone};
 use crate::complaints::Complaint;
-use fed_answers::{AnswerText, outcome_line};
 use fed_lattice::NoMemory;
 use fed_model::Outcome;
+use fed_qstat::{AnswerText, outcome_line};
 use fed_replica::{Received, Replica, Taken};
 use fed_stamp::{Roster, SiteId, Version, site_is_in_range};
 use fed_wire::{Packet, Part, Place, WireFault, read, told_packets_are_within_limits, write};
@@ -85,7 +85,7 @@ fn tells_of_more(sites: usize, reached: &Version) -> bool
 }
 
 /// Whether the sender, or a site of which something is told, is none of the roster's.
-fn is_foreign(roster: &Roster, packet: &Packet) -> bool
+pub(crate) fn is_foreign(roster: &Roster, packet: &Packet) -> bool
     ensures { result ≡ tells_of_others roster.now packet.now }
 {
     let sites = roster.len();
@@ -163,7 +163,7 @@ fn take_packet(
 }
 
 /// The fault of a text, but for want of memory.
-fn of_text(fault: WireFault) -> Result<WireFault, NoMemory>
+pub(crate) fn of_text(fault: WireFault) -> Result<WireFault, NoMemory>
     ensures same { IfOk result (λ told. (told ≡ fault) × (fault ≢ WireFault.NoMemory)) }
     ensures memory { OnErr result (fault ≡ WireFault.NoMemory) }
 {

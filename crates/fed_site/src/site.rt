@@ -1,26 +1,29 @@
 //! One site by itself: what it holds, and what it answers to a line.
-ghost use Rattle.std.specs.Prelude.{◌≡◌, ◌<◌, false, Some, None, IfOk, OnErr, codes, if◌then◌else◌, is_none, length, map, nat_eq, option_map};
+ghost use Rattle.std.specs.Prelude.{◌≡◌, ◌↔◌, ◌<◌, false, Some, None, IfOk, IfSome, IsTrue, OnErr, OnOk, codes, if◌then◌else◌, is_none, length, map, nat_eq, option_map};
 ghost use Rattle.std.specs.List.{list_any};
 ghost use Rattle.std.specs.Cow.{cow_str_bytes};
 ghost use Rattle.fed_board.specs.Board.{board_reads};
 ghost use Rattle.fed_looks.specs.LookView.{asked_by};
 ghost use Rattle.fed_script.specs.LineView.{said_by};
 ghost use Rattle.fed_replica.specs.State.{empty_at, state_of};
-ghost use Rattle.fed_answers.specs.Outcome.{answer_line};
-ghost use Rattle.fed_answers.specs.Planned.{plan_or_none};
+ghost use Rattle.fed_qstat.specs.Outcome.{answer_line};
+ghost use Rattle.fed_qstat.specs.Planned.{plan_or_none};
 ghost use Rattle.fed_site.specs.declared.complaints.Complaint.{Complaint};
 ghost use Rattle.fed_site.specs.Answered.{bytes_of, kept_of, complaint_of};
 ghost use Rattle.fed_site.specs.Journal.{SaidAs, after_lines};
+ghost use Rattle.fed_site.specs.Known.{heard_line as line_of_heard, known_in, unheard};
 ghost use Rattle.fed_site.specs.Line.{packet_text as packet_text_in};
+ghost use Rattle.fed_site.specs.Packets.{IsPacketText};
 ghost use Rattle.fed_site.specs.Says.{after_line, after_look, after_told, site_says};
 
 use crate::acts::{Done, act, undone};
 use crate::complaints::Complaint;
+use crate::knowing::{heard_line, known, known_text};
 use crate::packets::{ship, take};
-use fed_answers::{AnswerText, listing_text, plan_lines, usage_line};
 use fed_board::Board;
 use fed_lattice::NoMemory;
 use fed_looks::{Look, look_of_line, look_text};
+use fed_qstat::{AnswerText, listing_text, plan_lines, usage_line};
 use fed_replica::Replica;
 use fed_script::{BoxedRoster, Line, read_own_line};
 use fed_stamp::{Roster, SiteId, Version};
@@ -292,6 +295,18 @@ impl Site {
         }
     }
 
+    /// Answers these lines, one after another. Where memory is refused, the site may have answered some of them.
+    pub fn replay(&mut self, alloc: Global, lines: &[&[u8]]) -> Result<(), NoMemory>
+        ensures roster { OnOk result (self.new.roster ≡ self.old.roster) }
+        ensures replay { OnOk result (state_of self.new.replica ≡
+            after_lines self.old.roster (state_of self.old.replica) (map (λ line. line.now) lines.now)) }
+    {
+        for line in lines {
+            self.answer(alloc, line)?;
+        }
+        Ok(())
+    }
+
     /// The site that has answered these lines, one after another.
     pub fn open(
         alloc: Global,
@@ -305,9 +320,52 @@ impl Site {
             after_lines roster (empty_at here) (map (λ line. line.now) lines.now)) }
     {
         let mut site = Site::new(alloc, roster, here);
-        for line in lines {
-            site.answer(alloc, line)?;
-        }
+        site.replay(alloc, lines)?;
         Ok(site)
+    }
+
+    /// The site that knows what the text tells, which `known_text` has given of a site, and that has heard nothing; `None`
+    /// where the text is not of a packet of the site itself that needs nothing and tells of no site that the roster hasn't.
+    pub fn knowing(
+        alloc: Global,
+        roster: BoxedRoster,
+        here: SiteId,
+        text: &[u8],
+    ) -> Result<Option<Site>, NoMemory>
+        requires { here < length roster }
+        ensures roster { IfOk result (λ site. IfSome site (λ site. site.roster ≡ roster)) }
+        ensures state { IfOk result (λ site. option_map (λ site. state_of site.replica) site ≡ known_in roster here text.now) }
+    {
+        match known(alloc, roster.get(), here, text)? {
+            Some(replica) => Ok(Some(Site {
+                roster,
+                here,
+                replica,
+            })),
+            None => Ok(None),
+        }
+    }
+
+    /// The text of the packet of all that the site knows: its own, needing nothing. What was heard isn't in it.
+    pub fn known_text(&self, alloc: Global) -> Result<Vec<u8>, NoMemory>
+        ensures { IfOk result (λ text. IsPacketText (unheard (state_of self.now.replica)) 0 text.items) }
+    {
+        known_text(alloc, &self.replica)
+    }
+
+    /// The line that takes a packet which tells nothing but what was heard from the site, so that another site which knows
+    /// the same has heard it too; `None` where nothing was heard.
+    pub fn heard_line(&self, alloc: Global, from: SiteId) -> Result<Option<Vec<u8>>, NoMemory>
+        ensures { IfOk result (λ line. option_map (λ line. line.items) line ≡
+            line_of_heard (state_of self.now.replica) from) }
+    {
+        heard_line(alloc, &self.replica, from)
+    }
+
+    /// Whether the other site holds the same: whether it is the same site, with the same board, and has heard the same.
+    pub fn holds_the_same(&self, other: &Site) -> bool
+        ensures { IsTrue result ↔ (self.now.replica ≡ other.now.replica) }
+    {
+        self.replica.is_same(&other.replica)
     }
 }

@@ -15,7 +15,7 @@ use Rattle.fed_model.specs.declared.outcomes.Outcome.{Outcome}
 use Rattle.fed_model.specs.Run.{World, Step, does, step, run_from, outcomes_from, with_operation}
 use Rattle.fed_theory.proofs.RunSteps.{do_here, does_others}
 use Rattle.fed_theory.proofs.Runs.{put_same}
-use Rattle.fed_answers.specs.Outcome.{answer_line, outcome_text}
+use Rattle.fed_qstat.specs.Outcome.{answer_line, outcome_text}
 use Rattle.fed_site.specs.Says.{Done, after_command, after_commands, does as does_at}
 use Rattle.fed_turns.specs.Run.{outcome_lines, state_at}
 use Rattle.fed_turns.proofs.Reached.{Reached, lawful, step_reached}

@@ -11,7 +11,7 @@ use Rattle.fed_model.specs.declared.replies.Reply.{Reply}
 use Rattle.fed_model.specs.Run.{World, run, outcomes_from, start, step}
 use Rattle.fed_theory.proofs.Begins.{done_once}
 use Rattle.fed_script.specs.Line.{acts}
-use Rattle.fed_answers.specs.Outcome.{answer_line, outcome_text}
+use Rattle.fed_qstat.specs.Outcome.{answer_line, outcome_text}
 use Rattle.fed_turns.specs.Crash.{Happening, answered, turns_from, turns_of}
 use Rattle.fed_turns.specs.Own.{AsksToBegin}
 use Rattle.fed_turns.specs.Run.{Deed, IsDeedAnswer, StandsFor, deed_of, does, events_at, events_done, events_from, looked, numbered}

@@ -9,13 +9,13 @@ use Rattle.fed_replica.specs.State.{State, empty_at}
 use Rattle.fed_script.specs.Line.{Line, skips, begins, acts, lists, misuses, ships, takes, plans, compares, own_line_in}
 use Rattle.fed_theory.proofs.RunSteps.{put_other}
 use Rattle.fed_theory.proofs.Runs.{put_same}
-use Rattle.fed_answers.specs.Outcome.{answer_line}
+use Rattle.fed_qstat.specs.Outcome.{answer_line}
 use Rattle.fed_looks.specs.Look.{Look}
 use Rattle.fed_looks.specs.LookLine.{look_in_line}
 use Rattle.fed_site.specs.Journal.{after_lines, kept_line, kept_lines}
 use Rattle.fed_site.specs.Line.{packet_text}
 use Rattle.fed_site.proofs.Replays.{replayed}
-use Rattle.fed_answers.specs.Planned.{plan_if_any}
+use Rattle.fed_qstat.specs.Planned.{plan_if_any}
 use Rattle.fed_site.specs.Says.{IsReply, Reply, Said, Text, PacketFor, after_look, after_plan, after_text, after_told, site_says}
 use Rattle.fed_turns.specs.Crash.{Happening, answered, cut, MayAllHappen, MayHappen, journal_of, lines_all, lines_at, lines_if, turn_unseen, turns_from, turns_of, turns_unseen, unseen}
 use Rattle.fed_turns.specs.Turn.{AreCarried, Course, IsCarried, MayTurns, Turn, WasShipped, after_turn, after_turns, beginning, shipped_by}
@@ -189,6 +189,17 @@ module _ (roster : List (List ℕ × ℕ)) where
         ∙ kept_append (empty_at i) (lines_all i hs) (lines_all i ks)
         ∙ ap (λ s. journal_of roster i hs ++ kept_lines roster s (lines_all i ks)) (sym (all_hold hs beginning))
 
+    -- what the site holds once more has happened
+    pub held_more : (hs ks : List Happening) → held (hs ++ ks) ≡ after_lines roster (held hs) (lines_all i ks)
+    held_more hs ks =
+        all_hold (hs ++ ks) beginning
+        ∙ ap (after_lines roster (empty_at i)) (lines_more hs ks)
+        ∙ lines_append (empty_at i) (lines_all i hs) (lines_all i ks)
+        ∙ ap (λ s. after_lines roster s (lines_all i ks)) (sym (all_hold hs beginning))
+
+    pub lines_stand : (lines : List (List ℕ)) → lines_all i (cut i lines true ∷ []) ≡ lines
+    lines_stand lines = ap (λ b. lines_if b lines ++ []) (eq-eqb i i refl) ∙ append-nil lines
+
     -- the replay of what was kept is what its lines have left
     pub opened_holds : (hs : List Happening) → after_lines roster (empty_at i) (journal_of roster i hs) ≡ held hs
     opened_holds hs = replayed roster (empty_at i) (lines_all i hs) ∙ sym (all_hold hs beginning)
@@ -198,8 +209,7 @@ module _ (roster : List (List ℕ × ℕ)) where
         → (stand : Bool) × (entries ≡ journal_of roster i (hs ++ cut i lines stand ∷ []))
     journal_cut hs lines entries (inl e) = (false, e ∙ sym (append-nil (journal_of roster i hs)) ∙ sym (journal_more hs (cut i lines false ∷ [])))
     journal_cut hs lines entries (inr e) =
-        let here : lines ≡ lines_all i (cut i lines true ∷ []) = sym (append-nil lines) ∙ sym (ap (λ b. lines_if b lines ++ []) (eq-eqb i i refl)) in
-        (true, e ∙ ap (λ l. journal_of roster i hs ++ kept_lines roster (held hs) l) here ∙ sym (journal_more hs (cut i lines true ∷ [])))
+        (true, e ∙ ap (λ l. journal_of roster i hs ++ kept_lines roster (held hs) l) (sym (lines_stand lines)) ∙ sym (journal_more hs (cut i lines true ∷ [])))
 
 -- ---- answered lines of a site
 pub lines_answered : (i : ℕ) (ts : List Turn) → All (λ t. t.site ≡ i) ts → lines_all i (map answered ts) ≡ map (λ t. t.line) ts

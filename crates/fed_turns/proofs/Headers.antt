@@ -1,5 +1,5 @@
 -- What the header of a home names is a roster.
-use Rattle.std.specs.Prelude.{codes, Option, Some, None, option_and_then, option_map, ◌&&◌, if◌then◌else◌}
+use Rattle.std.specs.Prelude.{codes, Option, Some, None, option_and_then, option_map, if◌then◌else◌}
 use Rattle.std.specs.List.{list_any}
 use Rattle.std.specs.Result.{result_ok}
 use Rattle.std.specs.Str.{bytes_eq}
@@ -11,8 +11,9 @@ use Rattle.fed_words.specs.Site.{site_named}
 use Rattle.fed_script.specs.Forms.{◌>>=◌}
 use Rattle.fed_script.specs.Line.{words_in}
 use Rattle.fed_script.specs.Rosters.{is_reserved, roster_of, sites_in}
+use Rattle.fed_home.specs.declared.headers.Format.{Format}
 use Rattle.fed_home.specs.declared.headers.Header.{Header}
-use Rattle.fed_home.specs.Header.{header_in, header_of, site_among}
+use Rattle.fed_home.specs.Header.{format_of, header_in, header_of, site_among}
 
 -- ---- rosters that are read
 faultless : (sites roster : List (List ℕ × ℕ)) (f : Option RosterFault) → first_fault sites ≡ f → result_ok (ok_unless f sites) ≡ Some roster → IsRoster roster
@@ -33,25 +34,31 @@ some_same : (x y : Header) → Some x ≡ Some y → x ≡ y
 some_same x y e = cc
 
 module _ (name : List ℕ) (h : Header) where
-  found_roster : (roster : List (List ℕ × ℕ)) → IsRoster roster → (found : Option ℕ) → option_map (λ site. record { roster = roster; site = site }) found ≡ Some h → IsRoster h.roster
-  found_roster roster lawful None e = cc
-  found_roster roster lawful (Some i) e =
-      let made : Header = record { roster = roster; site = i } in
-      subst (λ (x : Header). IsRoster x.roster) (some_same made h e) lawful
+  module _ (format : Format) where
+    found_roster : (roster : List (List ℕ × ℕ)) → IsRoster roster → (found : Option ℕ) → option_map (λ site. record { roster = roster; site = site; format = format }) found ≡ Some h → IsRoster h.roster
+    found_roster roster lawful None e = cc
+    found_roster roster lawful (Some i) e =
+        let made : Header = record { roster = roster; site = i; format = format } in
+        subst (λ (x : Header). IsRoster x.roster) (some_same made h e) lawful
 
-  among_roster : (words : List (List ℕ)) (o : Option (List (List ℕ × ℕ))) → roster_of words ≡ o → (o >>= λ roster. option_map (λ site. record { roster = roster; site = site }) (site_named roster name)) ≡ Some h → IsRoster h.roster
-  among_roster words None is e = cc
-  among_roster words (Some roster) is e = found_roster roster (named roster (sites_in words) is) (site_named roster name) e
+    among_roster : (words : List (List ℕ)) (o : Option (List (List ℕ × ℕ))) → roster_of words ≡ o
+        → (o >>= λ roster. option_map (λ site. record { roster = roster; site = site; format = format }) (site_named roster name)) ≡ Some h → IsRoster h.roster
+    among_roster words None is e = cc
+    among_roster words (Some roster) is e = found_roster roster (named roster (sites_in words) is) (site_named roster name) e
 
-  tested_roster : (test : Bool) (words : List (List ℕ)) → (if test then site_among name words else None) ≡ Some h → IsRoster h.roster
-  tested_roster true words e = among_roster words (roster_of words) refl e
-  tested_roster false words e = cc
+  format_roster : (o : Option Format) (words : List (List ℕ)) → (o >>= λ format. site_among format name words) ≡ Some h → IsRoster h.roster
+  format_roster None words e = cc
+  format_roster (Some format) words e = among_roster format words (roster_of words) refl e
+
+  tested_roster : (test : Bool) (version : List ℕ) (words : List (List ℕ)) → (if test then (format_of version >>= λ format. site_among format name words) else None) ≡ Some h → IsRoster h.roster
+  tested_roster true version words e = format_roster (format_of version) words e
+  tested_roster false version words e = cc
 
 words_roster : (words : List (List ℕ)) (h : Header) → header_of words ≡ Some h → IsRoster h.roster
 words_roster [] h e = cc
-words_roster (format ∷ []) h e = cc
-words_roster (format ∷ version ∷ []) h e = cc
-words_roster (format ∷ version ∷ name ∷ sites) h e = tested_roster name h (bytes_eq format (codes "nettlebeam") && bytes_eq version (codes "1")) sites e
+words_roster (program ∷ []) h e = cc
+words_roster (program ∷ version ∷ []) h e = cc
+words_roster (program ∷ version ∷ name ∷ sites) h e = tested_roster name h (bytes_eq program (codes "nettlebeam")) version sites e
 
 read_roster : (words : Option (List (List ℕ))) (h : Header) → (words >>= header_of) ≡ Some h → IsRoster h.roster
 read_roster None h e = cc

@@ -1,24 +1,29 @@
 -- Homes go on as what happens does.
-use Rattle.std.specs.Prelude.{Some, None, Option, option_map, Ok, map}
-use Rattle.std.proofs.Common.{◌≡◌, ◌≢◌, ◌<◌, ◌==◌, ℕ, List, [], ◌∷◌, ◌++◌, All, Bool, true, false, length, append-nil, refl, sym, subst, ap, ◌∙◌, inl, inr}
+use Rattle.std.specs.Prelude.{Some, None, Option, Ok, map}
+use Rattle.std.proofs.Common.{◌≡◌, ◌≢◌, ◌<◌, ◌==◌, ℕ, List, [], ◌∷◌, ◌++◌, All, Bool, true, false, length, refl, sym, subst, ap, ◌∙◌, inl, inr}
 use Rattle.std.proofs.lemmas.Bool.{cases_Bool, eqb-true}
 use Rattle.std.proofs.lemmas.List.Elements.{All-cons, All-head, All-nil, All-tail, All-weaker}
-use Rattle.fed_replica.specs.State.{State}
+use Rattle.fed_replica.specs.State.{State, empty_at}
+use Rattle.fed_script.specs.Forms.{◌>>=◌}
 use Rattle.fed_theory.proofs.Runs.{put_same}
 use Rattle.fed_site.specs.Answered.{bytes_of}
 use Rattle.fed_site.specs.declared.site.Answered.{Answered}
-use Rattle.fed_site.specs.Journal.{kept_lines}
+use Rattle.fed_site.specs.Journal.{after_lines, kept_lines}
 use Rattle.fed_site.specs.Says.{Said, site_says}
 use Rattle.fed_journal.specs.Journal.{IsBeforeOrAfter, entries_in, entries_of}
 use Rattle.fed_journal.specs.Lines.{recovered}
+use Rattle.fed_home.specs.declared.headers.Format.{Format}
+use Rattle.fed_home.specs.declared.headers.Format.TheVariants.{One, Two}
 use Rattle.fed_home.specs.declared.headers.Header.{Header}
 use Rattle.fed_home.specs.Header.{header_in}
-use Rattle.fed_home.specs.Replay.{AreReplies, Replayed, replay, site_after}
+use Rattle.fed_home.specs.Replay.{AreReplies, Replayed, begun, begun_by, replay}
 use Rattle.fed_home.proofs.HeaderLines.{header_site}
-use Rattle.fed_turns.specs.Crash.{Happening, answered, cut, MayAllHappen, MayHappen, journal_of, lines_all, lines_at, lines_if, turns_from, turns_of}
+use Rattle.fed_home.proofs.Replays.{replayed_more}
+use Rattle.fed_turns.specs.Crash.{Happening, answered, cut, MayAllHappen, lines_all, lines_at, lines_if, turns_from, turns_of}
 use Rattle.fed_turns.specs.Home.{IsHomeOf, happens_at, turns_at}
 use Rattle.fed_turns.specs.Turn.{AreCarried, Course, IsCarried, MayTurns, Turn, after_turn, after_turns, beginning, shipped_by}
-use Rattle.fed_turns.proofs.Crashes.{after_append, journal_cut, journal_more, lines_answered, opened_holds, parted, still}
+use Rattle.fed_turns.proofs.Crashes.{after_append, held_more, lines_answered, lines_stand, parted, still}
+use Rattle.fed_turns.proofs.Headers.{header_roster}
 
 some_same : (x y : Replayed) → Some x ≡ Some y → x ≡ y
 some_same x y e = cc
@@ -79,21 +84,22 @@ module _ (roster : List (List ℕ × ℕ)) where
       abbrev now_at : Replayed
       now_at = record { roster = roster; state = c.site i }
 
-      pub home_replay : (file : List ℕ) → IsHomeOf roster i hs file → replay (entries_in file) ≡ Some now_at
-      home_replay file h =
-          ap (λ r. replay (entries_of r)) h.2
-          ∙ ap (option_map (site_after (journal_of roster i hs))) h.1
-          ∙ ap (λ (s : State). Some (record { roster = roster; state = s })) (opened_holds roster i hs)
-
       now_is : (file : List ℕ) (now : Replayed) → IsHomeOf roster i hs file → replay (entries_in file) ≡ Some now → now_at ≡ now
-      now_is file now h e = some_same now_at now (sym (home_replay file h) ∙ e)
+      now_is file now h e = some_same now_at now (sym h.2 ∙ e)
 
-      -- entries behind those of a home
-      more_entries : (old : List ℕ) (h : IsHomeOf roster i hs old) (ks : List Happening) (lines : List (List ℕ)) → lines_all i ks ≡ lines → entries_in old ++ kept_lines roster (c.site i) lines ≡ h.0 ∷ journal_of roster i (hs ++ ks)
-      more_entries old h ks lines e =
-          ap (λ r. entries_of r ++ kept_lines roster (c.site i) lines) h.2
-          ∙ ap (λ l. h.0 ∷ (journal_of roster i hs ++ kept_lines roster (c.site i) l)) (sym e)
-          ∙ ap (λ l. h.0 ∷ l) (sym (journal_more roster i hs ks))
+      -- a file that stands for the site once more has happened
+      more_home : (old file : List ℕ) (h : IsHomeOf roster i hs old) (ks : List Happening) (lines : List (List ℕ)) → lines_all i ks ≡ lines
+          → replay (entries_in file) ≡ Some (record { roster = roster; state = after_lines roster (c.site i) lines }) → IsHomeOf roster i (hs ++ ks) file
+      more_home old file h ks lines is e = (
+        h.0,
+        h.1,
+        e ∙ ap (λ (s : State). Some (record { roster = roster; state = s })) (sym (held_more roster i hs ks ∙ ap (after_lines roster (c.site i)) is)),
+      )
+
+      -- and one that has what the site keeps of lines behind the entries of another
+      added_stands : (old file : List ℕ) (lines : List (List ℕ)) → IsHomeOf roster i hs old → recovered file ≡ Ok (entries_in old ++ kept_lines roster (c.site i) lines)
+          → replay (entries_in file) ≡ Some (record { roster = roster; state = after_lines roster (c.site i) lines })
+      added_stands old file lines h added = ap (λ r. replay (entries_of r)) added ∙ replayed_more (entries_in old) now_at lines h.2
 
       -- ---- lines are answered
       pub home_answered : (old new : List ℕ) (now : Replayed) (lines : List (List ℕ)) (answers : List Answered) → MayAllHappen roster beginning hs → IsHomeOf roster i hs old → replay (entries_in old) ≡ Some now
@@ -104,36 +110,24 @@ module _ (roster : List (List ℕ × ℕ)) where
           → MayAllHappen roster beginning (hs ++ map answered (turns_at i lines answers)) × IsHomeOf roster i (hs ++ map answered (turns_at i lines answers)) new)
           (now_is old now h e)
           (λ replies added carried.
-          let ts : List Turn = turns_at i lines answers in
-          let small = header_site h.0 (record { roster = roster; site = i }) h.1 in (
-            happen_append hs (map answered ts) beginning may (turns_happen ts c (replies_may small lines answers c replies carried)),
-            (h.0, h.1, added ∙ ap (λ l. Ok l) (more_entries old h (map answered ts) lines (lines_of (c.site i) lines answers replies))),
+          let ts : List Turn = turns_at i lines answers in (
+            happen_append hs (map answered ts) beginning may (turns_happen ts c (replies_may h.1 lines answers c replies carried)),
+            more_home old new h (map answered ts) lines (lines_of (c.site i) lines answers replies) (added_stands old new lines h added),
           ))
 
       -- ---- a crash
-      stand_may : (lines : List (List ℕ)) (stand : Bool) → i < length roster → AreCarried roster c.shipped (c.site i) lines → MayHappen roster c (cut i lines stand)
-      stand_may lines true small carried = record { site = small; carried = carried }
-      stand_may lines false small carried = tt
-
-      stands_home : (old file : List ℕ) (h : IsHomeOf roster i hs old) (lines entries : List (List ℕ)) → (stand : Bool) × (entries ≡ journal_of roster i (hs ++ cut i lines stand ∷ [])) → recovered file ≡ Ok (h.0 ∷ entries)
-          → MayAllHappen roster beginning hs → AreCarried roster c.shipped (c.site i) lines
-          → (stand : Bool) × MayAllHappen roster beginning (hs ++ cut i lines stand ∷ []) × IsHomeOf roster i (hs ++ cut i lines stand ∷ []) file
-      stands_home old file h lines entries told is may carried =
-          let small = header_site h.0 (record { roster = roster; site = i }) h.1 in (
-            told.0,
-            happen_append hs (cut i lines told.0 ∷ []) beginning may (stand_may lines told.0 small carried, tt),
-            (h.0, h.1, is ∙ ap (λ l. Ok (h.0 ∷ l)) told.1),
-          )
-
       left_home : (old file : List ℕ) (h : IsHomeOf roster i hs old) (lines : List (List ℕ)) → IsBeforeOrAfter (entries_in old) (kept_lines roster (c.site i) lines) file → MayAllHappen roster beginning hs
           → AreCarried roster c.shipped (c.site i) lines → (stand : Bool) × MayAllHappen roster beginning (hs ++ cut i lines stand ∷ []) × IsHomeOf roster i (hs ++ cut i lines stand ∷ []) file
-      left_home old file h lines (inl e) may carried =
-          let journal = journal_of roster i hs in
-          stands_home old file h lines journal (journal_cut roster i hs lines journal (inl refl)) (e ∙ ap (λ r. Ok (entries_of r)) h.2) may carried
-      left_home old file h lines (inr e) may carried =
-          let group = kept_lines roster (c.site i) lines in
-          let journal = journal_of roster i hs ++ group in
-          stands_home old file h lines journal (journal_cut roster i hs lines journal (inr refl)) (e ∙ ap (λ r. Ok (entries_of r ++ group)) h.2) may carried
+      left_home old file h lines (inl e) may carried = (
+        false,
+        happen_append hs (cut i lines false ∷ []) beginning may (tt, tt),
+        more_home old file h (cut i lines false ∷ []) [] refl (ap (λ r. replay (entries_of r)) e ∙ h.2),
+      )
+      left_home old file h lines (inr e) may carried = (
+        true,
+        happen_append hs (cut i lines true ∷ []) beginning may (record { site = h.1; carried = carried }, tt),
+        more_home old file h (cut i lines true ∷ []) lines (lines_stand roster i lines) (added_stands old file lines h e),
+      )
 
       pub home_crashed : (old file : List ℕ) (now : Replayed) (lines : List (List ℕ)) → MayAllHappen roster beginning hs → IsHomeOf roster i hs old → replay (entries_in old) ≡ Some now
           → IsBeforeOrAfter (entries_in old) (kept_lines now.roster now.state lines) file → AreCarried roster c.shipped now.state lines
@@ -145,8 +139,7 @@ module _ (roster : List (List ℕ × ℕ)) where
 
       -- ---- what happens elsewhere
       pub home_of_other : (later : List Happening) (file : List ℕ) → All (λ h. happens_at h ≢ i) later → IsHomeOf roster i hs file → IsHomeOf roster i (hs ++ later) file
-      home_of_other later file away h =
-          (h.0, h.1, h.2 ∙ ap (λ l. Ok (h.0 ∷ l)) (sym (journal_more roster i hs later ∙ ap (λ l. journal_of roster i hs ++ kept_lines roster (c.site i) l) (none_there later away) ∙ append-nil (journal_of roster i hs))))
+      home_of_other later file away h = more_home file file h later [] (none_there later away) h.2
         where
           none_if : (site : ℕ) (lines : List (List ℕ)) → site ≢ i → lines_if (site == i) lines ≡ []
           none_if site lines apart = elim (cases_Bool (site == i)) [
@@ -166,11 +159,20 @@ module _ (roster : List (List ℕ × ℕ)) where
               ap (λ l. l ++ lines_all i ks) here ∙ none_there ks (All-tail (λ (x : Happening). happens_at x ≢ i) k ks all)
 
 -- ---- a new home
+new_home : (header : List ℕ) (file : List ℕ) (h : Header) (now : Replayed) → header_in header ≡ Some h → begun h.format h.roster h.site [] ≡ Some now → replay (entries_in file) ≡ Some now → (i : ℕ) × IsHomeOf now.roster i [] file
+new_home header file h now is begins e = go h.format refl begins
+  where
+    go : (format : Format) → h.format ≡ format → begun format h.roster h.site [] ≡ Some now → (i : ℕ) × IsHomeOf now.roster i [] file
+    go Two f b = cc
+    go One f b =
+        let made : Replayed = record { roster = h.roster; state = empty_at h.site } in
+        let same : made ≡ now = some_same made now b in
+        subst (λ (x : Replayed). (i : ℕ) × IsHomeOf x.roster i [] file) same
+        (h.site, (header_roster header h is, header_site header h is, e ∙ ap Some (sym same)))
+
 pub home_made : (header file : List ℕ) (now : Replayed) → replay (entries_in file) ≡ Some now → recovered file ≡ Ok (header ∷ []) → (i : ℕ) × IsHomeOf now.roster i [] file
 home_made header file now e r = go (header_in header) refl (sym (ap (λ x. replay (entries_of x)) r) ∙ e)
   where
-    go : (o : Option Header) → header_in header ≡ o → option_map (site_after []) o ≡ Some now → (i : ℕ) × IsHomeOf now.roster i [] file
+    go : (o : Option Header) → header_in header ≡ o → (o >>= begun_by []) ≡ Some now → (i : ℕ) × IsHomeOf now.roster i [] file
     go None is f = cc
-    go (Some h) is f =
-        let same : h.roster ≡ now.roster = ap (λ (x : Replayed). x.roster) (some_same (site_after [] h) now f) in
-        (h.site, (header, is ∙ ap (λ roster. Some (record { roster = roster; site = h.site })) same, r))
+    go (Some h) is f = new_home header file h now is f e

@@ -12,3 +12,4 @@ pub mod Answered
 pub mod Headers
 pub mod Homes
 pub mod BeginLines
+pub mod Knowing

@@ -20,7 +20,7 @@ use Rattle.fed_model.specs.Packet.{Packet, shipped}
 use Rattle.fed_world.specs.Kept.{IsTextOf}
 use Rattle.fed_model.specs.Run.{World}
 use Rattle.fed_theory.proofs.HeardLaws.{met_below}
-use Rattle.fed_answers.specs.Outcome.{answer_line}
+use Rattle.fed_qstat.specs.Outcome.{answer_line}
 use Rattle.fed_site.specs.Says.{IsReply, PacketFor}
 use Rattle.fed_turns.specs.Run.{AreShipments, IsShipment, is_read_in, is_same_reading, state_at, text_of}
 use Rattle.fed_turns.proofs.Reached.{Reached, counters, good, lawful, within}

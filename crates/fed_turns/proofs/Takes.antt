@@ -30,7 +30,7 @@ use Rattle.fed_model.specs.Run.{World, receives, takes}
 use Rattle.fed_theory.proofs.Cuts.{cuts_kin}
 use Rattle.fed_theory.proofs.Runs.{IsSent, put_same}
 use Rattle.fed_theory.proofs.RunSteps.{receives_others}
-use Rattle.fed_answers.specs.Outcome.{answer_line, outcome_text}
+use Rattle.fed_qstat.specs.Outcome.{answer_line, outcome_text}
 use Rattle.fed_site.specs.Packets.{is_foreign, is_forgotten}
 use Rattle.fed_site.specs.Says.{Done, after_reading, after_receipt}
 use Rattle.fed_site.specs.declared.complaints.Complaint.{Complaint}
@@ -40,7 +40,7 @@ use Rattle.fed_turns.proofs.Acts.{IsStepped}
 use Rattle.fed_turns.proofs.Reached.{Reached, good, lawful, of_sites}
 
 -- from a place on no counter is above 0
-none_told : (v : List ℕ) (n : ℕ) → ((i : ℕ) → n ≤ i → counter_of v i ≡ 0) → list_any (λ counter. nat_lt 0 counter) (drop n v) ≡ false
+pub none_told : (v : List ℕ) (n : ℕ) → ((i : ℕ) → n ≤ i → counter_of v i ≡ 0) → list_any (λ counter. nat_lt 0 counter) (drop n v) ≡ false
 none_told [] zero zeros = refl
 none_told [] (suc n) zeros = refl
 none_told (x ∷ v) zero zeros =

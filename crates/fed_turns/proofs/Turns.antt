@@ -19,9 +19,9 @@ use Rattle.fed_model.specs.RangedEvents.{AreRanged, IsRangedEvent}
 use Rattle.fed_model.specs.Run.{World, Step, run_from, outcomes_from, ships as ships_in, step, takes}
 use Rattle.fed_theory.proofs.RunSteps.{put_other, ship_here, take_here}
 use Rattle.fed_theory.proofs.Runs.{packet_Has, put_same, run-append}
-use Rattle.fed_answers.specs.Listed.{listed}
-use Rattle.fed_answers.specs.Outcome.{answer_line, outcome_text, usage_line}
-use Rattle.fed_answers.specs.Planned.{plan_if_any, plan_or_none}
+use Rattle.fed_qstat.specs.Listed.{listed}
+use Rattle.fed_qstat.specs.Outcome.{answer_line, outcome_text, usage_line}
+use Rattle.fed_qstat.specs.Planned.{plan_if_any, plan_or_none}
 use Rattle.fed_looks.specs.Look.{Look}
 use Rattle.fed_looks.specs.LookLine.{look_in_line}
 use Rattle.fed_looks.specs.LookText.{look_text}

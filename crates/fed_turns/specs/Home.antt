@@ -1,17 +1,20 @@
 -- Homes: the journals' files of sites on a disk, by what happened at all sites.
-use Rattle.std.specs.Prelude.{◌≡◌, ℕ, List, [], ◌∷◌, Some, Ok}
+use Rattle.std.specs.Prelude.{◌≡◌, ◌<◌, ℕ, List, [], ◌∷◌, length, Some}
+use Rattle.fed_stamp.specs.Roster.{IsRoster}
 use Rattle.fed_site.specs.Answered.{bytes_of}
 use Rattle.fed_site.specs.declared.site.Answered.{Answered}
-use Rattle.fed_journal.specs.Lines.{recovered}
-use Rattle.fed_home.specs.Header.{header_in}
-use Rattle.fed_turns.specs.Turn.{Turn}
-use Rattle.fed_turns.specs.Crash.{Happening, answered, cut, journal_of}
+use Rattle.fed_journal.specs.Journal.{entries_in}
+use Rattle.fed_home.specs.Replay.{replay}
+use Rattle.fed_turns.specs.Turn.{Turn, after_turns, beginning}
+use Rattle.fed_turns.specs.Crash.{Happening, answered, cut, turns_from}
 
--- the file's first entry names the roster and the site, and the others are what the site keeps of what happened
+-- the file's entries stand for this site of the roster, as what happened has left it
 abbrev pub IsHomeOf : List (List ℕ × ℕ) → ℕ → List Happening → List ℕ → Type 0
-IsHomeOf roster i happenings file = (header : List ℕ)
-    × (header_in header ≡ Some (record { roster = roster; site = i }))
-    × (recovered file ≡ Ok (header ∷ journal_of roster i happenings))
+IsHomeOf roster i happenings file = IsRoster roster × (i < length roster)
+    × (replay (entries_in file) ≡ Some (record {
+      roster = roster;
+      state = (after_turns roster beginning (turns_from roster beginning happenings)).site i;
+    }))
 
 -- lines of a site, each with the bytes that answered it
 abbrev pub turns_at : ℕ → List (List ℕ) → List Answered → List Turn

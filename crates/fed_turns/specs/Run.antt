@@ -13,9 +13,9 @@ use Rattle.fed_model.specs.declared.events.Event.TheVariants.{Do, Ship, Take}
 use Rattle.fed_model.specs.declared.outcomes.Outcome.{Outcome}
 use Rattle.fed_world.specs.Kept.{IsTextOf}
 use Rattle.fed_model.specs.Run.{World, run_from, outcomes_from}
-use Rattle.fed_answers.specs.Listed.{listed}
-use Rattle.fed_answers.specs.Outcome.{answer_line, outcome_text, usage_line}
-use Rattle.fed_answers.specs.Planned.{plan_text}
+use Rattle.fed_qstat.specs.Listed.{listed}
+use Rattle.fed_qstat.specs.Outcome.{answer_line, outcome_text, usage_line}
+use Rattle.fed_qstat.specs.Planned.{plan_text}
 use Rattle.fed_looks.specs.Look.{Look}
 use Rattle.fed_looks.specs.LookLine.{look_in_line}
 use Rattle.fed_looks.specs.LookText.{look_text}

@@ -4,7 +4,7 @@ use Rattle.fed_stamp.specs.Indexes.{put}
 use Rattle.fed_lattice.specs.Sets.{Has}
 use Rattle.fed_replica.specs.State.{State, empty_at}
 use Rattle.fed_wire.specs.Reading.{packet_in}
-use Rattle.fed_answers.specs.Outcome.{answer_line}
+use Rattle.fed_qstat.specs.Outcome.{answer_line}
 use Rattle.fed_site.specs.Journal.{kept_lines}
 use Rattle.fed_site.specs.Line.{packet_text}
 use Rattle.fed_site.specs.Says.{Reply, Text, PacketFor, IsReply, Said, site_says}

@@ -7,11 +7,13 @@ ghost use Rattle.fed_model.specs.declared.beginnings.Beginning.{Beginning};
 ghost use Rattle.fed_replica.specs.State.{empty_at};
 ghost use Rattle.fed_script.specs.Line.{Line, own_line_in, words_in};
 ghost use Rattle.fed_script.specs.Values.{identifier, moment};
-ghost use Rattle.fed_answers.specs.Outcome.{answer_line};
+ghost use Rattle.fed_qstat.specs.Outcome.{answer_line};
 ghost use Rattle.fed_model.specs.RangedEvents.{AreRanged};
 ghost use Rattle.fed_model.specs.Run.{run, start};
 ghost use Rattle.fed_site.specs.Journal.{after_lines, kept_lines};
+ghost use Rattle.fed_site.specs.Known.{known_in, unheard};
 ghost use Rattle.fed_site.specs.Line.{packet_text};
+ghost use Rattle.fed_site.specs.Packets.{IsPacketText};
 ghost use Rattle.fed_site.specs.declared.site.Answered.{Answered};
 ghost use Rattle.fed_journal.specs.Journal.{IsBeforeOrAfter, entries_in};
 ghost use Rattle.fed_journal.specs.Lines.{recovered};
@@ -90,6 +92,15 @@ pub fn crashes_leave_turns()
         ≡ state_at i ((run (length roster) (events_from roster beginning (turns_from roster beginning happenings))).site i) }
 {}
 
+/// What a site knows after such lines is read of its text again. So a journal that is compacted can begin with that text, in
+/// the place of all that has led to it.
+pub fn known_texts_are_read_again()
+    ensures { (roster : List (List ℕ × ℕ)) (turns : List Turn) (i : ℕ) (text : List ℕ) → IsRoster roster →
+        MayTurns roster beginning turns → i < length roster →
+        IsPacketText (unheard ((after_turns roster beginning turns).site i)) 0 text →
+        known_in roster i text ≡ Some (unheard ((after_turns roster beginning turns).site i)) }
+{}
+
 /// What happens adds to a site's journal what is kept of its lines there, by what the site held (`added`), of a group of
 /// lines that were answered as of all of them (`answered`). Where a crash left the journal as it was, or with all that is
 /// kept of a group, that is what happened (`crashed`).
@@ -110,8 +121,11 @@ pub fn journals_go_on()
 /// nothing has happened (`made`). The site that its entries stand for is that of the run of what has happened (`opened`). Lines
 /// that `Home::answer` answers are what happens next (`answered`), and what a crash leaves at any moment of that call is a home
 /// too, where these lines stand or are cut (`crashed`). A file that stands for the same entries is the same home, as after
-/// `Home::open` and `Home::repair` (`same`), and so is that of a site where nothing of what happens next is (`others`). The
-/// premises of `made`, `answered` and `crashed` are what the contracts of these calls ensure, and that texts were carried.
+/// `Home::open` and `Home::repair` (`same`), and so is that of a site where nothing of what happens next is (`others`). To
+/// compact a journal is no happening: a file whose entries stand for the same site is the same home, as what `Home::compact`
+/// leaves, and what a crash leaves at any moment of that call (`compacted`). So all these laws hold with compactions between any
+/// two lines. The premises of `made`, `answered`, `crashed` and `compacted` are what the contracts of these calls ensure, and
+/// that texts were carried.
 pub fn homes_go_on()
     ensures named { (roster : List (List ℕ × ℕ)) (i : ℕ) (happenings : List Happening) (file : List ℕ) →
         IsHomeOf roster i happenings file → IsRoster roster × (i < length roster) }
@@ -143,6 +157,9 @@ pub fn homes_go_on()
     ensures others { (roster : List (List ℕ × ℕ)) (i : ℕ) (happenings later : List Happening) (file : List ℕ) →
         All (λ h. happens_at h ≢ i) later → IsHomeOf roster i happenings file →
         IsHomeOf roster i (happenings ++ later) file }
+    ensures compacted { (roster : List (List ℕ × ℕ)) (i : ℕ) (happenings : List Happening) (old new : List ℕ) (now : Replayed) →
+        replay (entries_in old) ≡ Some now → replay (entries_in new) ≡ Some now →
+        IsHomeOf roster i happenings old → IsHomeOf roster i happenings new }
 {}
 
 /// What a line says at a site by itself: it asks that site, for what is in range, or ships from it to a site of the roster.

@@ -42,6 +42,13 @@ impl Packet {
     {
         &self.delta
     }
+
+    /// What it tells, without who tells it.
+    pub fn into_delta(self) -> Delta
+        ensures { result ≡ self.delta }
+    {
+        self.delta
+    }
 }
 
 /// Packets are equal exactly where they are identical: where their senders and their deltas are.

@@ -31,12 +31,19 @@ init = with_rule (with_rule (with_directory (codes "init")) (required (codes "SI
 abbrev pub at : App
 at = with_rule (with_directory (codes "at")) line
 
--- words are asked for
-abbrev pub words : Rule
-words = record (new_rule (codes "words")) { long = Some (codes "words"); action = Some SetTrue }
+-- an option without a value
+abbrev pub flag : Text → Rule
+flag name = record (new_rule name) { long = Some name; action = Some SetTrue }
 
 abbrev pub serve : App
-serve = with_rule (with_directory (codes "serve")) words
+serve = with_rule (with_rule (with_directory (codes "serve")) (flag (codes "words"))) (flag (codes "keep-history"))
+
+-- the option that names a file
+abbrev pub keep : Rule
+keep = record (new_rule (codes "FILE")) { long = Some (codes "keep") }
+
+abbrev pub compact : App
+compact = with_rule (with_directory (codes "compact")) keep
 
 abbrev pub bare : App
 bare = record (new_app (codes "nettlebeam")) {
@@ -45,14 +52,15 @@ bare = record (new_app (codes "nettlebeam")) {
 
 -- the program's commands
 abbrev pub program : App
-program = with_subcommand (with_subcommand (with_subcommand (with_subcommand bare init.top) at.top) serve.top)
+program = with_subcommand (with_subcommand (with_subcommand (with_subcommand (with_subcommand bare init.top) at.top) serve.top) compact.top)
     (with_directory (codes "check")).top
 
 -- what the program is asked to do with a directory
 pub data TaskValue : Type 0 where
   Makes : (site : Text) → (sites : List Text) → TaskValue
   Answers : (words : List Text) → TaskValue
-  Serves : (words : Bool) → TaskValue
+  Serves : (words keeps_history : Bool) → TaskValue
+  Compacts : (kept : Option Text) → TaskValue
   Checks : TaskValue
 
 pub record AskedValue : Type 0 where
@@ -67,10 +75,15 @@ values_in id rows = unwrap_or (all_of id rows) []
 abbrev pub value_in : Text → List Row → Text
 value_in id rows = unwrap_or (first_of id rows) []
 
+-- whether an option without a value stands there
+abbrev pub is_set : Text → List Row → Bool
+is_set id rows = bytes_eq (value_in id rows) (codes "true")
+
 abbrev pub task_in : Text → List Row → TaskValue
 task_in name rows = if bytes_eq name (codes "init") then Makes (value_in (codes "SITE") rows) (values_in (codes "NAME:NODES") rows)
     else (if bytes_eq name (codes "at") then Answers (values_in (codes "WORD") rows)
-    else (if bytes_eq name (codes "serve") then Serves (bytes_eq (value_in (codes "words") rows) (codes "true")) else Checks))
+    else (if bytes_eq name (codes "serve") then Serves (is_set (codes "words") rows) (is_set (codes "keep-history") rows)
+    else (if bytes_eq name (codes "compact") then Compacts (first_of (codes "FILE") rows) else Checks)))
 
 -- what the command of this name is asked by its arguments
 abbrev pub asked_in : Text × List Row → AskedValue

@@ -1,14 +1,15 @@
 -- What the code is asked.
-use Rattle.std.specs.Prelude.{map}
-use Rattle.nettlebeam.specs.CommandLine.{AskedValue, TaskValue, Makes, Answers, Serves, Checks}
+use Rattle.std.specs.Prelude.{map, option_map}
+use Rattle.nettlebeam.specs.CommandLine.{AskedValue, TaskValue, Makes, Answers, Serves, Compacts, Checks}
 use Rattle.nettlebeam.specs.declared.command_line.Asked.{Asked}
 use Rattle.nettlebeam.specs.declared.command_line.Task.{Task}
-use Rattle.nettlebeam.specs.declared.command_line.Task.TheVariants.{Init, At, Serve, Check}
+use Rattle.nettlebeam.specs.declared.command_line.Task.TheVariants.{Init, At, Serve, Compact, Check}
 
 abbrev pub task_of : Task → TaskValue
 task_of (Init site sites) = Makes site.now (map (λ w. w.now) sites.items)
 task_of (At words) = Answers (map (λ w. w.now) words.items)
-task_of (Serve words) = Serves words
+task_of (Serve words keeps_history) = Serves words keeps_history
+task_of (Compact kept) = Compacts (option_map (λ name. name.now) kept)
 task_of Check = Checks
 
 abbrev pub asked_of : Asked → AskedValue

@@ -1,7 +1,7 @@
 //! The program's own words.
-ghost use Rattle.std.specs.Prelude.{◌≡◌, ◌∷◌, [], ℕ, List, Some, IfErr, IfOk, OnOk, false, codes, map, string_bytes, true};
-ghost use Rattle.clap.specs.Words.{app_of, fault_of, found_of, kind_of, rows_of, rule_of, takes};
-ghost use Rattle.nettlebeam.specs.CommandLine.{Answers, Asks, Checks, Makes, Serves, asked_by as asked_by_words, asked_in, at as at_app, init as init_app, program, required as required_rule, rest as rest_rule, serve as serve_app, task_in, value_in, values_in, with_directory as app_with_directory, words as words_rule};
+ghost use Rattle.std.specs.Prelude.{◌≡◌, ◌∷◌, [], ℕ, List, None, Some, IfErr, IfOk, OnOk, false, codes, map, option_map, string_bytes, true};
+ghost use Rattle.clap.specs.Words.{app_of, fault_of, first_of, found_of, kind_of, rows_of, rule_of, takes};
+ghost use Rattle.nettlebeam.specs.CommandLine.{Answers, Asks, Checks, Compacts, Makes, Serves, asked_by as asked_by_words, asked_in, at as at_app, compact as compact_app, flag as flag_rule, init as init_app, keep as keep_rule, program, required as required_rule, rest as rest_rule, serve as serve_app, task_in, value_in, values_in, with_directory as app_with_directory};
 ghost use Rattle.nettlebeam.specs.CommandLineView.{asked_of, task_of};
 
 use clap::error::ErrorKind;
@@ -15,8 +15,11 @@ pub enum Task<'a> {
     Init { site: &'a str, sites: Vec<&'a str> },
     /// `at`: to answer the line of these words.
     At { words: Vec<&'a str> },
-    /// `serve`: to answer the lines of standard input, and to tell the words beside an answer where `--words` stands.
-    Serve { words: bool },
+    /// `serve`: to answer the lines of standard input, to tell the words beside an answer where `--words` stands, and never to
+    /// compact the journal where `--keep-history` does.
+    Serve { words: bool, keeps_history: bool },
+    /// `compact`: to compact its journal, and to keep the old one in a file of this name.
+    Compact { kept: Option<&'a str> },
     /// `check`: to tell what its journal has.
     Check,
 }
@@ -39,6 +42,13 @@ const SERVE: &str = "Answers each line of standard input, and an empty line behi
 
 const WORDS: &str =
     "Tells behind an answer, in a line that begins with #, what at tells on standard error";
+
+const KEEP_HISTORY: &str = "Never compacts the journal";
+
+const COMPACT: &str =
+    "Makes the journal begin with what the site has, where that is shorter than all that has led to it";
+
+const KEEP: &str = "Copies the journal first to this file, which may not be there yet";
 
 const SITES: &str = "Each site of the roster and its nodes, in the same order at all sites";
 
@@ -100,21 +110,37 @@ fn at<'a>(alloc: Global) -> Result<Command<'a>, AllocError>
     with_directory(alloc, "at", AT)?.arg(words)
 }
 
-/// The option that asks for words.
-fn words<'a>(alloc: Global) -> Arg<'a>
-    ensures rule { rule_of result ≡ words_rule }
+/// An option without a value.
+fn flag<'a>(alloc: Global, name: &'a str, help: &'a str) -> Arg<'a>
+    ensures rule { rule_of result ≡ flag_rule name.now }
     ensures local { result.global ≡ false }
 {
-    Arg::new(alloc, "words")
-        .long("words")
+    Arg::new(alloc, name)
+        .long(name)
         .action(ArgAction::SetTrue)
-        .help(WORDS)
+        .help(help)
 }
 
 fn serve<'a>(alloc: Global) -> Result<Command<'a>, AllocError>
     ensures { IfOk result (λ command. app_of command ≡ serve_app) }
 {
-    with_directory(alloc, "serve", SERVE)?.arg(words(alloc))
+    with_directory(alloc, "serve", SERVE)?
+        .arg(flag(alloc, "words", WORDS))?
+        .arg(flag(alloc, "keep-history", KEEP_HISTORY))
+}
+
+/// The option that names the file of the old journal.
+fn keep<'a>(alloc: Global) -> Arg<'a>
+    ensures rule { rule_of result ≡ keep_rule }
+    ensures local { result.global ≡ false }
+{
+    Arg::new(alloc, "FILE").long("keep").help(KEEP)
+}
+
+fn compact<'a>(alloc: Global) -> Result<Command<'a>, AllocError>
+    ensures { IfOk result (λ command. app_of command ≡ compact_app) }
+{
+    with_directory(alloc, "compact", COMPACT)?.arg(keep(alloc))
 }
 
 /// The program's command line.
@@ -128,6 +154,7 @@ fn command<'a>(alloc: Global) -> Result<Command<'a>, AllocError>
         .subcommand(init(alloc)?)?
         .subcommand(at(alloc)?)?
         .subcommand(serve(alloc)?)?
+        .subcommand(compact(alloc)?)?
         .subcommand(with_directory(alloc, "check", CHECK)?)
 }
 
@@ -151,6 +178,13 @@ fn value<'a>(matches: &ArgMatches<'a>, id: &str) -> &'a str
     }
 }
 
+/// The value of an argument, if it has one.
+fn given<'a>(matches: &ArgMatches<'a>, id: &str) -> Option<&'a str>
+    ensures { option_map (λ text. text.now) result ≡ first_of id.now (rows_of (found_of matches.now)) }
+{
+    matches.get_str(id)
+}
+
 /// What a command of this name is to do.
 fn task_by<'a>(alloc: Global, name: &str, found: &ArgMatches<'a>) -> Result<Task<'a>, AllocError>
     ensures { IfOk result (λ task. task_of task ≡ task_in name.now (rows_of (found_of found.now))) }
@@ -165,6 +199,10 @@ fn task_by<'a>(alloc: Global, name: &str, found: &ArgMatches<'a>) -> Result<Task
         }),
         "serve" => Ok(Task::Serve {
             words: value(found, "words") == "true",
+            keeps_history: value(found, "keep-history") == "true",
+        }),
+        "compact" => Ok(Task::Compact {
+            kept: given(found, "FILE"),
         }),
         _ => Ok(Task::Check),
     }
@@ -180,7 +218,7 @@ fn asked_by<'a>(alloc: Global, name: &str, found: &ArgMatches<'a>) -> Result<Ask
     })
 }
 
-/// Reads the program's words: its name, and then `init`, `at`, `serve` or `check` with its arguments. The error has the
+/// Reads the program's words: its name, and then `init`, `at`, `serve`, `compact` or `check` with its arguments. The error has the
 /// text to print, also where help or the version is asked for.
 pub fn read_command_line<'a>(alloc: Global, words: &'a [String]) -> Result<Asked<'a>, Error>
     ensures asked { IfOk result (λ asked. asked_by_words (map string_bytes words.now) ≡ Some (asked_of asked)) }
@@ -205,7 +243,11 @@ pub fn commands_are_taken()
         (record { directory = codes "d"; task = Makes (codes "a") (codes "a:8" ∷ codes "b:4" ∷ []) }) }
     ensures at { (name : List ℕ) → Asks name (codes "at" ∷ codes "d" ∷ codes "ann" ∷ codes "qdel" ∷ codes "-h" ∷ codes "--" ∷ codes "-1" ∷ [])
         (record { directory = codes "d"; task = Answers (codes "ann" ∷ codes "qdel" ∷ codes "-h" ∷ codes "--" ∷ codes "-1" ∷ []) }) }
-    ensures serve { (name : List ℕ) → Asks name (codes "serve" ∷ codes "d" ∷ []) (record { directory = codes "d"; task = Serves false }) }
-    ensures words { (name : List ℕ) → Asks name (codes "serve" ∷ codes "--words" ∷ codes "d" ∷ []) (record { directory = codes "d"; task = Serves true }) }
+    ensures serve { (name : List ℕ) → Asks name (codes "serve" ∷ codes "d" ∷ []) (record { directory = codes "d"; task = Serves false false }) }
+    ensures words { (name : List ℕ) → Asks name (codes "serve" ∷ codes "--words" ∷ codes "d" ∷ []) (record { directory = codes "d"; task = Serves true false }) }
+    ensures history { (name : List ℕ) → Asks name (codes "serve" ∷ codes "d" ∷ codes "--keep-history" ∷ codes "--words" ∷ []) (record { directory = codes "d"; task = Serves true true }) }
+    ensures compact { (name : List ℕ) → Asks name (codes "compact" ∷ codes "d" ∷ []) (record { directory = codes "d"; task = Compacts None }) }
+    ensures keep { (name : List ℕ) → Asks name (codes "compact" ∷ codes "--keep" ∷ codes "f" ∷ codes "d" ∷ [])
+        (record { directory = codes "d"; task = Compacts (Some (codes "f")) }) }
     ensures check { (name : List ℕ) → Asks name (codes "check" ∷ codes "d" ∷ []) (record { directory = codes "d"; task = Checks }) }
 {}

@@ -8,7 +8,8 @@ use crate::faults::Fault;
 use fed_home::Home;
 use fed_journal::{FileDevice, OpenFault, keep};
 use std::fs::{File, Files};
-use std::io::ErrorKind;
+use std::io::{self, ErrorKind};
+use std::path::Path;
 use std::thread;
 use std::time::{Clock, Duration};
 
@@ -26,11 +27,20 @@ const PAUSE_MILLISECONDS: u64 = 20;
 /// How many files of what was cut there may be.
 const CUTS: u32 = 1_000_000;
 
+/// Waits until the disk has the name of a file or directory.
+pub fn sync_parent(rt: &impl Files<File = File>, name: &str) -> io::Result<()> {
+    let parent = match Path::new(name).parent() {
+        Some(parent) if !parent.as_str().is_empty() => parent,
+        _ => Path::new("."),
+    };
+    File::open(rt, parent)?.sync_all()
+}
+
 /// The journal's file. Where another process has it, it is waited for, up to ten seconds.
-pub fn open_device(
-    rt: &(impl Files<File = File> + Clock + AllocGlobal),
+pub fn open_device<R: Files<File = File> + Clock + AllocGlobal + Clone + Drop>(
+    rt: &R,
     directory: &str,
-) -> Result<FileDevice, Fault>
+) -> Result<FileDevice<R>, Fault>
     ensures { IfOk result (λ device. LeavesJust (file_seen device) (file_may_leave device)) }
 {
     for _ in 0..TRIES {
@@ -44,8 +54,8 @@ pub fn open_device(
 }
 
 /// Keeps what is to be cut in the file of this number, and says so: not where the file has something.
-fn keep_in(
-    rt: &(impl Files<File = File> + AllocGlobal),
+fn keep_in<R: Files<File = File> + AllocGlobal + Clone + Drop>(
+    rt: &R,
     directory: &str,
     number: u32,
     cut: &[u8],
@@ -57,8 +67,8 @@ fn keep_in(
 
 /// Keeps what is to be cut in the first of the files `journal.cut-1`, `journal.cut-2` .. that isn't there, or is empty, and
 /// gives its number.
-fn keep_cut(
-    rt: &(impl Files<File = File> + AllocGlobal),
+fn keep_cut<R: Files<File = File> + AllocGlobal + Clone + Drop>(
+    rt: &R,
     directory: &str,
     cut: &[u8],
 ) -> Result<u32, Fault> {
@@ -71,10 +81,10 @@ fn keep_cut(
 }
 
 /// The site of a directory as its journal says, and what stands behind the journal's gate.
-pub fn find_home(
-    rt: &(impl Files<File = File> + Clock + AllocGlobal),
+pub fn find_home<R: Files<File = File> + Clock + AllocGlobal + Clone + Drop>(
+    rt: &R,
     directory: &str,
-) -> Result<(Home<FileDevice>, Vec<u8>), Fault>
+) -> Result<(Home<FileDevice<R>>, Vec<u8>), Fault>
     ensures { IfOk result (λ found. IsReplayed file_seen file_may_leave found.0 found.1.items) }
 {
     let device = open_device(rt, directory)?;
@@ -85,9 +95,9 @@ pub fn find_home(
 }
 
 /// Keeps what is to be cut, as of a group that a crash cut, in a file of its own, and says so on standard error.
-pub fn keep_tail(
+pub fn keep_tail<R: Files<File = File> + AllocGlobal + Clone + Drop>(
     streams: &impl Eprint,
-    rt: &(impl Files<File = File> + AllocGlobal),
+    rt: &R,
     directory: &str,
     cut: &[u8],
 ) -> Result<(), Fault> {
@@ -104,11 +114,11 @@ pub fn keep_tail(
 }
 
 /// The site of a directory, its journal at rest. What stood behind the journal's gate is kept in a file of its own first.
-pub fn open_home(
+pub fn open_home<R: Files<File = File> + Clock + AllocGlobal + Clone + Drop>(
     streams: &impl Eprint,
-    rt: &(impl Files<File = File> + Clock + AllocGlobal),
+    rt: &R,
     directory: &str,
-) -> Result<Home<FileDevice>, Fault>
+) -> Result<Home<FileDevice<R>>, Fault>
     ensures { IfOk result (λ home. IsOpen file_seen file_may_leave home) }
 {
     let (mut home, cut) = find_home(rt, directory)?;
@@ -119,11 +129,11 @@ pub fn open_home(
 
 /// The site of a directory, its journal at rest, where this process has just answered lines that they aren't kept. What
 /// stands behind the gate is of those lines: where there is no room to keep it, it is cut all the same.
-pub fn open_home_again(
+pub fn open_home_again<R: Files<File = File> + Clock + AllocGlobal + Clone + Drop>(
     streams: &impl Eprint,
-    rt: &(impl Files<File = File> + Clock + AllocGlobal),
+    rt: &R,
     directory: &str,
-) -> Result<Home<FileDevice>, Fault>
+) -> Result<Home<FileDevice<R>>, Fault>
     ensures { IfOk result (λ home. IsOpen file_seen file_may_leave home) }
 {
     let (mut home, cut) = find_home(rt, directory)?;

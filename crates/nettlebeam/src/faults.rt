@@ -24,6 +24,14 @@ pub enum Fault {
     Directory(io::Error),
     /// The site can't be opened, or can't answer.
     Home(HomeFault),
+    /// No second file can be made beside the journal, so that it isn't compacted.
+    NotCompacted(io::Error),
+    /// The disk failed as the compacted journal took the place of the old one: the file is the one or the other.
+    Replaced(io::Error),
+    /// The journal isn't compacted, since what would be written isn't read as what the site has.
+    Uncompactable,
+    /// The journal can't be copied to the file that is to keep it.
+    Kept(io::Error),
     /// Standard input can't be read.
     Input(io::Error),
     /// Standard output can't be written.
@@ -98,7 +106,7 @@ impl From<AllocError> for Fault {
     }
 }
 
-/// A fault that was met at a directory.
+/// A fault that was met at a directory, or at the file of an old journal.
 #[derive(Clone, Copy, Drop)]
 pub struct FaultAt<'a> {
     pub directory: &'a str,
@@ -121,6 +129,19 @@ impl Display for FaultAt<'_> {
             ),
             Fault::Directory(error) => write!(f, "{directory}: {error}"),
             Fault::Home(fault) => write_home_fault(f, directory, fault),
+            Fault::NotCompacted(error) => write!(
+                f,
+                "{directory}/journal: not compacted: {error}; nothing is changed"
+            ),
+            Fault::Replaced(error) => write!(
+                f,
+                "{directory}/journal: {error}; it is the old journal or the compacted one, and both stand for the same site"
+            ),
+            Fault::Uncompactable => write!(
+                f,
+                "{directory}/journal: not compacted: it wouldn't be read as what the site has; nothing is changed"
+            ),
+            Fault::Kept(error) => write!(f, "{directory}: {error}; nothing is changed"),
             Fault::Input(error) => write!(f, "standard input: {error}"),
             Fault::Output(error) => write!(f, "standard output: {error}; what was done is kept"),
         }
@@ -154,8 +175,12 @@ fn write_home_fault<W: fmt::Write>(
         ),
         HomeFault::UnreadHeader => write!(
             f,
-            "{directory}/journal, line 1: it doesn't name a site and its roster, as nettlebeam 1 does"
+            "{directory}/journal, line 1: it doesn't name a site and its roster, as nettlebeam 1 and nettlebeam 2 do"
         ),
         HomeFault::HasEntries => write!(f, "{directory}: a site is there already"),
+        HomeFault::UnreadKnown => write!(
+            f,
+            "{directory}/journal, line 2: damaged: it isn't what the site knew; nothing is changed: mend the line from a copy of the journal"
+        ),
     }
 }

@@ -3,6 +3,8 @@
 
 /// The program's own words.
 mod command_line;
+/// Compacting a site's journal.
+mod compacting;
 /// A site's directory: its journal, and the files of what was cut from it.
 mod directories;
 /// Why the program doesn't do what it is asked.
@@ -13,7 +15,7 @@ mod making;
 mod tasks;
 
 use clap::error::ErrorKind;
-use command_line::read_command_line;
+use command_line::{Asked, Task, read_command_line};
 use faults::{Fault, FaultAt};
 use std::fs::File;
 use std::process::ExitCode;
@@ -27,6 +29,14 @@ fn read_words(streams: &(impl Env + AllocGlobal)) -> io::Result<Vec<String>> {
     Ok(env::args(streams)?.collect(streams.alloc())?)
 }
 
+/// Where a fault was met: at the file that is to keep the old journal, or at the directory.
+fn place<'a>(asked: &Asked<'a>, fault: Fault) -> &'a str {
+    match (&asked.task, fault) {
+        (Task::Compact { kept: Some(name) }, Fault::Kept(_)) => name,
+        _ => asked.directory,
+    }
+}
+
 /// Does what the program's words ask, and gives the status.
 fn run<R: Files<File = File> + Clock + AllocGlobal + Clone + Drop>(
     streams: &(impl Input + Print + Eprint + AllocGlobal),
@@ -37,7 +47,7 @@ fn run<R: Files<File = File> + Clock + AllocGlobal + Clone + Drop>(
         Ok(asked) => match do_task(streams, rt, &asked) {
             Ok(status) => status,
             Err(fault) => {
-                let directory = asked.directory;
+                let directory = place(&asked, fault);
                 // the status tells the fault also where standard error takes nothing
                 let _ = eprintln!(streams; "nettlebeam: {}", FaultAt { directory, fault });
                 fault.status()

@@ -1,6 +1,6 @@
 //! Making the home of a site.
 
-use crate::directories::{CUT, JOURNAL, keep_tail};
+use crate::directories::{CUT, JOURNAL, keep_tail, sync_parent};
 use crate::faults::Fault;
 use fed_home::{Home, HomeFault, read_header};
 use fed_journal::{FileDevice, Journal};
@@ -9,7 +9,6 @@ use std::alloc::{AllocError, Global};
 use std::fs::{self, DirBuilder, File, Files};
 use std::io::{self, ErrorKind};
 use std::os::unix::fs::DirBuilderExt;
-use std::path::Path;
 
 /// Its owner alone may use the directory.
 const OWNER_ALONE: u32 = 0o700;
@@ -69,19 +68,10 @@ fn make_directory<R: Files + AllocGlobal + Clone + Drop>(
     }
 }
 
-/// Waits until the disk has the directory's name.
-fn sync_parent(rt: &impl Files<File = File>, directory: &str) -> io::Result<()> {
-    let parent = match Path::new(directory).parent() {
-        Some(parent) if !parent.as_str().is_empty() => parent,
-        _ => Path::new("."),
-    };
-    File::open(rt, parent)?.sync_all()
-}
-
 /// Keeps what stands behind the closed gate of a journal that has no entry, as of an `init` that was cut short.
-fn keep_found(
+fn keep_found<R: Files<File = File> + AllocGlobal + Clone + Drop>(
     streams: &impl Eprint,
-    rt: &(impl Files<File = File> + AllocGlobal),
+    rt: &R,
     directory: &str,
 ) -> Result<(), Fault> {
     let device = FileDevice::make(rt, directory, JOURNAL)?;

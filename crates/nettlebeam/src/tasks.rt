@@ -6,14 +6,14 @@ ghost use Rattle.fed_home.specs.Home.{IsOpen, IsReplayed};
 ghost use Rattle.nettlebeam.specs.Status.{answered_status as status_of};
 
 use crate::command_line::{Asked, Task};
+use crate::compacting::{GROWTH, LEAST_BYTES, compact, compact_long, tell_not_compacted};
 use crate::directories::{find_home, keep_tail, open_device, open_home, open_home_again};
 use crate::faults::{Fault, FaultAt};
 use crate::making::make_home;
-use fed_home::{Home, replay};
+use fed_home::{Format, Header, Home, HomeFault, read_header, replay};
 use fed_journal::{FileDevice, Journal};
-use fed_reasons::words_beside;
-use fed_serve::{MAX_TAKE_BYTES, ServeFault, heard, line_of_words, serve, take_line};
-use fed_site::{Answered, Complaint, Site};
+use fed_serve::{MAX_TAKE_BYTES, ServeFault, Served, heard, line_of_words, serve, take_line};
+use fed_site::{Answered, Complaint, Site, words_beside};
 use fed_stamp::{SITES, SiteId};
 use std::alloc::Global;
 use std::fs::{File, Files};
@@ -87,9 +87,9 @@ fn give_answer(
 }
 
 /// Answers one line by a site at rest.
-fn answer_line(
+fn answer_line<R: Files<File = File> + Clock + AllocGlobal + Clone + Drop>(
     streams: &(impl Print + Eprint + AllocGlobal),
-    home: &mut Home<FileDevice>,
+    home: &mut Home<FileDevice<R>>,
     line: &[u8],
 ) -> Result<u8, Fault>
     requires { IsOpen file_seen file_may_leave home.old }
@@ -103,9 +103,9 @@ fn answer_line(
 
 /// Answers one line where what a crash left behind the journal's gate can be kept nowhere, for this cause: a line that keeps
 /// nothing is answered all the same.
-fn look_at(
+fn look_at<R: Files<File = File> + Clock + AllocGlobal + Clone + Drop>(
     streams: &(impl Print + Eprint + AllocGlobal),
-    home: &mut Home<FileDevice>,
+    home: &mut Home<FileDevice<R>>,
     line: &[u8],
     fault: Fault,
 ) -> Result<u8, Fault>
@@ -121,9 +121,9 @@ fn look_at(
 }
 
 /// Answers the line of these words.
-fn answer_at(
+fn answer_at<R: Files<File = File> + Clock + AllocGlobal + Clone + Drop>(
     streams: &(impl Input + Print + Eprint + AllocGlobal),
-    rt: &(impl Files<File = File> + Clock + AllocGlobal),
+    rt: &R,
     directory: &str,
     words: &[&str],
 ) -> Result<u8, Fault> {
@@ -139,16 +139,27 @@ fn answer_at(
     }
 }
 
+/// Tells on standard error why lines are answered `not kept`.
+fn tell_not_kept(streams: &impl Eprint, directory: &str, fault: HomeFault) {
+    let cause = FaultAt {
+        directory,
+        fault: Fault::Home(fault),
+    };
+    let _ = eprintln!(streams; "nettlebeam: {cause}; they are answered `not kept`");
+}
+
 /// The bytes of answers that are written at once.
 const OUTPUT_BYTES: usize = 65_536;
 
 /// Answers the lines of standard input, with words behind the answers where these are asked for. Where lines can't be kept
-/// they are answered so, standard error says why, and the site is opened again and goes on.
-fn serve_input(
+/// they are answered so, standard error says why, and the site is opened again and goes on. A journal that has become long
+/// is compacted between two groups, unless its history is to be kept.
+fn serve_input<R: Files<File = File> + Clock + AllocGlobal + Clone + Drop>(
     streams: &(impl Input + Print + Eprint + AllocGlobal),
-    rt: &(impl Files<File = File> + Clock + AllocGlobal),
+    rt: &R,
     directory: &str,
     words: bool,
+    keeps_history: bool,
 ) -> Result<u8, Fault> {
     let alloc = rt.alloc();
     let mut home = open_home(streams, rt, directory)?;
@@ -157,23 +168,34 @@ fn serve_input(
         Fault::Output,
     )?;
     let mut begun = Vec::new(alloc);
+    let mut most_bytes = if keeps_history {
+        usize::MAX
+    } else {
+        LEAST_BYTES
+    };
     for _ in 0..u64::MAX {
-        match serve(
+        let end = serve(
             alloc,
             &mut home,
             &mut begun,
             &mut reader,
             &mut writer,
             words,
-        ) {
-            Ok(()) => return Ok(0),
-            Err(ServeFault::NotKept(fault)) => {
-                let cause = FaultAt {
-                    directory,
-                    fault: Fault::Home(fault),
-                };
-                let _ = eprintln!(streams; "nettlebeam: {cause}; they are answered `not kept`");
-            }
+            most_bytes,
+        );
+        match end {
+            Ok(Served::Ended) => return Ok(0),
+            Ok(Served::Long) => match compact_long(streams, directory, &mut home) {
+                Ok(longest) => {
+                    most_bytes = longest;
+                    continue;
+                }
+                Err(fault) => {
+                    most_bytes = most_bytes.saturating_mul(GROWTH);
+                    tell_not_compacted(streams, directory, fault);
+                }
+            },
+            Err(ServeFault::NotKept(fault)) => tell_not_kept(streams, directory, fault),
             Err(fault) => return Err(Fault::from(fault)),
         }
         // the lock ends with the home that has it
@@ -183,10 +205,29 @@ fn serve_input(
     Ok(0)
 }
 
-/// A line that tells how many entries a journal has, what its site has seen of each site, how many jobs it knows, and how
-/// many bytes stand behind the gate, which were never answered and are cut when the site is opened.
-fn report(alloc: Global, entries: usize, site: &Site, behind: usize) -> Result<String, Fault> {
-    let mut text = format!(in alloc; "entries {entries}, seen")?;
+/// Whether a journal of these entries was compacted.
+fn is_compacted(alloc: Global, entries: &[Vec<u8>]) -> Result<bool, Fault> {
+    match entries.first() {
+        Some(first) => Ok(matches!(
+            read_header(alloc, first)?,
+            Some(Header {
+                format: Format::Two,
+                ..
+            })
+        )),
+        None => Ok(false),
+    }
+}
+
+/// A line that tells how many entries a journal has, whether it was compacted, what its site has seen of each site, how many
+/// jobs it knows, and how many bytes stand behind the gate, which were never answered and are cut when the site is opened.
+fn report(alloc: Global, entries: &[Vec<u8>], site: &Site, behind: usize) -> Result<String, Fault> {
+    let count = entries.len();
+    let mut text = format!(in alloc; "entries {count}")?;
+    if is_compacted(alloc, entries)? {
+        text.push_str(" (compacted)")?;
+    }
+    text.push_str(", seen")?;
     let version = site.version();
     for number in 0..SITES as u8 {
         if let Some(seen) = SiteId::new(number)
@@ -202,9 +243,9 @@ fn report(alloc: Global, entries: usize, site: &Site, behind: usize) -> Result<S
 }
 
 /// Tells what the journal of a directory has.
-fn check(
+fn check<R: Files<File = File> + Clock + AllocGlobal + Clone + Drop>(
     streams: &impl Print,
-    rt: &(impl Files<File = File> + Clock + AllocGlobal),
+    rt: &R,
     directory: &str,
 ) -> Result<u8, Fault> {
     let device = open_device(rt, directory)?;
@@ -213,7 +254,7 @@ fn check(
         Err(unopened) => return Err(Fault::from(unopened.fault)),
     };
     let site = replay(rt.alloc(), &found.entries)?;
-    let text = report(rt.alloc(), found.entries.len(), &site, found.tail.len())?;
+    let text = report(rt.alloc(), &found.entries, &site, found.tail.len())?;
     println!(streams; "{text}").map_err(Fault::Output)?;
     Ok(0)
 }
@@ -231,7 +272,11 @@ pub fn do_task<R: Files<File = File> + Clock + AllocGlobal + Clone + Drop>(
             Ok(0)
         }
         Task::At { words } => answer_at(streams, rt, directory, words),
-        Task::Serve { words } => serve_input(streams, rt, directory, *words),
+        Task::Serve {
+            words,
+            keeps_history,
+        } => serve_input(streams, rt, directory, *words, *keeps_history),
+        Task::Compact { kept } => compact(streams, rt, directory, *kept),
         Task::Check => check(streams, rt, directory),
     }
 }

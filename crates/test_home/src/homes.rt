@@ -35,7 +35,12 @@ const KEPT: [&[u8]; 5] = [
 const COUNTS: [usize; 4] = [0, 1, 3, 5];
 
 /// A file in memory, which does so many calls and stops at the next.
-fn stopping(alloc: Global, file: &[u8], calls: usize, tear: Tear) -> Result<Memory, HomeFault>
+pub(crate) fn stopping(
+    alloc: Global,
+    file: &[u8],
+    calls: usize,
+    tear: Tear,
+) -> Result<Memory, HomeFault>
     ensures { IfOk result (λ device. LeavesJust (memory_seen device) (memory_may_leave device)) }
 {
     match Memory::stopping(alloc, file, calls, tear) {
@@ -45,14 +50,14 @@ fn stopping(alloc: Global, file: &[u8], calls: usize, tear: Tear) -> Result<Memo
 }
 
 /// A file in memory, which doesn't stop.
-fn running(alloc: Global, file: &[u8]) -> Result<Memory, HomeFault>
+pub(crate) fn running(alloc: Global, file: &[u8]) -> Result<Memory, HomeFault>
     ensures { IfOk result (λ device. LeavesJust (memory_seen device) (memory_may_leave device)) }
 {
     stopping(alloc, file, usize::MAX, Tear::Front(0))
 }
 
 /// A home in memory is opened and brought to rest.
-fn opened(alloc: Global, file: &[u8]) -> Result<Home<Memory>, HomeFault>
+pub(crate) fn opened(alloc: Global, file: &[u8]) -> Result<Home<Memory>, HomeFault>
     ensures { IfOk result (λ home. IsOpen memory_seen memory_may_leave home) }
 {
     match Home::open(alloc, running(alloc, file)?) {
@@ -65,7 +70,7 @@ fn opened(alloc: Global, file: &[u8]) -> Result<Home<Memory>, HomeFault>
 }
 
 /// What the disk has of a new home.
-fn made(alloc: Global) -> Result<Vec<u8>, HomeFault> {
+pub(crate) fn made(alloc: Global) -> Result<Vec<u8>, HomeFault> {
     match Home::make(alloc, running(alloc, b"")?, HEADER) {
         Ok((home, _)) => Ok(home.into_device().into_disk()),
         Err(unopened) => Err(unopened.fault),
@@ -73,7 +78,7 @@ fn made(alloc: Global) -> Result<Vec<u8>, HomeFault> {
 }
 
 /// Answers three groups, and tells how many were answered.
-fn answer_groups(home: &mut Home<Memory>) -> usize
+pub(crate) fn answer_groups(home: &mut Home<Memory>) -> usize
     requires { IsOpen memory_seen memory_may_leave home.old }
 {
     if home.answer(&FIRST, false).is_err() {
@@ -297,7 +302,7 @@ fn headers_are_read(rt: HostRuntime) -> Result<(), Fail> {
     let others: [&[u8]; 8] = [
         b"",
         b"nettlebeam 1 argonne",
-        b"nettlebeam 2 argonne argonne:8",
+        b"nettlebeam 3 argonne argonne:8",
         b"federation 1 argonne argonne:8",
         b"nettlebeam 1 sparks argonne:8",
         b"nettlebeam 1 argonne argonne:8 argonne:4",
@@ -341,6 +346,10 @@ fn files_that_are_no_homes_are_told(rt: HostRuntime) -> Result<(), Fail> {
     assert_eq!(rt; refusal(alloc, b"+ 1dfdc33a4c3cf500 ann qsub\n-")?, Some(6));
     assert_eq!(rt; unmade(alloc, &file, HEADER)?, Some(7));
     assert_eq!(rt; unmade(alloc, b"", b"ann qsub")?, Some(6));
+    assert_eq!(rt;
+        unmade(alloc, b"", b"nettlebeam 2 argonne argonne:8 lemont:4")?,
+        Some(6)
+    );
     assert_eq!(rt; unmade(alloc, b"- half a header", HEADER)?, None);
     Ok(())
 }
@@ -356,13 +365,14 @@ fn faults_say_the_cause(rt: HostRuntime) -> Result<(), Fail> {
         HomeFault::UnreadHeader,
         HomeFault::HasEntries,
         HomeFault::InDoubt(io::ErrorKind::StorageFull.into()),
+        HomeFault::UnreadKnown,
     ];
     let numbers = faults.map(|fault| fault.number());
-    assert_eq!(rt; numbers, [1, 2, 3, 4, 5, 6, 7, 8]);
+    assert_eq!(rt; numbers, [1, 2, 3, 4, 5, 6, 7, 8, 9]);
     let doubts = faults.map(|fault| fault.is_in_doubt());
     assert_eq!(rt;
         doubts,
-        [false, false, false, false, false, false, false, true]
+        [false, false, false, false, false, false, false, true, false]
     );
     let damaged = format!(in rt.alloc(); "{}", HomeFault::Damaged { line: 17 })?;
     assert_eq!(rt; damaged.as_str(), "line 17 of the journal is damaged");

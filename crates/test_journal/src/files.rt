@@ -26,7 +26,11 @@ fn fresh(rt: &HostRuntime, directory: &str) -> io::Result<()> {
 }
 
 /// Adds a group to the journal in a file, and gives what it had before.
-fn add(alloc: Global, device: FileDevice, texts: &[&[u8]]) -> Result<Recovered, JournalFault>
+fn add(
+    alloc: Global,
+    device: FileDevice<HostRuntime>,
+    texts: &[&[u8]],
+) -> Result<Recovered, JournalFault>
     requires { LeavesJust (file_seen device) (file_may_leave device) }
 {
     match Journal::open(alloc, device) {
@@ -125,7 +129,7 @@ fn a_file_is_one_process_s_alone(rt: HostRuntime) -> Result<(), Fail> {
 }
 
 /// The kind of the error that a file isn't opened for.
-fn refusal(opened: Result<FileDevice, OpenFault>) -> Option<ErrorKind> {
+fn refusal(opened: Result<FileDevice<HostRuntime>, OpenFault>) -> Option<ErrorKind> {
     match opened {
         Err(OpenFault::Failed(error)) => Some(error.kind()),
         _other => None,

@@ -8,3 +8,6 @@ mod files;
 /// Journals in memory.
 #[cfg(test)]
 mod memory;
+/// Journals in the place of others.
+#[cfg(test)]
+mod replacing;

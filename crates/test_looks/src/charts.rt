@@ -1,6 +1,6 @@
 //! Worked charts.
-use fed_answers::plan_at;
 use fed_board::Board;
+use fed_easy::plan_at;
 use fed_machine::{Bar, Kind, bars_at, chart_svg};
 use fed_record::{
     Account, Beginning, JobValues, Limit, MAX_END, Moment, Nodes, Operation, Priority, Term, Window,

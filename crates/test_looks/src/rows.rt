@@ -1,7 +1,7 @@
 //! Worked looks.
-use fed_answers::plan_text_without;
 use fed_board::Board;
 use fed_looks::{Look, jobs_json, machine_lines, read_look, reservation_lines, why_line};
+use fed_qstat::plan_text_without;
 use fed_record::{
     Beginning, Ending, HoldKinds, JobValues, Limit, Moment, Nodes, Operation, Term, Window,
 };

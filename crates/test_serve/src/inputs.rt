@@ -6,7 +6,7 @@ ghost use Rattle.fed_home.specs.Home.{IsOpen};
 
 use fed_home::{Home, HomeFault};
 use fed_journal::{JournalFault, Memory, Tear};
-use fed_serve::{MAX_LINE_BYTES, ServeFault, heard, line_of_words, serve, take_line};
+use fed_serve::{MAX_LINE_BYTES, ServeFault, Served, heard, line_of_words, serve, take_line};
 use std::alloc::Global;
 use std::io::{self, ErrorKind, Read, Write};
 use std::process::Abort;
@@ -139,6 +139,7 @@ fn served(
         &mut in_pieces(input, most),
         &mut output,
         asked,
+        usize::MAX,
     )?;
     Ok((output, home.into_device().into_disk()))
 }
@@ -193,9 +194,17 @@ fn faults_are_told(rt: HostRuntime) -> Result<(), Fail> {
     let mut input = in_pieces(b"ann qsub\nann q", 9);
     input.end = Some(ErrorKind::TimedOut);
     let mut begun = Vec::new(alloc);
-    let fault = serve(alloc, &mut home, &mut begun, &mut input, &mut output, false)
-        .err()
-        .ok_or("no fault")?;
+    let fault = serve(
+        alloc,
+        &mut home,
+        &mut begun,
+        &mut input,
+        &mut output,
+        false,
+        usize::MAX,
+    )
+    .err()
+    .ok_or("no fault")?;
     assert_eq!(rt; fault.number(), 2);
     assert_eq!(rt; output.as_slice(), b"1.argonne\n\n".as_slice());
     // behind a fault the home is opened anew
@@ -212,6 +221,7 @@ fn faults_are_told(rt: HostRuntime) -> Result<(), Fail> {
         &mut in_pieces(b"ann qsub\nann qsub\n", 9),
         &mut room,
         false,
+        usize::MAX,
     )
     .err()
     .ok_or("no fault")?;
@@ -241,6 +251,7 @@ fn lines_are_not_kept_where_the_disk_stops(rt: HostRuntime) -> Result<(), Fail> 
             &mut in_pieces(b"ann qsub\nann qsub\n", 9),
             &mut output,
             false,
+            usize::MAX,
         );
         assert_eq!(rt; output.as_slice(), answered);
         assert_eq!(rt; ended.err().map(ServeFault::number), Some(number));
@@ -262,6 +273,7 @@ fn an_input_goes_on_behind_lines_that_are_not_kept(rt: HostRuntime) -> Result<()
         &mut input,
         &mut output,
         true,
+        usize::MAX,
     );
     let Err(ServeFault::NotKept(HomeFault::Failed(_))) = ended else {
         return Err("all lines are kept".into());
@@ -275,6 +287,7 @@ fn an_input_goes_on_behind_lines_that_are_not_kept(rt: HostRuntime) -> Result<()
         &mut input,
         &mut output,
         false,
+        usize::MAX,
     )?;
     assert_eq!(rt;
         output.as_slice(),
@@ -282,6 +295,38 @@ fn an_input_goes_on_behind_lines_that_are_not_kept(rt: HostRuntime) -> Result<()
         1.argonne          STDIN            ann              Q      0        1      3600 -\n\n2.argonne\n\n"
             .as_slice()
     );
+    Ok(())
+}
+
+// Behind its first line the journal has more bytes than it was to have: the call is made again for the rest.
+#[test]
+fn an_input_goes_on_behind_a_journal_that_is_long(rt: HostRuntime) -> Result<(), Fail> {
+    let alloc = rt.alloc();
+    let mut home = opened(alloc, MADE, usize::MAX)?;
+    let mut input = in_pieces(b"ann qsub\nann qsub\n", 9);
+    let mut output = Vec::new(alloc);
+    let first = serve(
+        alloc,
+        &mut home,
+        &mut Vec::new(alloc),
+        &mut input,
+        &mut output,
+        false,
+        MADE.len(),
+    )?;
+    assert!(rt; first == Served::Long);
+    assert_eq!(rt; output.as_slice(), b"1.argonne\n\n".as_slice());
+    let last = serve(
+        alloc,
+        &mut home,
+        &mut Vec::new(alloc),
+        &mut input,
+        &mut output,
+        false,
+        usize::MAX,
+    )?;
+    assert!(rt; last == Served::Ended);
+    assert_eq!(rt; output.as_slice(), b"1.argonne\n\n2.argonne\n\n".as_slice());
     Ok(())
 }
 

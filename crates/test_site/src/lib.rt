@@ -1,4 +1,4 @@
-//! Examples of sites by themselves, over public calls alone: lines with their answers, complaints, looks and replays. The
+//! Examples of sites by themselves, over public calls alone: lines with their answers, complaints, looks, replays and what is known. The
 //! crate has tests and nothing else.
 #![tactic(auto)]
 
@@ -8,6 +8,9 @@ mod answers;
 /// Complaints and their words.
 #[cfg(test)]
 mod complaints;
+/// What sites hold as text, and sites that begin from that.
+#[cfg(test)]
+mod knowing;
 /// Looks at sites.
 #[cfg(test)]
 mod looks;

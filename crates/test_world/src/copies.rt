@@ -1,4 +1,4 @@
-//! A copy of a replica, which stays as the replica was.
+//! A copy of a replica, which stays as the replica was, and a replica that begins with what another holds.
 use crate::limits::{grew, replica};
 use crate::texts::ONE_JOB;
 use fed_record::{Command, Reply};
@@ -64,4 +64,35 @@ fn a_copy_has_heard_what_the_replica_had(rt: HostRuntime) {
     let mut lemont = replica(&rt, 1);
     pass(&rt, &argonne, &mut lemont);
     see_heard(&rt, &mut argonne, &mut lemont);
+}
+
+#[test]
+fn a_replica_begins_with_what_another_holds(rt: HostRuntime) {
+    let argonne = submitted(&rt);
+    let whole = argonne.whole().expect(&rt, "memory");
+    let text = write(rt.alloc(), &whole).expect(&rt, "memory");
+    assert!(rt; text.as_slice() == ONE_JOB.as_bytes());
+    let records = whole.into_delta().into_changes();
+    // argonne has heard nothing
+    assert!(rt; Replica::holding(rt.alloc(), site(0), records).is_same(&argonne));
+}
+
+/// Whether a replica that begins with all records of another, and then hears what it has heard of argonne, is the same then
+/// and not before.
+fn hears_again(rt: &(impl Abort + AllocGlobal), replica: &Replica) -> bool {
+    let records = replica
+        .whole()
+        .expect(rt, "memory")
+        .into_delta()
+        .into_changes();
+    let mut again = Replica::holding(rt.alloc(), replica.site(), records);
+    let is_same_before = again.is_same(replica);
+    !grew(rt, &mut again, &replica.hearing(site(0))) && again.is_same(replica) && !is_same_before
+}
+
+#[test]
+fn what_was_heard_is_heard_again(rt: HostRuntime) {
+    let mut lemont = replica(&rt, 1);
+    pass(&rt, &submitted(&rt), &mut lemont);
+    assert!(rt; hears_again(&rt, &lemont));
 }

@@ -1,7 +1,7 @@
 use Rattle.std.specs.Borrow.{Bor}
 use Rattle.std.specs.List.{All}
 use Rattle.std.proofs.Common.{ℕ, List, drop, map}
-use Rattle.fed_reasons.specs.Told.{IsTold, answers_in}
+use Rattle.fed_site.specs.Told.{IsTold, answers_in}
 use Rattle.fed_home.proofs.Answering.{IsRun}
 use Rattle.fed_home.proofs.runs.answer_lines.Given as goal
 

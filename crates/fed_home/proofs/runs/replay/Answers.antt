@@ -4,8 +4,8 @@ use Rattle.fed_home.proofs.FaultCases.{unread_first}
 use Rattle.fed_home.proofs.HeaderLines.{header_site}
 use Rattle.fed_home.proofs.runs.replay.Goals as goal
 
-pub open-requires : goal.open-requires
-open-requires c =
+pub open_site-requires : goal.open_site-requires
+open_site-requires c =
     let e : header_in c.deref.result.now ≡ Some c.in-Some-2.header = sym c.in_ok-header.ensures ∙ c.in-Some-2.is in
     header_site c.deref.result.now c.in-Some-2.header e
 

@@ -3,8 +3,8 @@ use Rattle.std.specs.List.{All, flat_map}
 use Rattle.std.proofs.Common.{◌≡◌, ℕ, false, List, [], ◌∷◌, ◌++◌, refl, ap, ap₂, ◌∙◌, append-nil}
 use Rattle.std.proofs.lemmas.List.Elements.{All-head, All-tail}
 use Rattle.fed_site.specs.Answered.{bytes_of}
-use Rattle.fed_reasons.specs.Told.{IsTold, answers_in}
-use Rattle.fed_reasons.specs.declared.tellings.Told.{Told}
+use Rattle.fed_site.specs.Told.{IsTold, answers_in}
+use Rattle.fed_site.specs.declared.tellings.Told.{Told}
 use Rattle.fed_serve.specs.Written.{told_bytes, told_text, words_line}
 use Rattle.fed_serve.proofs.laws.answers_stand_alone_where_no_words_are_asked_for.Goals as goal
 

@@ -1,17 +1,17 @@
 use Rattle.std.specs.Io.KnownBytes.{Consumes}
-use Rattle.std.proofs.Common.{◌≡◌, ◌∙◌, sym, subst, ℕ, List, [], ◌==◌, false, take, length, refl, rules}
+use Rattle.std.proofs.Common.{◌≡◌, ◌∙◌, ◌<◌, sym, subst, ℕ, List, [], ◌==◌, false, take, length, refl, rules}
 use Rattle.std.proofs.lemmas.List.{take_at}
 use Rattle.std.proofs.lemmas.List.Elements.{All-nil}
 use Rattle.fed_journal.specs.Device.{LeavesOnly}
 use Rattle.fed_journal.specs.Journal.{IsBeforeOrAfter, entries_in}
 use Rattle.fed_site.specs.Journal.{kept_lines}
 use Rattle.fed_home.specs.Home.{state_in, home_device, site_of}
-use Rattle.fed_serve.specs.Inputs.{EndsLines, HasNoLineFeed, lines_in}
+use Rattle.fed_serve.specs.Inputs.{EndsLines, HasNoLineFeed, cut_line, lines_in}
 use Rattle.fed_serve.specs.Served.{HasServed, StopsAt}
 use Rattle.fed_serve.specs.declared.faults.ServeFault.TheVariants.{Read}
-use Rattle.fed_serve.proofs.Groups.{consumes_none, consumes_start, keeps_same, moments_at_the_end, moments_kept, moments_of_a_chunk, moments_so_far, served_at_the_end, served_memory, served_read, served_stop, serving_more, serving_none}
+use Rattle.fed_serve.proofs.Groups.{consumes_none, consumes_start, keeps_same, moments_at_the_end, moments_kept, moments_of_a_chunk, moments_so_far, served_at_the_end, served_long, served_memory, served_open, served_read, served_stop, serving_more, serving_none}
 use Rattle.fed_serve.proofs.InputLines.{Takes}
-use Rattle.fed_serve.proofs.Stops.{whatever_fault}
+use Rattle.fed_serve.proofs.Stops.{never_long, whatever_fault}
 use Rattle.fed_serve.proofs.serving.serve.Goals as goal
 
 pub loop-init : goal.loop-init
@@ -33,14 +33,32 @@ returns-in_err-chunk-clause-any_moment g c =
     (serving_none c.args.asked g.D.Device.seen g.D.Device.may_leave g.D.Device.moment g.D.Device.left_since c.args.home.now (g.R.Read.remaining c.args.reader.now) (g.W.Write.contents c.args.writer.now) c.args.begun.now.items c.requires.open (λ file left. g.met.D.Device.only_now (home_device c.args.home.now) file left) c.requires.begun)
     (keeps_same (g.R.Read.remaining c.args.reader.now))
 
+-- ---- a journal that is long
+pub returns-then-journal_len-most_bytes-clause-served : goal.returns-then-journal_len-most_bytes-clause-served
+returns-then-journal_len-most_bytes-clause-served g c =
+    served_long c.args.asked g.D.Device.seen g.D.Device.may_leave g.D.Device.moment g.D.Device.left_since g.D.Device.errors c.args.home.now c.loop.home (g.R.Read.remaining c.args.reader.now) (g.R.Read.remaining c.loop.reader) c.args.begun.now.items c.loop.begun.items (g.W.Write.contents c.args.writer.now) (g.W.Write.contents c.loop.writer) c.loop.invariant.serving
+
+pub returns-then-journal_len-most_bytes-clause-any_moment : goal.returns-then-journal_len-most_bytes-clause-any_moment
+returns-then-journal_len-most_bytes-clause-any_moment g c = moments_kept c.args.asked g.D.Device.seen g.D.Device.may_leave g.D.Device.moment g.D.Device.left_since c.args.home.now c.loop.home (g.R.Read.remaining c.args.reader.now) (g.R.Read.remaining c.loop.reader) (g.R.Read.remaining c.loop.reader) c.args.begun.now.items c.loop.begun.items (g.W.Write.contents c.args.writer.now) (g.W.Write.contents c.loop.writer) c.loop.invariant.serving (keeps_same (g.R.Read.remaining c.loop.reader))
+
 -- ---- the end of the input
+pub returns-in-Ok-eq0-clause-paused : goal.returns-in-Ok-eq0-clause-paused
+returns-in-Ok-eq0-clause-paused g c = never_long c.answer_cut.result (HasNoLineFeed c.answer_cut.new.begun.items) c.answer_cut.ensures.ended
+
+pub returns-in-Ok-eq0-clause-long : goal.returns-in-Ok-eq0-clause-long
+returns-in-Ok-eq0-clause-long g c = never_long c.answer_cut.result (c.args.most_bytes < length (g.D.Device.seen (home_device c.answer_cut.new.home))) c.answer_cut.ensures.ended
+
+pub returns-in-Ok-eq0-clause-open : goal.returns-in-Ok-eq0-clause-open
+returns-in-Ok-eq0-clause-open g c =
+    served_open c.args.asked g.D.Device.seen g.D.Device.may_leave c.loop.home c.answer_cut.new.home (cut_line c.loop.begun.items) (g.W.Write.contents c.loop.writer) (g.W.Write.contents c.answer_cut.new.writer) c.answer_cut.result c.answer_cut.ensures.served
+
 pub returns-in-Ok-eq0-clause-served : goal.returns-in-Ok-eq0-clause-served
 returns-in-Ok-eq0-clause-served g c =
     let zero : c.in-Ok-eq0.field-0 ≡ 0 = search rules in
     let end : Consumes (g.R.Read.remaining c.loop.reader) (g.R.Read.remaining c.read_chunk.new.reader) [] = consumes_none (g.R.Read.remaining c.loop.reader) (g.R.Read.remaining c.read_chunk.new.reader) c.read_chunk.new.chunk c.in-Ok-eq0.field-0 zero c.in-Ok-eq0.ensures.read.1 in
     served_at_the_end c.args.asked g.D.Device.seen g.D.Device.may_leave g.D.Device.moment g.D.Device.left_since g.D.Device.errors g.met.D.Device.counts_now c.args.home.now c.loop.home c.answer_cut.new.home (g.R.Read.remaining c.args.reader.now) (g.R.Read.remaining c.loop.reader) (g.R.Read.remaining c.read_chunk.new.reader) c.args.begun.now.items c.loop.begun.items c.answer_cut.new.begun.items
     (g.W.Write.contents c.args.writer.now) (g.W.Write.contents c.loop.writer) (g.W.Write.contents c.answer_cut.new.writer) c.answer_cut.result c.loop.invariant.serving end (c.in-Ok-eq0.ensures.read.2 zero) c.answer_cut.ensures.taken
-    c.answer_cut.ensures.served c.answer_cut.ensures.stopped c.answer_cut.ensures.any_moment
+    c.answer_cut.ensures.ended c.answer_cut.ensures.served c.answer_cut.ensures.stopped c.answer_cut.ensures.any_moment
 
 pub returns-in-Ok-eq0-clause-any_moment : goal.returns-in-Ok-eq0-clause-any_moment
 returns-in-Ok-eq0-clause-any_moment g c =

@@ -1,32 +1,28 @@
 use Rattle.std.specs.Prelude.{Some}
-use Rattle.std.proofs.Common.{length, ap, ◌∙◌}
+use Rattle.std.proofs.Common.{length, ap, sym, ◌∙◌}
 use Rattle.fed_replica.specs.State.{State}
 use Rattle.fed_model.specs.Run.{start}
-use Rattle.fed_home.specs.declared.headers.Header.{Header}
-use Rattle.fed_home.proofs.HeaderLines.{header_site}
+use Rattle.fed_journal.specs.Journal.{entries_of}
+use Rattle.fed_home.specs.Replay.{replay}
 use Rattle.fed_turns.specs.Crash.{turns_from}
 use Rattle.fed_turns.specs.Turn.{beginning}
 use Rattle.fed_turns.proofs.Alarms.{start_stands}
 use Rattle.fed_turns.proofs.Crashes.{all_may}
-use Rattle.fed_turns.proofs.Headers.{header_roster}
-use Rattle.fed_turns.proofs.Homes.{home_answered, home_crashed, home_made, home_of_other, home_replay}
+use Rattle.fed_turns.proofs.Homes.{home_answered, home_crashed, home_made, home_of_other}
 use Rattle.fed_turns.proofs.Reached.{start_reached}
 use Rattle.fed_turns.proofs.Turns.{turns_played}
 use Rattle.fed_turns.proofs.laws.homes_go_on.Goals as goal
 
 pub returns-clause-named : goal.returns-clause-named
-returns-clause-named c roster i happenings file h =
-    let header : Header = record { roster = roster; site = i } in
-    (header_roster h.0 header h.1, header_site h.0 header h.1)
+returns-clause-named c roster i happenings file h = (h.0, h.1)
 
 pub returns-clause-made : goal.returns-clause-made
 returns-clause-made c header file now e r = home_made header file now e r
 
 pub returns-clause-opened : goal.returns-clause-opened
 returns-clause-opened c roster i happenings file may h =
-    let lawful = header_roster h.0 (record { roster = roster; site = i }) h.1 in
-    let played = turns_played roster lawful.at_most (turns_from roster beginning happenings) beginning start start_stands (start_reached (length roster)) (all_may roster happenings beginning may) in
-    home_replay roster i happenings file h ∙ ap (λ (s : State). Some (record { roster = roster; state = s })) (played.stands.sites i)
+    let played = turns_played roster h.0.at_most (turns_from roster beginning happenings) beginning start start_stands (start_reached (length roster)) (all_may roster happenings beginning may) in
+    h.2 ∙ ap (λ (s : State). Some (record { roster = roster; state = s })) (played.stands.sites i)
 
 pub returns-clause-answered : goal.returns-clause-answered
 returns-clause-answered c roster i happenings old new now lines answers may h e replies added carried =
@@ -36,7 +32,10 @@ pub returns-clause-crashed : goal.returns-clause-crashed
 returns-clause-crashed c roster i happenings old file now lines may h e left carried = home_crashed roster i happenings old file now lines may h e left carried
 
 pub returns-clause-same : goal.returns-clause-same
-returns-clause-same c roster i happenings old new e h = (h.0, h.1, e ∙ h.2)
+returns-clause-same c roster i happenings old new e h = (h.0, h.1, ap (λ r. replay (entries_of r)) e ∙ h.2)
+
+pub returns-clause-compacted : goal.returns-clause-compacted
+returns-clause-compacted c roster i happenings old new now was is h = (h.0, h.1, is ∙ sym was ∙ h.2)
 
 pub returns-clause-others : goal.returns-clause-others
 returns-clause-others c roster i happenings later file away h = home_of_other roster i happenings later file away h

@@ -12,10 +12,12 @@ returns c =
     let init_is = c.in_ok-init.ensures in
     let at_is = c.in_ok-at.ensures in
     let serve_is = c.in_ok-serve.ensures in
+    let compact_is = c.in_ok-compact.ensures in
     let check_is = c.in_ok-with_directory.ensures in
     let top = λ (a : App). a.top in
     let plain = λ (a : App). a.top.is_plain in
     let with_init = c.in_ok-subcommand.ensures.shape (plain_fields _ (ap plain init_is)).globals ∙ ap₂ with_subcommand bare_is (ap top init_is) in
     let with_at = c.in_ok-subcommand-2.ensures.shape (plain_fields _ (ap plain at_is)).globals ∙ ap₂ with_subcommand with_init (ap top at_is) in
     let with_serve = c.in_ok-subcommand-3.ensures.shape (plain_fields _ (ap plain serve_is)).globals ∙ ap₂ with_subcommand with_at (ap top serve_is) in
-    IfOk-weaker c.subcommand-4.result _ _ (λ command added. added.shape (plain_fields _ (ap plain check_is)).globals ∙ ap₂ with_subcommand with_serve (ap top check_is)) c.subcommand-4.ensures
+    let with_compact = c.in_ok-subcommand-4.ensures.shape (plain_fields _ (ap plain compact_is)).globals ∙ ap₂ with_subcommand with_serve (ap top compact_is) in
+    IfOk-weaker c.subcommand-5.result _ _ (λ command added. added.shape (plain_fields _ (ap plain check_is)).globals ∙ ap₂ with_subcommand with_compact (ap top check_is)) c.subcommand-5.ensures

@@ -5,5 +5,5 @@ use Rattle.nettlebeam.proofs.command_line.serve.Goals as goal
 
 pub returns : goal.returns
 returns c =
-    IfOk-weaker c.arg.result _ _ (λ command added. added.shape c.words.ensures.local
-    ∙ ap₂ with_rule c.in_ok-with_directory.ensures c.words.ensures.rule) c.arg.ensures
+    IfOk-weaker c.arg-2.result _ _ (λ command added. added.shape c.flag-2.ensures.local
+    ∙ ap₂ with_rule (c.in_ok-arg.ensures.shape c.flag.ensures.local ∙ ap₂ with_rule c.in_ok-with_directory.ensures c.flag.ensures.rule) c.flag-2.ensures.rule) c.arg-2.ensures

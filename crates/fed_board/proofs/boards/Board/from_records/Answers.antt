@@ -4,5 +4,6 @@ use Rattle.fed_board.proofs.boards.Board.from_records.Goals as goal
 
 pub invariant_of-result : goal.invariant_of-result
 invariant_of-result c =
-    let b : BoardValue = record { version = c.args.version; jobs = c.args.jobs; reservations = c.args.reservations } in
-    (c.requires, c.count_ids.ensures, c.count_ids-2.ensures, listed_after c.none_after.result b c.requires c.none_after.ensures)
+    let inside = c.records.inside in
+    let b : BoardValue = record { version = inside.version; jobs = inside.jobs; reservations = inside.reservations } in
+    (c.records.invariant, c.count_ids.ensures, c.count_ids-2.ensures, listed_after c.none_after.result b c.records.invariant c.none_after.ensures)

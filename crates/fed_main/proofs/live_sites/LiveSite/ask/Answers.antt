@@ -1,6 +1,6 @@
 use Rattle.std.proofs.Common.{ap, refl, ◌∙◌}
 use Rattle.fed_model.specs.Outcome.{outcome_of}
-use Rattle.fed_answers.specs.Outcome.{answer_line, outcome_text}
+use Rattle.fed_qstat.specs.Outcome.{answer_line, outcome_text}
 use Rattle.fed_main.specs.Thread.{Does}
 use Rattle.fed_main.proofs.Threads.{Answers-one}
 use Rattle.fed_main.proofs.live_sites.LiveSite.ask.Goals as goal

@@ -1,6 +1,6 @@
 use Rattle.std.proofs.Common.{◌∙◌}
 use Rattle.fed_board.specs.Board.{board_reads}
-use Rattle.fed_answers.specs.Listed.{listed}
+use Rattle.fed_qstat.specs.Listed.{listed}
 use Rattle.fed_main.specs.Thread.{Looked}
 use Rattle.fed_main.proofs.Threads.{Answers-one}
 use Rattle.fed_main.proofs.live_sites.LiveSite.list.Goals as goal

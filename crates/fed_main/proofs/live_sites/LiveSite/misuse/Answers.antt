@@ -1,5 +1,5 @@
 use Rattle.std.proofs.Common.{refl, ◌∙◌}
-use Rattle.fed_answers.specs.Outcome.{usage_line}
+use Rattle.fed_qstat.specs.Outcome.{usage_line}
 use Rattle.fed_main.specs.Thread.{Only}
 use Rattle.fed_main.proofs.Threads.{Answers-one}
 use Rattle.fed_main.proofs.live_sites.LiveSite.misuse.Goals as goal

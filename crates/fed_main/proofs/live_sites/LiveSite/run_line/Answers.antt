@@ -1,6 +1,6 @@
 use Rattle.std.proofs.Common.{subst}
 use Rattle.std.specs.Prelude.{OnOk}
-use Rattle.fed_answers.specs.Listed.{listed}
+use Rattle.fed_qstat.specs.Listed.{listed}
 use Rattle.fed_main.specs.Thread.{reads, Answers, Looked}
 use Rattle.fed_main.proofs.live_sites.LiveSite.run_line.Goals as goal
 

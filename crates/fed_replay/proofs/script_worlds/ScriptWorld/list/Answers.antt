@@ -1,7 +1,7 @@
 use Rattle.std.proofs.Common.{◌≡◌, string_bytes}
 use Rattle.std.proofs.lemmas.Result.{IfOk-weaker}
 use Rattle.fed_board.specs.Board.{board_reads}
-use Rattle.fed_answers.specs.Listed.{listed}
+use Rattle.fed_qstat.specs.Listed.{listed}
 use Rattle.fed_replay.specs.ScriptWorld.{reads}
 use Rattle.fed_replay.specs.Script.{view_at}
 use Rattle.fed_replay.proofs.ScriptWorlds.{listed_at}

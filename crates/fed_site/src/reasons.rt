@@ -1,0 +1,88 @@
+//! What the user is told of a line: why it isn't done as it asks, and what else there is to say.
+
+use crate::complaints::Complaint;
+use crate::misused::misused_text;
+use crate::refused::refused_text;
+use crate::site::Site;
+use fed_easy::used_nodes;
+use fed_lattice::NoMemory;
+use fed_qstat::{identifier_text, site_text};
+use fed_record::{Command, Moment};
+use fed_script::{Line, first_word, read_own_line};
+use fed_stamp::SiteId;
+use std::alloc::Global;
+
+/// That a packet needs what this site lacks of another.
+fn gap_text(alloc: Global, site: &Site, lacking: SiteId) -> Result<String, NoMemory> {
+    let name = site_text(alloc, site.roster(), lacking)?;
+    Ok(format!(in alloc;
+        "gap {name}: the packet rests on operations of {name} that this site has not seen: \
+        take one that its sender makes for this site, or one from {name}"
+    )?)
+}
+
+/// What is said of the cause alone.
+fn cause_text(alloc: Global, complaint: &Complaint) -> Result<String, NoMemory> {
+    Ok(format!(in alloc; "{complaint}")?)
+}
+
+/// Why a line isn't done as it asks, with what was asked of what.
+pub fn reason_text(
+    alloc: Global,
+    site: &Site,
+    line: &[u8],
+    complaint: &Complaint,
+) -> Result<String, NoMemory> {
+    let told = match complaint {
+        Complaint::Refused { index, refusal } => refused_text(alloc, site, line, *index, *refusal)?,
+        Complaint::Misused(fault) => misused_text(alloc, site, line, *fault)?,
+        Complaint::Gap(lacking) => Some(gap_text(alloc, site, *lacking)?),
+        _ => None,
+    };
+    match told {
+        Some(text) => Ok(text),
+        None => cause_text(alloc, complaint),
+    }
+}
+
+/// That the site is beyond its nodes at the moment, where it is.
+fn beyond_text(
+    alloc: Global,
+    site: &Site,
+    command: &Command,
+    moment: Moment,
+) -> Result<Option<String>, NoMemory> {
+    let roster = site.roster();
+    let here = site.here();
+    let Command::Begin { job, .. } = command else {
+        return Ok(None);
+    };
+    let nodes = roster.nodes(here).unwrap_or(0);
+    let used = used_nodes(site.board(), here, moment.get());
+    if used <= nodes {
+        return Ok(None);
+    }
+    let id = identifier_text(alloc, roster, *job)?;
+    let name = site_text(alloc, roster, here)?;
+    Ok(Some(format!(in alloc;
+        "{id} has begun, and {name} is beyond its nodes: running jobs and reservations use {used} of {nodes}"
+    )?))
+}
+
+/// What is said of a line that was done: where it began a job, that the site is beyond its nodes, if so. A job begins
+/// whatever the use of the machine is.
+pub fn warning_text(alloc: Global, site: &Site, line: &[u8]) -> Result<Option<String>, NoMemory> {
+    if first_word(line) != Some(b"begin".as_slice()) {
+        return Ok(None);
+    }
+    match read_own_line(alloc, site.roster(), site.here(), line)? {
+        Some(Line::Act { commands, .. }) => match commands.first() {
+            Some(command) => match command {
+                Command::Begin { moment, .. } => beyond_text(alloc, site, command, *moment),
+                _ => Ok(None),
+            },
+            None => Ok(None),
+        },
+        _ => Ok(None),
+    }
+}

@@ -1,0 +1,130 @@
+//! Compacting a site's journal.
+ghost use Rattle.std.specs.Prelude.{IfOk};
+ghost use Rattle.fed_home.specs.Home.{IsOpen};
+
+use crate::directories::{JOURNAL, open_home, sync_parent};
+use crate::faults::{Fault, FaultAt};
+use fed_home::{Compaction, Home, HomeFault};
+use fed_journal::Device;
+use std::fs::{self, File, Files, OpenOptions};
+use std::io::{self, Read, Write};
+use std::os::unix::fs::OpenOptionsExt;
+use std::path::Path;
+use std::time::Clock;
+
+/// A journal of no more bytes isn't long.
+pub const LEAST_BYTES: usize = 1 << 20;
+
+/// How many times as long as a compacted one a journal is that is long, so that what compacting takes is little beside what
+/// has made it so long.
+pub const GROWTH: usize = 4;
+
+/// Its owner alone may read and write the file of an old journal.
+const OWNER_ALONE: u32 = 0o600;
+
+/// The most bytes of a journal that isn't long, by those that it would have if it were compacted.
+fn longest(compacted: usize) -> usize {
+    LEAST_BYTES.max(compacted.saturating_mul(GROWTH))
+}
+
+/// Tells on standard error why a journal isn't compacted.
+pub fn tell_not_compacted(streams: &impl Eprint, directory: &str, fault: Fault) {
+    let _ = eprintln!(streams; "nettlebeam: {}", FaultAt { directory, fault });
+}
+
+/// Why a journal may be the old one or the compacted one, or isn't compacted.
+fn fault_of_compacting(fault: HomeFault) -> Fault {
+    match fault {
+        HomeFault::Failed(error) => Fault::Replaced(error),
+        _ => Fault::Home(fault),
+    }
+}
+
+/// Compacts a journal that has become long, and gives the most bytes that it may have before it is long again. Where it
+/// can't be compacted standard error says why. After an `Err` the home has to be opened again.
+pub fn compact_long<D: Device + Drop>(
+    streams: &impl Eprint,
+    directory: &str,
+    home: &mut Home<D>,
+) -> Result<usize, Fault>
+    requires { IsOpen D.seen D.may_leave home.old }
+    ensures { IfOk result (λ longest. IsOpen D.seen D.may_leave home.new) }
+{
+    let len = home.journal_len();
+    let came = match home.compact(len / GROWTH) {
+        Ok(came) => came,
+        Err(fault) => return Err(fault_of_compacting(fault)),
+    };
+    match came {
+        Compaction::Done => Ok(longest(home.journal_len())),
+        Compaction::Long { bytes } => Ok(longest(bytes)),
+        Compaction::Refused(error) => {
+            tell_not_compacted(streams, directory, Fault::NotCompacted(error));
+            Ok(longest(len))
+        }
+        Compaction::Unread => {
+            tell_not_compacted(streams, directory, Fault::Uncompactable);
+            Ok(longest(len))
+        }
+    }
+}
+
+/// Copies the journal of a directory to a file that isn't there yet, and waits until the disk has it and its name.
+fn copy_journal(
+    rt: &(impl Files<File = File> + AllocGlobal),
+    directory: &str,
+    name: &str,
+) -> io::Result<()> {
+    let path = Path::new(directory).join(rt.alloc(), JOURNAL)?;
+    let mut text = Vec::new(rt.alloc());
+    File::open(rt, path.as_path())?.read_to_end(&mut text)?;
+    let mut file = OpenOptions::new()
+        .write(true)
+        .create_new(true)
+        .mode(OWNER_ALONE)
+        .open(rt, name)?;
+    file.write_all(&text)?;
+    file.sync_all()?;
+    sync_parent(rt, name)
+}
+
+/// Makes the journal of a directory one that begins with what the site has, where that is shorter, and tells how long it was
+/// and is. Where a name is given, the journal is copied first to a file of this name, which stays where it is compacted.
+pub fn compact<R: Files<File = File> + Clock + AllocGlobal + Clone + Drop>(
+    streams: &(impl Print + Eprint),
+    rt: &R,
+    directory: &str,
+    kept: Option<&str>,
+) -> Result<u8, Fault> {
+    let mut home = open_home(streams, rt, directory)?;
+    if let Some(name) = kept {
+        copy_journal(rt, directory, name).map_err(Fault::Kept)?;
+    }
+    let before = home.journal_len();
+    let came = match home.compact(before.saturating_sub(1)) {
+        Ok(came) => came,
+        Err(fault) => return Err(fault_of_compacting(fault)),
+    };
+    if let Some(name) = kept
+        && !matches!(came, Compaction::Done)
+    {
+        // it is the journal's copy, and no older one
+        let _ = fs::remove_file(rt, name);
+    }
+    match came {
+        Compaction::Done => {
+            let now = home.journal_len();
+            println!(streams; "compacted: {before} bytes before, {now} now").map_err(
+                Fault::Output,
+            )?;
+        }
+        Compaction::Long { bytes } => {
+            println!(streams; "not compacted: {before} bytes, {bytes} if it were").map_err(
+                Fault::Output,
+            )?;
+        }
+        Compaction::Refused(error) => return Err(Fault::NotCompacted(error)),
+        Compaction::Unread => return Err(Fault::Uncompactable),
+    }
+    Ok(0)
+}
