@@ -4,9 +4,10 @@ use Rattle.std.proofs.lemmas.List.{map-append, drop_all}
 use Rattle.std.specs.Borrow.{Bor}
 use Rattle.std.proofs.Common.{◌≡◌, ℕ, ◌+◌, ◌<◌, ◌≤◌, Bool, true, false, List, [], ◌∷◌, ◌++◌, drop, drop-cons, add-one, get_or, length, refl, ap, sym, subst, ◌∙◌, append_assoc, append-nil}
 use Rattle.fed_replica.specs.State.{State, state_of}
-use Rattle.fed_site.specs.Answered.{bytes_of, complaint_of, kept_of}
+use Rattle.fed_site.specs.Answered.{kept_of}
 use Rattle.fed_site.specs.Journal.{SaidAs, after_lines, kept_line, kept_lines}
-use Rattle.fed_site.specs.Says.{IsReply, Said, site_says}
+use Rattle.fed_site.specs.Rosters.{roster_after, roster_after_lines}
+use Rattle.fed_site.specs.Says.{site_says}
 use Rattle.fed_site.specs.Site.{SiteValue}
 use Rattle.fed_site.specs.declared.site.Answered.{Answered}
 use Rattle.std.specs.List.{All}
@@ -17,10 +18,10 @@ use Rattle.fed_home.specs.Replay.{AreReplies}
 
 -- of all these lines a site has answered those before the rest, so, and has these to keep
 pub record IsRun (old now : SiteValue) (all rest : List (List ℕ)) (answers : List Answered) (kept : List (List ℕ)) : Type 0 where
-  pub roster : now.roster ≡ old.roster
-  pub after : after_lines old.roster (state_of now.replica) rest ≡ after_lines old.roster (state_of old.replica) all
-  pub replies : (more : List Answered) → AreReplies old.roster (state_of now.replica) rest more → AreReplies old.roster (state_of old.replica) all (answers ++ more)
-  pub keeps : kept ++ kept_lines old.roster (state_of now.replica) rest ≡ kept_lines old.roster (state_of old.replica) all
+  pub roster : roster_after_lines now.roster rest ≡ roster_after_lines old.roster all
+  pub after : after_lines now.roster (state_of now.replica) rest ≡ after_lines old.roster (state_of old.replica) all
+  pub replies : (more : List Answered) → AreReplies now.roster (state_of now.replica) rest more → AreReplies old.roster (state_of old.replica) all (answers ++ more)
+  pub keeps : kept ++ kept_lines now.roster (state_of now.replica) rest ≡ kept_lines old.roster (state_of old.replica) all
 
 pub starts : (old : SiteValue) (all : List (List ℕ)) (answers : List Answered) (kept : List (Bor (List ℕ))) → answers ≡ [] → kept ≡ [] → IsRun old old all all answers (map (λ (line : Bor (List ℕ)). line.now) kept)
 starts old all answers kept a k = record {
@@ -31,30 +32,30 @@ starts old all answers kept a k = record {
 }
 
 goes_on : (old mid new : SiteValue) (all rest : List (List ℕ)) (line : List ℕ) (answers : List Answered) (answer : Answered) (kept more_kept : List (List ℕ)) → IsRun old mid all (line ∷ rest) answers kept
-    → SaidAs mid new answer (site_says mid.roster (state_of mid.replica) line) → more_kept ≡ kept ++ kept_line old.roster (kept_of answer) line → IsRun old new all rest (answers ++ answer ∷ []) more_kept
+    → SaidAs mid new answer (roster_after mid.roster line) (site_says mid.roster (state_of mid.replica) line) → more_kept ≡ kept ++ kept_line (kept_of answer) line → IsRun old new all rest (answers ++ answer ∷ []) more_kept
 goes_on old mid new all rest line answers answer kept more_kept run said more =
-    let s = state_of mid.replica in
-    let says : site_says mid.roster s line ≡ site_says old.roster s line = ap (λ r. site_says r s line) run.roster in
-    let after : state_of new.replica ≡ (site_says old.roster s line).after = said.after ∙ ap (λ (d : Said). d.after) says in
-    let kept_is : kept_of answer ≡ (site_says old.roster s line).kept = said.keeps ∙ ap (λ (d : Said). d.kept) says in
-    let complains : complaint_of answer ≡ (site_says old.roster s line).complaint = said.complains ∙ ap (λ (d : Said). d.complaint) says in
-    let reply : IsReply s (site_says old.roster s line).reply (bytes_of answer) = subst (λ (d : Said). IsReply s d.reply (bytes_of answer)) says said.reply in
     record {
-      roster = said.roster ∙ run.roster;
-      after = ap (λ (t : State). after_lines old.roster t rest) after ∙ run.after;
+      roster = ap (λ (q : List (List ℕ × ℕ)). roster_after_lines q rest) said.roster ∙ run.roster;
+      after = (λ k. after_lines (said.roster k) (said.after k) rest) ∙ run.after;
       replies = λ others h. subst (λ (xs : List Answered). AreReplies old.roster (state_of old.replica) all xs) (sym (append_assoc answers (answer ∷ []) others))
-          (run.replies (answer ∷ others) (reply, kept_is, complains, subst (λ (t : State). AreReplies old.roster t rest others) after h));
-      keeps = ap (λ (ks : List (List ℕ)). ks ++ kept_lines old.roster (state_of new.replica) rest) more
-          ∙ append_assoc kept (kept_line old.roster (kept_of answer) line) (kept_lines old.roster (state_of new.replica) rest)
-          ∙ ap (λ (ks : List (List ℕ)). kept ++ ks) (λ i. kept_line old.roster (kept_is i) line ++ kept_lines old.roster (after i) rest)
+          (run.replies (answer ∷ others) (
+            said.reply,
+            said.keeps,
+            said.complains,
+            subst (λ (q : List (List ℕ × ℕ)). AreReplies q (site_says mid.roster (state_of mid.replica) line).after rest others) said.roster
+                (subst (λ (t : State). AreReplies new.roster t rest others) said.after h),
+          ));
+      keeps = ap (λ (ks : List (List ℕ)). ks ++ kept_lines new.roster (state_of new.replica) rest) more
+          ∙ append_assoc kept (kept_line (kept_of answer) line) (kept_lines new.roster (state_of new.replica) rest)
+          ∙ ap (λ (ks : List (List ℕ)). kept ++ ks) (λ k. kept_line (said.keeps k) line ++ kept_lines (said.roster k) (said.after k) rest)
           ∙ run.keeps;
     }
 
 -- one line more was answered
 pub answered_more : (old mid new : SiteValue) (lines : List (Bor (List ℕ))) (i : ℕ) (d : Bor (List ℕ)) (answers new_answers : List Answered) (answer : Answered) (kept more_kept : List (Bor (List ℕ))) → i < length lines
     → IsRun old mid (map (λ (line : Bor (List ℕ)). line.now) lines) (map (λ (line : Bor (List ℕ)). line.now) (drop i lines)) answers (map (λ (line : Bor (List ℕ)). line.now) kept)
-    → SaidAs mid new answer (site_says mid.roster (state_of mid.replica) (get_or lines i d).now) → new_answers ≡ answers ++ answer ∷ []
-    → map (λ (line : Bor (List ℕ)). line.now) more_kept ≡ map (λ (line : Bor (List ℕ)). line.now) kept ++ kept_line old.roster (kept_of answer) (get_or lines i d).now
+    → SaidAs mid new answer (roster_after mid.roster (get_or lines i d).now) (site_says mid.roster (state_of mid.replica) (get_or lines i d).now) → new_answers ≡ answers ++ answer ∷ []
+    → map (λ (line : Bor (List ℕ)). line.now) more_kept ≡ map (λ (line : Bor (List ℕ)). line.now) kept ++ kept_line (kept_of answer) (get_or lines i d).now
     → IsRun old new (map (λ (line : Bor (List ℕ)). line.now) lines) (map (λ (line : Bor (List ℕ)). line.now) (drop (i + 1) lines)) new_answers (map (λ (line : Bor (List ℕ)). line.now) more_kept)
 answered_more old mid new lines i d answers new_answers answer kept more_kept within run said answers_are more =
     let now : Bor (List ℕ) → List ℕ = λ line. line.now in
@@ -65,17 +66,17 @@ answered_more old mid new lines i d answers new_answers answer kept more_kept wi
     (goes_on old mid new (map now lines) (map now (drop (i + 1) lines)) (get_or lines i d).now answers answer (map now kept) (map now more_kept) first said more)
 
 -- the lines that are kept, with one more or without
-pub keeps_more : (roster : List (List ℕ × ℕ)) (kept more : List (Bor (List ℕ))) (line : Bor (List ℕ)) (is_kept : Bool) → is_kept ≡ true → more ≡ kept ++ line ∷ []
-    → map (λ (line : Bor (List ℕ)). line.now) more ≡ map (λ (line : Bor (List ℕ)). line.now) kept ++ kept_line roster is_kept line.now
-keeps_more roster kept more line is_kept e m =
+pub keeps_more : (kept more : List (Bor (List ℕ))) (line : Bor (List ℕ)) (is_kept : Bool) → is_kept ≡ true → more ≡ kept ++ line ∷ []
+    → map (λ (line : Bor (List ℕ)). line.now) more ≡ map (λ (line : Bor (List ℕ)). line.now) kept ++ kept_line is_kept line.now
+keeps_more kept more line is_kept e m =
     ap (map (λ (line : Bor (List ℕ)). line.now)) m ∙ map-append (λ (line : Bor (List ℕ)). line.now) kept (line ∷ [])
-    ∙ ap (λ b. map (λ (line : Bor (List ℕ)). line.now) kept ++ kept_line roster b line.now) (sym e)
+    ∙ ap (λ b. map (λ (line : Bor (List ℕ)). line.now) kept ++ kept_line b line.now) (sym e)
 
-pub keeps_same : (roster : List (List ℕ × ℕ)) (kept more : List (Bor (List ℕ))) (text : List ℕ) (is_kept : Bool) → is_kept ≡ false → more ≡ kept
-    → map (λ (line : Bor (List ℕ)). line.now) more ≡ map (λ (line : Bor (List ℕ)). line.now) kept ++ kept_line roster is_kept text
-keeps_same roster kept more text is_kept e m =
+pub keeps_same : (kept more : List (Bor (List ℕ))) (text : List ℕ) (is_kept : Bool) → is_kept ≡ false → more ≡ kept
+    → map (λ (line : Bor (List ℕ)). line.now) more ≡ map (λ (line : Bor (List ℕ)). line.now) kept ++ kept_line is_kept text
+keeps_same kept more text is_kept e m =
     ap (map (λ (line : Bor (List ℕ)). line.now)) m ∙ sym (append-nil (map (λ (line : Bor (List ℕ)). line.now) kept))
-    ∙ ap (λ b. map (λ (line : Bor (List ℕ)). line.now) kept ++ kept_line roster b text) (sym e)
+    ∙ ap (λ b. map (λ (line : Bor (List ℕ)). line.now) kept ++ kept_line b text) (sym e)
 
 -- all lines were answered
 pub all_answered : (old now : SiteValue) (lines : List (Bor (List ℕ))) (i : ℕ) (answers : List Answered) (kept : List (List ℕ)) → length lines ≤ i

@@ -5,5 +5,4 @@ pub mod HeaderLines
 pub mod Lines
 pub mod Looking
 pub mod Replays
-pub mod SameRosters
 pub mod Compacting

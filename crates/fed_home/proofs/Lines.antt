@@ -1,16 +1,18 @@
 -- A line that is kept has no line feed.
-use Rattle.std.specs.Prelude.{Option, Some, None, if◌then◌else◌, nat_eq, not, ◌&&◌, ◌||◌, codes}
+use Rattle.std.specs.Prelude.{Option, Some, None, option_map, if◌then◌else◌, nat_eq, not, ◌&&◌, ◌||◌, codes}
 use Rattle.std.proofs.Common.{◌≡◌, ℕ, Bool, true, false, List, [], ◌∷◌, ◌++◌, drop, refl, arith}
 use Rattle.std.specs.List.{All, list_any, starts_with}
 use Rattle.std.proofs.lemmas.List.Elements.{All-nil, All-cons}
 use Rattle.std.proofs.lemmas.List.Sums.{AllPass-from_list_all}
 use Rattle.std.proofs.lemmas.Bool.Decides.{nat_tests}
 use Rattle.fed_replica.specs.State.{State}
-use Rattle.fed_script.specs.Line.{own_line, told}
+use Rattle.fed_script.specs.Line.{own_line, told as words_told}
 use Rattle.fed_script.specs.Lines.{is_readable, is_readable_byte, words_of}
 use Rattle.fed_script.specs.Forms.{◌>>=◌}
+use Rattle.fed_script.specs.Rosters.{roster_of}
 use Rattle.fed_site.specs.Journal.{kept_line, kept_lines}
-use Rattle.fed_site.specs.Says.{after_look, after_text, after_told, site_says}
+use Rattle.fed_site.specs.Rosters.{roster_after, told_in, words_behind}
+use Rattle.fed_site.specs.Says.{after_look, after_roster, after_text, after_told, site_says}
 use Rattle.fed_journal.specs.Lines.{IsLine, is_line_feed}
 
 readable_byte : (b : ℕ) → is_readable_byte b ≡ true → is_line_feed b ≡ false
@@ -35,7 +37,7 @@ no_line_feed (b ∷ line) e =
 
 module _ (roster : List (List ℕ × ℕ)) (s : State) (line : List ℕ) where
   -- a line that can't be read is not kept
-  own_kept : (readable : Bool) → (after_told roster s ((if readable then Some (told (words_of line)) else None) >>= own_line roster s.site)).kept ≡ true → readable ≡ true
+  own_kept : (readable : Bool) → (after_told roster s ((if readable then Some (words_told (words_of line)) else None) >>= own_line roster s.site)).kept ≡ true → readable ≡ true
   own_kept true e = refl
   own_kept false e = cc
 
@@ -49,16 +51,23 @@ module _ (roster : List (List ℕ × ℕ)) (s : State) (line : List ℕ) where
   packet_kept true true f e = look_kept _ e
   packet_kept false feeds f e = look_kept _ e
 
+  -- one that can't be read tells no roster
+  told_read : (readable : Bool) → is_readable line ≡ readable → (told : Option _) → option_map roster_of ((if readable then Some (words_told (words_of line)) else None) >>= words_behind) ≡ told
+      → (after_roster roster s line told).kept ≡ true → IsLine line
+  told_read readable r None is e = packet_kept (starts_with nat_eq line (codes "take ")) (list_any (nat_eq 10) line) refl e
+  told_read true r (Some told) is e = readable_line line r
+  told_read false r (Some told) is e = cc
+
   pub kept_is_line : (site_says roster s line).kept ≡ true → IsLine line
-  kept_is_line e = packet_kept (starts_with nat_eq line (codes "take ")) (list_any (nat_eq 10) line) refl e
+  kept_is_line e = told_read (is_readable line) refl (told_in line) refl e
 
-module _ (roster : List (List ℕ × ℕ)) where
-  and_more : (s : State) (line : List ℕ) (lines : List (List ℕ)) (kept : Bool) → (site_says roster s line).kept ≡ kept → All IsLine lines → All IsLine (kept_line roster kept line ++ lines)
-  and_more s line lines true e more = All-cons IsLine line lines (kept_is_line roster s line e) more
-  and_more s line lines false e more = more
+and_more : (roster : List (List ℕ × ℕ)) (s : State) (line : List ℕ) (lines : List (List ℕ)) (kept : Bool) → (site_says roster s line).kept ≡ kept → All IsLine lines → All IsLine (kept_line kept line ++ lines)
+and_more roster s line lines true e more = All-cons IsLine line lines (kept_is_line roster s line e) more
+and_more roster s line lines false e more = more
 
-  pub kept_are_lines : (s : State) (lines : List (List ℕ)) → All IsLine (kept_lines roster s lines)
-  kept_are_lines s [] = All-nil IsLine
-  kept_are_lines s (line ∷ lines) =
-      let after = (site_says roster s line).after in
-      and_more s line (kept_lines roster after lines) (site_says roster s line).kept refl (kept_are_lines after lines)
+pub kept_are_lines : (roster : List (List ℕ × ℕ)) (s : State) (lines : List (List ℕ)) → All IsLine (kept_lines roster s lines)
+kept_are_lines roster s [] = All-nil IsLine
+kept_are_lines roster s (line ∷ lines) =
+    let after = (site_says roster s line).after in
+    let next = roster_after roster line in
+    and_more roster s line (kept_lines next after lines) (site_says roster s line).kept refl (kept_are_lines next after lines)

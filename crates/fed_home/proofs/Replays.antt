@@ -5,9 +5,10 @@ use Rattle.fed_replica.specs.State.{State, empty_at, state_of}
 use Rattle.fed_script.specs.Forms.{◌>>=◌}
 use Rattle.fed_site.specs.Journal.{after_lines, kept_lines}
 use Rattle.fed_site.specs.Known.{known_in}
+use Rattle.fed_site.specs.Rosters.{roster_after, roster_after_lines}
 use Rattle.fed_site.specs.Says.{site_says}
 use Rattle.fed_site.specs.Site.{SiteValue}
-use Rattle.fed_site.proofs.Replays.{replayed as kept_replayed}
+use Rattle.fed_site.proofs.Replays.{replayed as kept_replayed, replayed_roster as kept_replayed_roster}
 use Rattle.fed_journal.specs.Journal.{IsBeforeOrAfter, entries_in, entries_of}
 use Rattle.fed_journal.specs.Lines.{recovered}
 use Rattle.fed_home.specs.declared.headers.Format.{Format}
@@ -17,24 +18,31 @@ use Rattle.fed_home.specs.Header.{header_in}
 use Rattle.fed_home.specs.Replay.{Replayed, begun, begun_by, replay, replayed_of, site_after}
 
 -- lines after lines
-pub after_both : (roster : List (List ℕ × ℕ)) (s : State) (first second : List (List ℕ)) → after_lines roster s (first ++ second) ≡ after_lines roster (after_lines roster s first) second
+pub after_both : (roster : List (List ℕ × ℕ)) (s : State) (first second : List (List ℕ)) → after_lines roster s (first ++ second) ≡ after_lines (roster_after_lines roster first) (after_lines roster s first) second
 after_both roster s [] second = refl
-after_both roster s (line ∷ first) second = after_both roster (site_says roster s line).after first second
+after_both roster s (line ∷ first) second = after_both (roster_after roster line) (site_says roster s line).after first second
+
+pub roster_after_both : (roster : List (List ℕ × ℕ)) (first second : List (List ℕ)) → roster_after_lines roster (first ++ second) ≡ roster_after_lines (roster_after_lines roster first) second
+roster_after_both roster [] second = refl
+roster_after_both roster (line ∷ first) second = roster_after_both (roster_after roster line) first second
 
 some_same : (x y : Replayed) → Some x ≡ Some y → x ≡ y
 some_same x y e = cc
 
 -- a site that has answered these lines
 abbrev answered : Replayed → List (List ℕ) → Replayed
-answered r lines = record { roster = r.roster; state = after_lines r.roster r.state lines }
+answered r lines = record { roster = roster_after_lines r.roster lines; state = after_lines r.roster r.state lines }
 
 site_more : (roster : List (List ℕ × ℕ)) (before : State) (first lines : List (List ℕ))
-    → site_after roster (first ++ kept_lines roster (after_lines roster before first) lines) before ≡ answered (site_after roster first before) lines
+    → site_after roster (first ++ kept_lines (roster_after_lines roster first) (after_lines roster before first) lines) before ≡ answered (site_after roster first before) lines
 site_more roster before first lines =
     let s = after_lines roster before first in
-    let after : after_lines roster before (first ++ kept_lines roster s lines) ≡ after_lines roster s lines =
-    after_both roster before first (kept_lines roster s lines) ∙ kept_replayed roster s lines in
-    λ i. record { roster = roster; state = after i }
+    let next = roster_after_lines roster first in
+    let after : after_lines roster before (first ++ kept_lines next s lines) ≡ after_lines next s lines =
+    after_both roster before first (kept_lines next s lines) ∙ kept_replayed next s lines in
+    let knows : roster_after_lines roster (first ++ kept_lines next s lines) ≡ roster_after_lines next lines =
+    roster_after_both roster first (kept_lines next s lines) ∙ kept_replayed_roster next s lines in
+    λ i. record { roster = knows i; state = after i }
 
 known_more : (roster : List (List ℕ × ℕ)) (first : List (List ℕ)) (o : Option State) (r : Replayed) (lines : List (List ℕ)) → option_map (site_after roster first) o ≡ Some r
     → option_map (site_after roster (first ++ kept_lines r.roster r.state lines)) o ≡ Some (answered r lines)
@@ -56,7 +64,7 @@ more_after first (Some h) r lines e = begun_more h.format h.roster h.site first 
 
 -- the entries with those behind them that a site keeps of more lines
 pub replayed_more : (entries : List (List ℕ)) (r : Replayed) (lines : List (List ℕ)) → replay entries ≡ Some r
-    → replay (entries ++ kept_lines r.roster r.state lines) ≡ Some (record { roster = r.roster; state = after_lines r.roster r.state lines })
+    → replay (entries ++ kept_lines r.roster r.state lines) ≡ Some (record { roster = roster_after_lines r.roster lines; state = after_lines r.roster r.state lines })
 replayed_more [] r lines e = cc
 replayed_more (first ∷ entries) r lines e = more_after entries (header_in first) r lines e
 
@@ -76,13 +84,13 @@ header_unread header e = ap (λ x. x >>= begun_by []) e
 -- what a crash leaves
 pub left_replayed : (entries lines : List (List ℕ)) (roster : List (List ℕ × ℕ)) (s : State) (file : List ℕ)
     → replay entries ≡ Some (record { roster = roster; state = s }) → IsBeforeOrAfter entries (kept_lines roster s lines) file
-    → (replay (entries_in file) ≡ Some (record { roster = roster; state = s })) ⊎ (replay (entries_in file) ≡ Some (record { roster = roster; state = after_lines roster s lines }))
+    → (replay (entries_in file) ≡ Some (record { roster = roster; state = s })) ⊎ (replay (entries_in file) ≡ Some (record { roster = roster_after_lines roster lines; state = after_lines roster s lines }))
 left_replayed entries lines roster s file e (inl before) = inl (ap (λ r. replay (entries_of r)) before ∙ e)
 left_replayed entries lines roster s file e (inr after) = inr (ap (λ r. replay (entries_of r)) after ∙ replayed_more entries (record { roster = roster; state = s }) lines e)
 
 -- a site that has answered lines, once the entries that it keeps of them are in the file
 pub open_again : (entries group lines : List (List ℕ)) (file : List ℕ) (old new : SiteValue) → recovered file ≡ Ok (entries ++ group) → group ≡ kept_lines old.roster (state_of old.replica) lines → replay entries ≡ Some (replayed_of old)
-    → new.roster ≡ old.roster → state_of new.replica ≡ after_lines old.roster (state_of old.replica) lines → replay (entries_in file) ≡ Some (replayed_of new)
+    → new.roster ≡ roster_after_lines old.roster lines → state_of new.replica ≡ after_lines old.roster (state_of old.replica) lines → replay (entries_in file) ≡ Some (replayed_of new)
 open_again entries group lines file old new has is before roster after =
     let site : answered (replayed_of old) lines ≡ replayed_of new = λ i. record { roster = sym roster i; state = sym after i } in
     ap (λ r. replay (entries_of r)) has ∙ ap (λ g. replay (entries ++ g)) is ∙ replayed_more entries (replayed_of old) lines before ∙ ap Some site

@@ -5,6 +5,7 @@ use Rattle.fed_script.specs.Forms.{◌>>=◌}
 use Rattle.fed_site.specs.Answered.{bytes_of, complaint_of, kept_of}
 use Rattle.fed_site.specs.Journal.{after_lines}
 use Rattle.fed_site.specs.Known.{known_in}
+use Rattle.fed_site.specs.Rosters.{roster_after, roster_after_lines}
 use Rattle.fed_site.specs.Says.{IsReply, site_says}
 use Rattle.fed_site.specs.Site.{SiteValue}
 use Rattle.fed_site.specs.declared.site.Answered.{Answered}
@@ -18,9 +19,10 @@ pub record Replayed : Type 0 where
   pub roster : List (List ℕ × ℕ)
   pub state : State
 
--- a site of the roster that has answered these lines, by what it held before them
+-- a site that has answered these lines, by the roster that it knew and what it held before them
 abbrev pub site_after : List (List ℕ × ℕ) → List (List ℕ) → State → Replayed
-site_after roster lines before = record { roster = roster; state = after_lines roster before lines }
+site_after roster lines before =
+    record { roster = roster_after_lines roster lines; state = after_lines roster before lines }
 
 -- The site that the entries behind a header stand for. In format 1 it had nothing, and has answered them; in format 2 the
 -- first is what it knew, and it has answered the others.
@@ -41,13 +43,12 @@ replay (first ∷ lines) = header_in first >>= begun_by lines
 abbrev pub replayed_of : SiteValue → Replayed
 replayed_of site = record { roster = site.roster; state = state_of site.replica }
 
-module _ (roster : List (List ℕ × ℕ)) where
-  -- these are the answers to these lines, one after another
-  abbrev pub AreReplies : State → List (List ℕ) → List Answered → Type 0
-  AreReplies s [] [] = ⊤
-  AreReplies s (line ∷ lines) (answer ∷ answers) =
-      IsReply s (site_says roster s line).reply (bytes_of answer)
-      × (kept_of answer ≡ (site_says roster s line).kept)
-      × (complaint_of answer ≡ (site_says roster s line).complaint)
-      × AreReplies (site_says roster s line).after lines answers
-  AreReplies s _ _ = ⊥
+-- these are the answers to these lines, one after another, of a site that knows this roster
+abbrev pub AreReplies : List (List ℕ × ℕ) → State → List (List ℕ) → List Answered → Type 0
+AreReplies roster s [] [] = ⊤
+AreReplies roster s (line ∷ lines) (answer ∷ answers) =
+    IsReply s (site_says roster s line).reply (bytes_of answer)
+    × (kept_of answer ≡ (site_says roster s line).kept)
+    × (complaint_of answer ≡ (site_says roster s line).complaint)
+    × AreReplies (roster_after roster line) (site_says roster s line).after lines answers
+AreReplies roster s _ _ = ⊥

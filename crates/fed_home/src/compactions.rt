@@ -6,10 +6,9 @@ ghost use Rattle.fed_home.specs.Replay.{replay as replay_of, replayed_of};
 
 use crate::faults::HomeFault;
 use crate::headers::write_header;
-use crate::rosters::are_same;
 use crate::runs::replay;
 use fed_lattice::NoMemory;
-use fed_site::Site;
+use fed_site::{Site, are_same_rosters};
 use fed_stamp::{SITES, SiteId};
 use std::alloc::Global;
 use std::io;
@@ -63,7 +62,7 @@ pub(crate) fn entries_from(alloc: Global, site: &Site) -> Result<Vec<Vec<u8>>, N
 fn is_same_site(one: &Site, other: &Site) -> bool
     ensures { IsTrue result → replayed_of one.now ≡ replayed_of other.now }
 {
-    if !are_same(one.roster(), other.roster()) {
+    if !are_same_rosters(one.roster(), other.roster()) {
         return false;
     }
     one.holds_the_same(other)

@@ -2,6 +2,7 @@
 ghost use Rattle.std.specs.Prelude.{◌≡◌, ◌≢◌, ◌≤◌, ◌<◌, ◌+◌, ◌++◌, ◌∷◌, [], List, ℕ, Ok, Some, false, length, map, IfErr, IfOk, IfSome, IsErrOf, MatchOption, MatchResult, OnOk};
 ghost use Rattle.std.specs.List.{All};
 ghost use Rattle.fed_site.specs.Journal.{after_lines, kept_lines};
+ghost use Rattle.fed_site.specs.Rosters.{roster_after_lines};
 ghost use Rattle.fed_site.specs.Told.{IsTold, answers_in};
 ghost use Rattle.fed_journal.specs.Device.{LeavesJust, LeavesOnly};
 ghost use Rattle.fed_journal.specs.Journal.{IsBeforeOrAfter, IsRead, IsSettled, device_of, entries_in};
@@ -178,7 +179,8 @@ impl<D: Device + Drop> Home<D> {
         ensures words { IfOk result (λ answers. All (IsTold asked) answers.items) }
         ensures kept { IfOk result (λ answers. recovered (D.seen (home_device self.new)) ≡
             Ok (entries_in (D.seen (home_device self.old)) ++ kept_lines (site_of self.old).roster (state_in self.old) (map (λ line. line.now) lines.now))) }
-        ensures roster { IfOk result (λ answers. (site_of self.new).roster ≡ (site_of self.old).roster) }
+        ensures roster { IfOk result (λ answers. (site_of self.new).roster ≡
+            roster_after_lines (site_of self.old).roster (map (λ line. line.now) lines.now)) }
         ensures left { IfOk result (λ answers. state_in self.new ≡
             after_lines (site_of self.old).roster (state_in self.old) (map (λ line. line.now) lines.now)) }
 

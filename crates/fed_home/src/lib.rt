@@ -11,8 +11,6 @@ pub mod headers;
 pub mod homes;
 /// Laws of what a crash leaves.
 pub mod laws;
-/// Whether two rosters are the same.
-mod rosters;
 /// What entries and lines come to at a site.
 pub mod runs;
 

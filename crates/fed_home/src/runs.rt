@@ -3,6 +3,7 @@ ghost use Rattle.std.specs.Prelude.{◌≡◌, ◌⊎◌, ◌<◌, Some, None, I
 ghost use Rattle.std.specs.List.{All};
 ghost use Rattle.fed_replica.specs.State.{state_of};
 ghost use Rattle.fed_site.specs.Journal.{after_lines, kept_lines};
+ghost use Rattle.fed_site.specs.Rosters.{roster_after_lines};
 ghost use Rattle.fed_site.specs.Told.{IsTold, answers_in};
 ghost use Rattle.fed_journal.specs.Lines.{texts_of};
 ghost use Rattle.fed_home.specs.Fault.{StopsReplay};
@@ -99,7 +100,8 @@ pub(crate) fn answer_lines<'a>(
     lines: &[&'a [u8]],
     asked: bool,
 ) -> Result<Run<'a>, NoMemory>
-    ensures roster { IfOk result (λ run. site.new.roster ≡ site.old.roster) }
+    ensures roster { IfOk result (λ run. site.new.roster ≡
+        roster_after_lines site.old.roster (map (λ line. line.now) lines.now)) }
     ensures after { IfOk result (λ run. state_of site.new.replica ≡
         after_lines site.old.roster (state_of site.old.replica) (map (λ line. line.now) lines.now)) }
     ensures answers { IfOk result (λ run.

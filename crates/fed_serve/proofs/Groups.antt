@@ -9,6 +9,7 @@ use Rattle.std.proofs.lemmas.List.Elements.{All-append, All-nil}
 use Rattle.std.specs.Prelude.{Bool}
 use Rattle.fed_replica.specs.State.{State}
 use Rattle.fed_site.specs.Journal.{after_lines, kept_line, kept_lines}
+use Rattle.fed_site.specs.Rosters.{roster_after, roster_after_lines}
 use Rattle.fed_site.specs.Says.{site_says}
 use Rattle.fed_site.specs.declared.site.Answered.{Answered}
 use Rattle.fed_site.specs.Told.{IsTold, answers_in}
@@ -22,7 +23,7 @@ use Rattle.fed_home.specs.Replay.{AreReplies, Replayed, replay, replayed_of}
 use Rattle.fed_home.specs.Fault.{StopsAnswers}
 use Rattle.fed_home.specs.declared.faults.HomeFault.TheVariants as home
 use Rattle.fed_home.specs.declared.homes.Home.{Home}
-use Rattle.fed_home.proofs.Replays.{after_both}
+use Rattle.fed_home.proofs.Replays.{after_both, roster_after_both}
 use Rattle.fed_serve.specs.Inputs.{HasNoLineFeed, IsKnownAs, cut_line, lines_in}
 use Rattle.fed_serve.proofs.Writing.{appends_kept, appends_more, appends_none}
 use Rattle.fed_serve.proofs.InputLines.{Takes, lines_in-begun}
@@ -81,26 +82,28 @@ rest_at_end None ended = refl
 rest_at_end (Some xs) ended = ended
 
 -- ---- lines after lines
-module _ (roster : List (List ℕ × ℕ)) where
-  kept_both : (s : State) (first second : List (List ℕ)) → kept_lines roster s (first ++ second) ≡ kept_lines roster s first ++ kept_lines roster (after_lines roster s first) second
-  kept_both s [] second = refl
-  kept_both s (line ∷ first) second =
-      let says = site_says roster s line in
-      ap (λ ls. kept_line roster says.kept line ++ ls) (kept_both says.after first second)
-      ∙ sym (append_assoc (kept_line roster says.kept line) (kept_lines roster says.after first) (kept_lines roster (after_lines roster says.after first) second))
+kept_both : (roster : List (List ℕ × ℕ)) (s : State) (first second : List (List ℕ)) → kept_lines roster s (first ++ second) ≡ kept_lines roster s first ++ kept_lines (roster_after_lines roster first) (after_lines roster s first) second
+kept_both roster s [] second = refl
+kept_both roster s (line ∷ first) second =
+    let says = site_says roster s line in
+    let next = roster_after roster line in
+    ap (λ ls. kept_line says.kept line ++ ls) (kept_both next says.after first second)
+    ∙ sym (append_assoc (kept_line says.kept line) (kept_lines next says.after first) (kept_lines (roster_after_lines next first) (after_lines next says.after first) second))
 
-  replies_both : (s : State) (first second : List (List ℕ)) (xs ys : List Answered) → AreReplies roster s first xs → AreReplies roster (after_lines roster s first) second ys → AreReplies roster s (first ++ second) (xs ++ ys)
-  replies_both s [] second [] ys a b = b
-  replies_both s [] second (x ∷ xs) ys a b = absurd a
-  replies_both s (line ∷ first) second [] ys a b = absurd a
-  replies_both s (line ∷ first) second (x ∷ xs) ys a b = (a.0, a.1, a.2, replies_both (site_says roster s line).after first second xs ys a.3 b)
+replies_both : (roster : List (List ℕ × ℕ)) (s : State) (first second : List (List ℕ)) (xs ys : List Answered) → AreReplies roster s first xs → AreReplies (roster_after_lines roster first) (after_lines roster s first) second ys
+    → AreReplies roster s (first ++ second) (xs ++ ys)
+replies_both roster s [] second [] ys a b = b
+replies_both roster s [] second (x ∷ xs) ys a b = absurd a
+replies_both roster s (line ∷ first) second [] ys a b = absurd a
+replies_both roster s (line ∷ first) second (x ∷ xs) ys a b = (a.0, a.1, a.2, replies_both (roster_after roster line) (site_says roster s line).after first second xs ys a.3 b)
 
 -- ---- answers after answers, with words or without
 module _ (asked : Bool) (roster : List (List ℕ × ℕ)) where
   pub answered_none : (s : State) (known : Option (List ℕ)) → HasAnswered asked roster s [] known known
   answered_none s known = ([], tt, All-nil (IsTold asked), appends_none known)
 
-  pub answered_both : (s : State) (first second : List (List ℕ)) (a b c : Option (List ℕ)) → HasAnswered asked roster s first a b → HasAnswered asked roster (after_lines roster s first) second b c → HasAnswered asked roster s (first ++ second) a c
+  pub answered_both : (s : State) (first second : List (List ℕ)) (a b c : Option (List ℕ)) → HasAnswered asked roster s first a b → HasAnswered asked (roster_after_lines roster first) (after_lines roster s first) second b c
+      → HasAnswered asked roster s (first ++ second) a c
   answered_both s first second a b c one two = (
     one.0 ++ two.0,
     subst (AreReplies roster s (first ++ second)) (sym (map-append (λ (told : Told). told.answer) one.0 two.0)) (replies_both roster s first second (answers_in one.0) (answers_in two.0) one.1 two.1),
@@ -144,7 +147,7 @@ module _ {D : Type 0} (asked : Bool) (seen : D → List ℕ) (may_leave : D → 
       let s = state_in old in
       let e = entries_in (seen (home_device old)) in
       (λ i. entries_of (one.kept i) ++ kept_lines (one.roster i) (one.left i) group)
-      ∙ append_assoc e (kept_lines r s first) (kept_lines r (after_lines r s first) group) ∙ ap (λ ls. e ++ ls) (sym (kept_both r s first group))
+      ∙ append_assoc e (kept_lines r s first) (kept_lines (roster_after_lines r first) (after_lines r s first) group) ∙ ap (λ ls. e ++ ls) (sym (kept_both r s first group))
 
   served_both : (old mid new : Home D) (first second : List (List ℕ)) (a b c : Option (List ℕ)) → HasServed asked seen may_leave old mid first a b → HasServed asked seen may_leave mid new second b c
       → HasServed asked seen may_leave old new (first ++ second) a c
@@ -154,12 +157,12 @@ module _ {D : Type 0} (asked : Bool) (seen : D → List ℕ) (may_leave : D → 
       record {
         done = record {
           is_open = two.done.is_open;
-          roster = two.done.roster ∙ one.done.roster;
+          roster = two.done.roster ∙ (λ i. roster_after_lines (one.done.roster i) second) ∙ sym (roster_after_both r first second);
           left = two.done.left ∙ (λ i. after_lines (one.done.roster i) (one.done.left i) second) ∙ sym (after_both r s first second);
           kept = two.done.kept ∙ ap Ok (kept_behind old mid first second one.done);
         };
         answered = answered_both asked r s first second a b c one.answered
-            (subst (λ (t : State). HasAnswered asked r t second b c) one.done.left (subst (λ (q : List (List ℕ × ℕ)). HasAnswered asked q (state_in mid) second b c) one.done.roster two.answered));
+            (subst (λ (t : State). HasAnswered asked (roster_after_lines r first) t second b c) one.done.left (subst (λ (q : List (List ℕ × ℕ)). HasAnswered asked q (state_in mid) second b c) one.done.roster two.answered));
       }
 
   -- ---- crashes

@@ -5,6 +5,7 @@ use Rattle.std.specs.Io.KnownBytes.{Appends, Keeps}
 use Rattle.std.specs.declared.io.Error.{Error}
 use Rattle.fed_replica.specs.State.{State}
 use Rattle.fed_site.specs.Journal.{after_lines, kept_lines}
+use Rattle.fed_site.specs.Rosters.{roster_after_lines}
 use Rattle.fed_site.specs.Told.{IsTold, answers_in}
 use Rattle.fed_site.specs.declared.tellings.Told.{Told}
 use Rattle.fed_journal.specs.Device.{Leaves, LeavesOnly}
@@ -67,7 +68,7 @@ module _ {D : Type 0} (asked : Bool) (seen : D → List ℕ) (may_leave : D → 
   -- the site has done these lines, and what they keep is on the disk
   pub record IsDone (old new : Home D) (given : List (List ℕ)) : Type 0 where
     pub is_open : IsOpen seen may_leave new
-    pub roster : (site_of new).roster ≡ (site_of old).roster
+    pub roster : (site_of new).roster ≡ roster_after_lines (site_of old).roster given
     pub left : state_in new ≡ after_lines (site_of old).roster (state_in old) given
     pub kept : HasKept (site_of old).roster (state_in old) (entries_in (seen (home_device old))) given (seen (home_device new))
 

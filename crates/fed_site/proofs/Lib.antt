@@ -1,3 +1,4 @@
+pub mod RosterLines
 pub mod Commands
 pub mod Replays
 pub mod Openings

@@ -1,5 +1,5 @@
 -- What isn't kept changes nothing.
-use Rattle.std.specs.Prelude.{Some, None, Option, Result, Ok, Err, is_none, if◌then◌else◌, ◌||◌, codes}
+use Rattle.std.specs.Prelude.{Some, None, Option, Result, Ok, Err, is_none, if◌then◌else◌, ◌||◌, not, codes, unwrap_or}
 use Rattle.std.proofs.Common.{◌≡◌, ℕ, ◌+◌, Bool, true, false, List, [], ◌∷◌, ◌++◌, refl, sym, ap, ◌∙◌}
 use Rattle.fed_model.specs.declared.askers.Who.{Who}
 use Rattle.fed_model.specs.declared.commands.Command.{Command}
@@ -18,7 +18,9 @@ use Rattle.fed_site.specs.declared.complaints.Complaint.{Complaint}
 use Rattle.fed_site.specs.Journal.{after_lines, kept_line, kept_lines}
 use Rattle.fed_site.specs.Line.{packet_text}
 use Rattle.fed_site.specs.Packets.{is_foreign, is_forgotten}
-use Rattle.fed_site.specs.Says.{after_command, after_commands, after_look, after_plan, after_reading, after_receipt, after_text, after_told, site_says, undone}
+use Rattle.fed_site.specs.Rosters.{are_same, next_roster, roster_after, roster_after_lines, roster_told, told_in}
+use Rattle.fed_site.specs.Says.{after_command, after_commands, after_look, after_next, after_plan, after_reading, after_receipt, after_roster, after_text, after_told, site_says, undone}
+use Rattle.fed_site.proofs.RosterLines.{same_sites}
 
 -- ---- commands
 answer_unkept : (s : State) (a : Answer) → adds a ≡ false → after_answer s a ≡ s
@@ -54,7 +56,7 @@ module _ (roster : List (List ℕ × ℕ)) where
   packet_unkept s p false true e = refl
   packet_unkept s p false false e = receipt_unkept s p (lacking s p) e
 
-  reading_unkept : (s : State) (r : Result PacketValue WireFault) → (after_reading roster s r).kept ≡ false → (after_reading roster s r).after ≡ s
+  pub reading_unkept : (s : State) (r : Result PacketValue WireFault) → (after_reading roster s r).kept ≡ false → (after_reading roster s r).after ≡ s
   reading_unkept s (Ok p) e = packet_unkept s p (is_foreign roster p) (is_forgotten s p) e
   reading_unkept s (Err fault) e = refl
 
@@ -79,42 +81,82 @@ module _ (roster : List (List ℕ × ℕ)) where
   text_unkept s line None e = look_unkept s line (look_in_line roster s.site line) e
   text_unkept s line (Some text) e = reading_unkept s (packet_in text) e
 
+  pub next_unkept : (s : State) (next : Option (List (List ℕ × ℕ))) → (after_next roster s next).after ≡ s
+  next_unkept s None = refl
+  next_unkept s (Some sites) = refl
+
+  roster_unkept : (s : State) (line : List ℕ) (told : Option (Option (List (List ℕ × ℕ)))) → (after_roster roster s line told).kept ≡ false → (after_roster roster s line told).after ≡ s
+  roster_unkept s line None e = text_unkept s line (packet_text line) e
+  roster_unkept s line (Some told) e = next_unkept s (next_roster roster told)
+
   pub unkept : (s : State) (line : List ℕ) → (site_says roster s line).kept ≡ false → (site_says roster s line).after ≡ s
-  unkept s line e = text_unkept s line (packet_text line) e
+  unkept s line e = roster_unkept s line (told_in line) e
 
-  -- ---- the replay of the kept lines
-  pub replayed : (s : State) (lines : List (List ℕ)) → after_lines roster s (kept_lines roster s lines) ≡ after_lines roster s lines
-  replayed s [] = refl
-  replayed s (line ∷ lines) = go (site_says roster s line).kept refl (replayed (site_says roster s line).after lines)
-    where
-      go : (b : Bool) → (site_says roster s line).kept ≡ b → after_lines roster (site_says roster s line).after (kept_lines roster (site_says roster s line).after lines) ≡ after_lines roster (site_says roster s line).after lines
-          → after_lines roster s (kept_lines roster s (line ∷ lines)) ≡ after_lines roster s (line ∷ lines)
-      go true e ih =
-          let after = (site_says roster s line).after in
-          ap (λ b. after_lines roster s (kept_line roster b line ++ kept_lines roster after lines)) e ∙ ih
-      go false e ih =
-          let after = (site_says roster s line).after in
-          ap (λ b. after_lines roster s (kept_line roster b line ++ kept_lines roster after lines)) e
-          ∙ ap (λ t. after_lines roster t (kept_lines roster after lines)) (sym (unkept s line e))
-          ∙ ih
+  -- ---- rosters
+  not_false : (b : Bool) → not b ≡ false → b ≡ true
+  not_false true e = refl
+  not_false false e = cc
 
-  pub kept_again : (s : State) (lines : List (List ℕ)) → kept_lines roster s (kept_lines roster s lines) ≡ kept_lines roster s lines
-  kept_again s [] = refl
-  kept_again s (line ∷ lines) = go (site_says roster s line).kept refl (kept_again (site_says roster s line).after lines)
-    where
-      go : (b : Bool) → (site_says roster s line).kept ≡ b → kept_lines roster (site_says roster s line).after (kept_lines roster (site_says roster s line).after lines) ≡ kept_lines roster (site_says roster s line).after lines
-          → kept_lines roster s (kept_lines roster s (line ∷ lines)) ≡ kept_lines roster s (line ∷ lines)
-      go true e ih =
-          let after = (site_says roster s line).after in
-          let rest = kept_lines roster after lines in
-          ap (λ b. kept_lines roster s (kept_line roster b line ++ rest)) e
-          ∙ ap (λ b. kept_line roster b line ++ kept_lines roster after rest) e
-          ∙ ap (λ ls. line ∷ ls) ih
-          ∙ sym (ap (λ b. kept_line roster b line ++ rest) e)
-      go false e ih =
-          let after = (site_says roster s line).after in
-          let rest = kept_lines roster after lines in
-          ap (λ b. kept_lines roster s (kept_line roster b line ++ rest)) e
-          ∙ ap (λ t. kept_lines roster t rest) (sym (unkept s line e))
-          ∙ ih
-          ∙ sym (ap (λ b. kept_line roster b line ++ rest) e)
+  next_same : (s : State) (next : Option (List (List ℕ × ℕ))) → (after_next roster s next).kept ≡ false → unwrap_or next roster ≡ roster
+  next_same s None e = refl
+  next_same s (Some sites) e = sym (same_sites roster sites (not_false (are_same roster sites) e))
+
+  told_same : (s : State) (line : List ℕ) (told : Option (Option (List (List ℕ × ℕ)))) → (after_roster roster s line told).kept ≡ false → roster_told roster told ≡ roster
+  told_same s line None e = refl
+  told_same s line (Some told) e = next_same s (next_roster roster told) e
+
+  pub still_roster : (s : State) (line : List ℕ) → (site_says roster s line).kept ≡ false → roster_after roster line ≡ roster
+  still_roster s line e = told_same s line (told_in line) e
+
+-- ---- the replay of the kept lines
+pub replayed : (roster : List (List ℕ × ℕ)) (s : State) (lines : List (List ℕ)) → after_lines roster s (kept_lines roster s lines) ≡ after_lines roster s lines
+replayed roster s [] = refl
+replayed roster s (line ∷ lines) = go (site_says roster s line).kept refl (replayed (roster_after roster line) (site_says roster s line).after lines)
+  where
+    go : (b : Bool) → (site_says roster s line).kept ≡ b
+        → after_lines (roster_after roster line) (site_says roster s line).after (kept_lines (roster_after roster line) (site_says roster s line).after lines) ≡ after_lines (roster_after roster line) (site_says roster s line).after lines
+        → after_lines roster s (kept_lines roster s (line ∷ lines)) ≡ after_lines roster s (line ∷ lines)
+    go true e ih =
+        let rest = kept_lines (roster_after roster line) (site_says roster s line).after lines in
+        ap (λ b. after_lines roster s (kept_line b line ++ rest)) e ∙ ih
+    go false e ih =
+        let rest = kept_lines (roster_after roster line) (site_says roster s line).after lines in
+        ap (λ b. after_lines roster s (kept_line b line ++ rest)) e
+        ∙ (λ k. after_lines (sym (still_roster roster s line e) k) (sym (unkept roster s line e) k) rest)
+        ∙ ih
+
+pub replayed_roster : (roster : List (List ℕ × ℕ)) (s : State) (lines : List (List ℕ)) → roster_after_lines roster (kept_lines roster s lines) ≡ roster_after_lines roster lines
+replayed_roster roster s [] = refl
+replayed_roster roster s (line ∷ lines) = go (site_says roster s line).kept refl (replayed_roster (roster_after roster line) (site_says roster s line).after lines)
+  where
+    go : (b : Bool) → (site_says roster s line).kept ≡ b
+        → roster_after_lines (roster_after roster line) (kept_lines (roster_after roster line) (site_says roster s line).after lines) ≡ roster_after_lines (roster_after roster line) lines
+        → roster_after_lines roster (kept_lines roster s (line ∷ lines)) ≡ roster_after_lines roster (line ∷ lines)
+    go true e ih =
+        let rest = kept_lines (roster_after roster line) (site_says roster s line).after lines in
+        ap (λ b. roster_after_lines roster (kept_line b line ++ rest)) e ∙ ih
+    go false e ih =
+        let rest = kept_lines (roster_after roster line) (site_says roster s line).after lines in
+        ap (λ b. roster_after_lines roster (kept_line b line ++ rest)) e
+        ∙ (λ k. roster_after_lines (sym (still_roster roster s line e) k) rest)
+        ∙ ih
+
+pub kept_again : (roster : List (List ℕ × ℕ)) (s : State) (lines : List (List ℕ)) → kept_lines roster s (kept_lines roster s lines) ≡ kept_lines roster s lines
+kept_again roster s [] = refl
+kept_again roster s (line ∷ lines) = go (site_says roster s line).kept refl (kept_again (roster_after roster line) (site_says roster s line).after lines)
+  where
+    go : (b : Bool) → (site_says roster s line).kept ≡ b
+        → kept_lines (roster_after roster line) (site_says roster s line).after (kept_lines (roster_after roster line) (site_says roster s line).after lines) ≡ kept_lines (roster_after roster line) (site_says roster s line).after lines
+        → kept_lines roster s (kept_lines roster s (line ∷ lines)) ≡ kept_lines roster s (line ∷ lines)
+    go true e ih =
+        let rest = kept_lines (roster_after roster line) (site_says roster s line).after lines in
+        ap (λ b. kept_lines roster s (kept_line b line ++ rest)) e
+        ∙ ap (λ b. kept_line b line ++ kept_lines (roster_after roster line) (site_says roster s line).after rest) e
+        ∙ ap (λ ls. line ∷ ls) ih
+        ∙ sym (ap (λ b. kept_line b line ++ rest) e)
+    go false e ih =
+        let rest = kept_lines (roster_after roster line) (site_says roster s line).after lines in
+        ap (λ b. kept_lines roster s (kept_line b line ++ rest)) e
+        ∙ (λ k. kept_lines (sym (still_roster roster s line e) k) (sym (unkept roster s line e) k) rest)
+        ∙ ih
+        ∙ sym (ap (λ b. kept_line b line ++ rest) e)

@@ -3,29 +3,30 @@ use Rattle.std.specs.Prelude.{◌≡◌, ℕ, Bool, List, [], ◌∷◌, ◌++�
 use Rattle.fed_replica.specs.State.{State, state_of}
 use Rattle.fed_site.specs.declared.site.Answered.{Answered}
 use Rattle.fed_site.specs.Answered.{bytes_of, kept_of, complaint_of}
+use Rattle.fed_site.specs.Rosters.{roster_after}
 use Rattle.fed_site.specs.Site.{SiteValue}
 use Rattle.fed_site.specs.Says.{Said, site_says, IsReply}
 
--- this was answered, and the site is what is left
-pub record SaidAs (old new : SiteValue) (answer : Answered) (said : Said) : Type 0 where
-  pub roster : new.roster ≡ old.roster
+-- this was answered, and the site is what is left, with this roster
+pub record SaidAs (old new : SiteValue) (answer : Answered) (left : List (List ℕ × ℕ)) (said : Said) : Type 0 where
+  pub roster : new.roster ≡ left
   pub after : state_of new.replica ≡ said.after
   pub reply : IsReply (state_of old.replica) said.reply (bytes_of answer)
   pub keeps : kept_of answer ≡ said.kept
   pub complains : complaint_of answer ≡ said.complaint
 
-module _ (roster : List (List ℕ × ℕ)) where
-  -- the state after lines
-  abbrev pub after_lines : State → List (List ℕ) → State
-  after_lines s [] = s
-  after_lines s (line ∷ lines) = after_lines (site_says roster s line).after lines
+-- the state after lines, of a site that knows this roster
+abbrev pub after_lines : List (List ℕ × ℕ) → State → List (List ℕ) → State
+after_lines roster s [] = s
+after_lines roster s (line ∷ lines) = after_lines (roster_after roster line) (site_says roster s line).after lines
 
-  -- the line, if it is to be kept
-  abbrev pub kept_line : Bool → List ℕ → List (List ℕ)
-  kept_line kept line = if kept then line ∷ [] else []
+-- the line, if it is to be kept
+abbrev pub kept_line : Bool → List ℕ → List (List ℕ)
+kept_line kept line = if kept then line ∷ [] else []
 
-  -- the lines that are kept
-  abbrev pub kept_lines : State → List (List ℕ) → List (List ℕ)
-  kept_lines s [] = []
-  kept_lines s (line ∷ lines) =
-      kept_line (site_says roster s line).kept line ++ kept_lines (site_says roster s line).after lines
+-- the lines that are kept
+abbrev pub kept_lines : List (List ℕ × ℕ) → State → List (List ℕ) → List (List ℕ)
+kept_lines roster s [] = []
+kept_lines roster s (line ∷ lines) =
+    kept_line (site_says roster s line).kept line
+    ++ kept_lines (roster_after roster line) (site_says roster s line).after lines

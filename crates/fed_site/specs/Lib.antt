@@ -2,6 +2,7 @@
 pub mod Site
 pub mod Line
 pub mod Packets
+pub mod Rosters
 pub mod Says
 pub mod Acts
 pub mod Answered

@@ -1,5 +1,5 @@
 -- What a site says to a line, what it holds then, whether the line is to be kept, and why it isn't done as it asks.
-use Rattle.std.specs.Prelude.{◌≡◌, ℕ, ◌+◌, Bool, false, ◌||◌, List, [], ◌∷◌, ◌++◌, codes, Option, Some, None, is_none, Result, Ok, Err, if◌then◌else◌}
+use Rattle.std.specs.Prelude.{◌≡◌, ℕ, ◌+◌, Bool, false, ◌||◌, not, List, [], ◌∷◌, ◌++◌, codes, Option, Some, None, is_none, Result, Ok, Err, if◌then◌else◌}
 use Rattle.std.specs.Option.{option_map, option_or}
 use Rattle.fed_model.specs.declared.askers.Who.{Who}
 use Rattle.fed_model.specs.declared.commands.Command.{Command}
@@ -20,6 +20,7 @@ use Rattle.fed_looks.specs.LookText.{look_text}
 use Rattle.fed_site.specs.declared.complaints.Complaint.{Complaint}
 use Rattle.fed_site.specs.Line.{packet_text}
 use Rattle.fed_site.specs.Packets.{is_foreign, is_forgotten, unread_text, IsPacketText}
+use Rattle.fed_site.specs.Rosters.{are_same, next_roster, told_in}
 
 -- a text, or that of the packet for a site
 pub data Reply : Type 0 where
@@ -141,6 +142,17 @@ module _ (roster : List (List ℕ × ℕ)) where
   after_text s line None = after_look s line (look_in_line roster s.site line)
   after_text s line (Some text) = said_of (after_reading s (packet_in text))
 
+  -- ---- rosters
+  -- of a roster that is told a site says whether it goes on with the one that it knows, and it is kept where it differs
+  abbrev pub after_next : State → Option (List (List ℕ × ℕ)) → Done
+  after_next s None = undone s (answer_line (codes "other roster")) Complaint.OtherRoster
+  after_next s (Some sites) =
+      record { after = s; text = answer_line (codes "done"); kept = not (are_same roster sites); complaint = None }
+
+  abbrev pub after_roster : State → List ℕ → Option (Option (List (List ℕ × ℕ))) → Said
+  after_roster s line None = after_text s line (packet_text line)
+  after_roster s line (Some told) = said_of (after_next s (next_roster roster told))
+
   -- what a site says to a line
   abbrev pub site_says : State → List ℕ → Said
-  site_says s line = after_text s line (packet_text line)
+  site_says s line = after_roster s line (told_in line)

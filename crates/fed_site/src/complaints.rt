@@ -25,6 +25,8 @@ pub enum Complaint {
     Gap(SiteId),
     /// What the board says runs at the site fits no machine, so that there is no plan.
     NoPlan,
+    /// The roster that is told doesn't begin with the names of the one that the site knows.
+    OtherRoster,
 }
 
 /// What a refusal says to the user.
@@ -132,6 +134,10 @@ impl fmt::Display for Complaint {
             Complaint::NoPlan => write!(
                 f,
                 "no plan: what the packets say runs here fits no machine"
+            ),
+            Complaint::OtherRoster => write!(
+                f,
+                "other roster: it doesn't begin with the names that this site knows, in their order"
             ),
         }
     }

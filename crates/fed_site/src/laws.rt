@@ -1,6 +1,7 @@
 //! Laws of what sites say and keep. Each function does nothing: its contract is the law.
-ghost use Rattle.std.specs.Prelude.{◌≡◌, ◌<◌, ℕ, List, Some, drop, false, length, nat_lt};
+ghost use Rattle.std.specs.Prelude.{◌≡◌, ◌<◌, ℕ, List, Some, drop, false, true, length, nat_lt};
 ghost use Rattle.std.specs.List.{list_any};
+ghost use Rattle.fed_stamp.specs.Roster.{IsRoster, name_at};
 ghost use Rattle.fed_lattice.specs.History.{History};
 ghost use Rattle.fed_model.specs.Body.{Body};
 ghost use Rattle.fed_model.specs.Lawful.{IsLawful};
@@ -10,6 +11,7 @@ ghost use Rattle.fed_replica.specs.State.{State, IsMadeFor};
 ghost use Rattle.fed_site.specs.Journal.{after_lines, kept_lines};
 ghost use Rattle.fed_site.specs.Known.{known_in, unheard};
 ghost use Rattle.fed_site.specs.Packets.{IsPacketText};
+ghost use Rattle.fed_site.specs.Rosters.{begins, roster_after, roster_after_lines};
 ghost use Rattle.fed_site.specs.Says.{site_says};
 
 use fed_board::records_that_read_the_same_are_equal;
@@ -17,12 +19,25 @@ use fed_wire::Packet;
 
 /// A line that isn't kept changes nothing.
 pub fn lines_that_are_not_kept_change_nothing()
-    ensures { (roster : List (List ℕ × ℕ)) (s : State) (line : List ℕ) →
+    ensures state { (roster : List (List ℕ × ℕ)) (s : State) (line : List ℕ) →
         (site_says roster s line).kept ≡ false → (site_says roster s line).after ≡ s }
+    ensures roster { (roster : List (List ℕ × ℕ)) (s : State) (line : List ℕ) →
+        (site_says roster s line).kept ≡ false → roster_after roster line ≡ roster }
+{}
+
+/// The roster that a site knows once it has answered a line is a roster that begins with the names of the one from before.
+/// So a site keeps its number, and so does each site that it has heard of.
+pub fn rosters_go_on()
+    ensures roster { (roster : List (List ℕ × ℕ)) (line : List ℕ) → IsRoster roster → IsRoster (roster_after roster line) }
+    ensures begins { (roster : List (List ℕ × ℕ)) (line : List ℕ) → begins roster (roster_after roster line) ≡ true }
+    ensures numbers { (known sites : List (List ℕ × ℕ)) (i : ℕ) → begins known sites ≡ true → i < length known →
+        name_at sites i ≡ name_at known i }
 {}
 
 /// The replay of the lines that were kept leaves what all the lines have left, and keeps them all again.
 pub fn kept_lines_are_enough()
+    ensures roster { (roster : List (List ℕ × ℕ)) (s : State) (lines : List (List ℕ)) →
+        roster_after_lines roster (kept_lines roster s lines) ≡ roster_after_lines roster lines }
     ensures state { (roster : List (List ℕ × ℕ)) (s : State) (lines : List (List ℕ)) →
         after_lines roster s (kept_lines roster s lines) ≡ after_lines roster s lines }
     ensures again { (roster : List (List ℕ × ℕ)) (s : State) (lines : List (List ℕ)) →

@@ -12,17 +12,22 @@ mod knowing;
 pub mod laws;
 /// What the user is told of words that ask nothing.
 mod misused;
+/// What the user is told of rosters that don't go on with the site's.
+mod other_rosters;
 /// What a site does to the texts of packets.
 mod packets;
 /// What the user is told of a line.
 mod reasons;
 /// What the user is told of commands that are refused.
 mod refused;
+/// The line that tells a site the roster.
+mod rosters;
 /// Sites.
 pub mod site;
 /// Answers, and what the user is told beside them.
 pub mod tellings;
 
 pub use complaints::Complaint;
+pub use rosters::are_same_rosters;
 pub use site::{Answered, Site};
 pub use tellings::{Told, words_beside};

@@ -2,6 +2,7 @@
 
 use crate::complaints::Complaint;
 use crate::misused::misused_text;
+use crate::other_rosters::other_roster_text;
 use crate::refused::refused_text;
 use crate::site::Site;
 use fed_easy::used_nodes;
@@ -37,6 +38,7 @@ pub fn reason_text(
         Complaint::Refused { index, refusal } => refused_text(alloc, site, line, *index, *refusal)?,
         Complaint::Misused(fault) => misused_text(alloc, site, line, *fault)?,
         Complaint::Gap(lacking) => Some(gap_text(alloc, site, *lacking)?),
+        Complaint::OtherRoster => other_roster_text(alloc, site, line)?,
         _ => None,
     };
     match told {

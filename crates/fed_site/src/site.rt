@@ -14,12 +14,14 @@ ghost use Rattle.fed_site.specs.Journal.{SaidAs, after_lines};
 ghost use Rattle.fed_site.specs.Known.{heard_line as line_of_heard, known_in, unheard};
 ghost use Rattle.fed_site.specs.Line.{packet_text as packet_text_in};
 ghost use Rattle.fed_site.specs.Packets.{IsPacketText};
-ghost use Rattle.fed_site.specs.Says.{after_line, after_look, after_told, site_says};
+ghost use Rattle.fed_site.specs.Rosters.{next_roster, roster_after, roster_after_lines, roster_told};
+ghost use Rattle.fed_site.specs.Says.{after_line, after_look, after_next, after_text, after_told, said_of, site_says};
 
 use crate::acts::{Done, act, undone};
 use crate::complaints::Complaint;
 use crate::knowing::{heard_line, known, known_text};
 use crate::packets::{ship, take};
+use crate::rosters::{are_same_rosters, begins, told_roster};
 use fed_board::Board;
 use fed_lattice::NoMemory;
 use fed_looks::{Look, look_of_line, look_text};
@@ -79,7 +81,7 @@ impl Answered {
     }
 }
 
-/// One site of a roster. What it holds is its replica.
+/// One site of a roster, which may go on. What it holds is its replica.
 #[derive(Drop)]
 pub struct Site {
     roster: BoxedRoster,
@@ -149,6 +151,15 @@ fn unreadable() -> Answered
     done_answer(undone(CowStr::Borrowed("cannot be read\n"), Complaint::Unreadable))
 }
 
+/// The answer to a roster that doesn't go on with the one that is known.
+fn other_roster() -> Answered
+    ensures bytes { bytes_of result ≡ answer_line (codes "other roster") }
+    ensures kept { kept_of result ≡ false }
+    ensures complaint { complaint_of result ≡ Some Complaint.OtherRoster }
+{
+    done_answer(undone(CowStr::Borrowed("other roster\n"), Complaint::OtherRoster))
+}
+
 /// Whether the line has a line feed.
 fn has_line_feed(line: &[u8]) -> bool
     ensures { result ≡ list_any (nat_eq 10) line.now }
@@ -211,7 +222,7 @@ impl Site {
 
     /// Does what a line says.
     fn do_line(&mut self, alloc: Global, line: Line) -> Result<Answered, NoMemory>
-        ensures said { IfOk result (λ a. SaidAs self.old self.new a
+        ensures said { IfOk result (λ a. SaidAs self.old self.new a self.old.roster
             (after_line self.old.roster (state_of self.old.replica) (said_by line))) }
         ensures unchanged { OnErr result (self.new ≡ self.old) }
     {
@@ -244,7 +255,7 @@ impl Site {
 
     /// Does what a line says, if it can be read.
     fn do_told(&mut self, alloc: Global, line: Option<Line>) -> Result<Answered, NoMemory>
-        ensures said { IfOk result (λ a. SaidAs self.old self.new a
+        ensures said { IfOk result (λ a. SaidAs self.old self.new a self.old.roster
             (after_told self.old.roster (state_of self.old.replica) (option_map said_by line))) }
         ensures unchanged { OnErr result (self.new ≡ self.old) }
     {
@@ -261,7 +272,7 @@ impl Site {
         line: &[u8],
         look: Option<Look>,
     ) -> Result<Answered, NoMemory>
-        ensures said { IfOk result (λ a. SaidAs self.old self.new a
+        ensures said { IfOk result (λ a. SaidAs self.old self.new a self.old.roster
             (after_look self.old.roster (state_of self.old.replica) line.now (option_map asked_by look))) }
         ensures unchanged { OnErr result (self.new ≡ self.old) }
     {
@@ -277,10 +288,10 @@ impl Site {
         }
     }
 
-    /// Answers a line. Where memory is refused, the site holds what it held.
-    pub fn answer(&mut self, alloc: Global, line: &[u8]) -> Result<Answered, NoMemory>
-        ensures said { IfOk result (λ a. SaidAs self.old self.new a
-            (site_says self.old.roster (state_of self.old.replica) line.now)) }
+    /// Takes the packet of a line, or does what the line says where it carries none.
+    fn do_text(&mut self, alloc: Global, line: &[u8]) -> Result<Answered, NoMemory>
+        ensures said { IfOk result (λ a. SaidAs self.old self.new a self.old.roster
+            (after_text self.old.roster (state_of self.old.replica) line.now (packet_text_in line.now))) }
         ensures unchanged { OnErr result (self.new ≡ self.old) }
     {
         match packet_text(line) {
@@ -295,9 +306,42 @@ impl Site {
         }
     }
 
+    /// Is told a roster, or words that name none.
+    fn take_roster(&mut self, told: Option<BoxedRoster>) -> Answered
+        ensures { SaidAs self.old self.new result (roster_told self.old.roster (Some told))
+            (said_of (after_next self.old.roster (state_of self.old.replica) (next_roster self.old.roster told))) }
+    {
+        let Some(roster) = told else {
+            return other_roster();
+        };
+        if !begins(self.roster.get(), roster.get()) {
+            return other_roster();
+        }
+        let kept = !are_same_rosters(self.roster.get(), roster.get());
+        self.roster = roster;
+        Answered::Text {
+            text: CowStr::Borrowed("done\n"),
+            kept,
+            complaint: None,
+        }
+    }
+
+    /// Answers a line. Where memory is refused, the site holds what it held.
+    pub fn answer(&mut self, alloc: Global, line: &[u8]) -> Result<Answered, NoMemory>
+        ensures said { IfOk result (λ a. SaidAs self.old self.new a (roster_after self.old.roster line.now)
+            (site_says self.old.roster (state_of self.old.replica) line.now)) }
+        ensures unchanged { OnErr result (self.new ≡ self.old) }
+    {
+        match told_roster(alloc, line)? {
+            Some(told) => Ok(self.take_roster(told)),
+            None => self.do_text(alloc, line),
+        }
+    }
+
     /// Answers these lines, one after another. Where memory is refused, the site may have answered some of them.
     pub fn replay(&mut self, alloc: Global, lines: &[&[u8]]) -> Result<(), NoMemory>
-        ensures roster { OnOk result (self.new.roster ≡ self.old.roster) }
+        ensures roster { OnOk result (self.new.roster ≡
+            roster_after_lines self.old.roster (map (λ line. line.now) lines.now)) }
         ensures replay { OnOk result (state_of self.new.replica ≡
             after_lines self.old.roster (state_of self.old.replica) (map (λ line. line.now) lines.now)) }
     {
@@ -315,7 +359,7 @@ impl Site {
         lines: &[&[u8]],
     ) -> Result<Site, NoMemory>
         requires { here < length roster }
-        ensures roster { IfOk result (λ site. site.roster ≡ roster) }
+        ensures roster { IfOk result (λ site. site.roster ≡ roster_after_lines roster (map (λ line. line.now) lines.now)) }
         ensures replay { IfOk result (λ site. state_of site.replica ≡
             after_lines roster (empty_at here) (map (λ line. line.now) lines.now)) }
     {

@@ -1,6 +1,6 @@
 -- What commands do in a run is what the site does.
 use Rattle.std.specs.Prelude.{map, Some, None}
-use Rattle.std.proofs.Common.{◌≡◌, ◌≢◌, ◌≤◌, ◌<◌, ◌+◌, ℕ, List, [], ◌∷◌, ◌++◌, All, length, refl, sym, subst, ap, ◌∙◌}
+use Rattle.std.proofs.Common.{◌≡◌, ◌≢◌, ◌≤◌, ◌<◌, ◌+◌, ℕ, List, [], ◌∷◌, ◌++◌, All, refl, sym, subst, ap, ◌∙◌}
 use Rattle.std.proofs.lemmas.List.Elements.{All-head, All-tail}
 use Rattle.fed_lattice.specs.VersionOf.{version_of}
 use Rattle.fed_model.specs.declared.askers.Who.{Who}
@@ -34,10 +34,7 @@ pub record IsStepped (roster : List (List ℕ × ℕ)) (i : ℕ) (w : World) (s 
   pub packets : s.after.packets ≡ w.packets
   pub text : done.text ≡ answer_line (outcome_text roster s.outcome)
 
-module _ (roster : List (List ℕ × ℕ)) (few : length roster ≤ 16) (i : ℕ) (small : i < length roster) (who : Who) where
-  abbrev n : ℕ
-  n = length roster
-
+module _ (n : ℕ) (few : n ≤ 16) (roster : List (List ℕ × ℕ)) (i : ℕ) (small : i < n) (who : Who) where
   does_stepped : (w : World) → Reached n w → (index : ℕ) (command : Command) (a : Answer) → answer (w.site i).set i who command ≡ a → IsStepped roster i w (does w i a) (does_at roster (state_at i (w.site i)) index a)
   does_stepped w r index command (Refuses refusal) is = record { after = refl; others = λ j apart. refl; packets = refl; text = refl }
   does_stepped w r index command (Replies reply None) is = record { after = refl; others = λ j apart. refl; packets = refl; text = refl }

@@ -1,41 +1,76 @@
--- No text that was shipped is taken for a stranger's, or tells that a site forgot.
-use Rattle.std.specs.Prelude.{suc, Some}
+-- No text that was shipped tells that a site forgot, or is a stranger's where the site knows all sites.
+use Rattle.std.specs.Prelude.{suc, Some, Ok, Result}
 use Rattle.std.specs.List.{position_or_len}
-use Rattle.std.proofs.Common.{◌≡◌, ◌≤◌, ℕ, List, length, refl, sym, subst, ap, ◌∙◌}
+use Rattle.std.proofs.Common.{◌≡◌, ◌≤◌, ℕ, List, false, length, refl, sym, subst, ap, ◌∙◌}
+use Rattle.std.proofs.lemmas.Bool.{cond-true}
+use Rattle.fed_lattice.specs.Sets.{Has}
+use Rattle.fed_wire.specs.declared.faults.WireFault.{WireFault}
+use Rattle.fed_wire.specs.Packet.{PacketValue}
 use Rattle.fed_wire.specs.Reading.{packet_in}
 use Rattle.fed_replica.specs.State.{State}
 use Rattle.fed_model.specs.Run.{World, run_from, start}
 use Rattle.fed_theory.proofs.Runs.{packet_Has}
 use Rattle.fed_site.specs.Line.{packet_text}
-use Rattle.fed_site.specs.Says.{after_reading, after_text, said_of, site_says}
+use Rattle.fed_site.specs.Packets.{is_foreign}
+use Rattle.fed_site.specs.Says.{after_reading, after_roster, after_text, said_of, site_says}
+use Rattle.fed_site.proofs.RosterLines.{packet_tells_none}
 use Rattle.fed_turns.specs.Alarm.{RaisesNoAlarm}
 use Rattle.fed_turns.specs.Turn.{Course, MayTurns, Turn, WasShipped, after_turns, beginning}
 use Rattle.fed_turns.specs.Run.{StandsFor, events_from, is_read_in, state_at}
-use Rattle.fed_turns.proofs.Packets.{found, placed}
-use Rattle.fed_turns.proofs.Reached.{run_reached, start_reached}
+use Rattle.fed_turns.proofs.Packets.{IsFound, found, placed}
+use Rattle.fed_turns.proofs.Reached.{Reached, run_reached, start_reached}
 use Rattle.fed_turns.proofs.Takes.{is_known, is_read, is_remembered, reads_receipt}
-use Rattle.fed_turns.proofs.Turns.{turns_played}
+use Rattle.fed_turns.proofs.Turns.{ArePlayed, turns_played}
 
-pub start_stands : StandsFor beginning start
-start_stands = record { sites = λ i. refl; shipped = tt }
+pub start_stands : (rosters : ℕ → List (List ℕ × ℕ)) → StandsFor (beginning rosters) start
+start_stands rosters = record { sites = λ i. refl; shipped = tt }
 
-module _ (roster : List (List ℕ × ℕ)) where
-  pub no_alarm : length roster ≤ 16 → (turns : List Turn) (i : ℕ) (line text : List ℕ) → MayTurns roster beginning turns → packet_text line ≡ Some text
-      → WasShipped (after_turns roster beginning turns).shipped text
-      → RaisesNoAlarm roster ((after_turns roster beginning turns).site i) line text
-  no_alarm few turns i line text may is was =
-      let played = turns_played roster few turns beginning start start_stands (start_reached (length roster)) may in
-      let c : Course = after_turns roster beginning turns in
-      let reached = run_reached (length roster) (events_from roster beginning turns) start played.ranged (start_reached (length roster)) in
-      let w : World = run_from (length roster) start (events_from roster beginning turns) in
-      let it = found text w.packets c.shipped played.stands.shipped (placed text w.packets c.shipped was.0 played.stands.shipped was.1 was.2) in
-      let posted = packet_Has w (suc (position_or_len (is_read_in text) c.shipped)) it.packet it.is in
-      let told : (s : State) → site_says roster s line ≡ said_of (after_reading roster s (packet_in text)) = λ s. ap (after_text roster s line) is in
+some_packet : (p q : PacketValue) (r : Result PacketValue WireFault) → r ≡ Ok p → r ≡ Ok q → p ≡ q
+some_packet p q r e f = let same : ◌≡◌ {A = Result PacketValue WireFault} (Ok p) (Ok q) = sym e ∙ f in cc
+
+module _ (whole : List (List ℕ × ℕ)) (few : length whole ≤ 16) (rosters : ℕ → List (List ℕ × ℕ)) (turns : List Turn) (may : MayTurns whole (beginning rosters) turns)
+    (text : List ℕ) (was : WasShipped (after_turns (beginning rosters) turns).shipped text) where
+  abbrev n : ℕ
+  n = length whole
+
+  abbrev c : Course
+  c = after_turns (beginning rosters) turns
+
+  abbrev w : World
+  w = run_from n start (events_from (beginning rosters) turns)
+
+  played : ArePlayed whole few (beginning rosters) start turns
+  played = turns_played whole few turns (beginning rosters) start (start_stands rosters) (start_reached n) may
+
+  reached : Reached n w
+  reached = run_reached n (events_from (beginning rosters) turns) start played.ranged (start_reached n)
+
+  it : IsFound w.packets text (position_or_len (is_read_in text) c.shipped)
+  it = found text w.packets c.shipped played.stands.shipped (placed text w.packets c.shipped was.0 played.stands.shipped was.1 was.2)
+
+  posted : Has w.packets it.packet
+  posted = packet_Has w (suc (position_or_len (is_read_in text) c.shipped)) it.packet it.is
+
+  reads : (i : ℕ) → packet_in text ≡ Ok it.of.sent
+  reads i = it.reads ∙ is_read n few w reached i it.packet posted it.shipped it.of
+
+  pub all_known : (i : ℕ) (packet : PacketValue) → packet_in text ≡ Ok packet → n ≤ length (c.roster i) → is_foreign (c.roster i) packet ≡ false
+  all_known i packet e all =
+      subst (λ (p : PacketValue). is_foreign (c.roster i) p ≡ false) (some_packet it.of.sent packet (packet_in text) (reads i) e)
+      (is_known n few w reached i it.packet posted it.shipped it.of (c.roster i) all)
+
+  pub no_alarm : (i : ℕ) (line : List ℕ) → packet_text line ≡ Some text → RaisesNoAlarm (c.roster i) (c.site i) line text
+  no_alarm i line is =
+      let roster = c.roster i in
+      let told : (s : State) → site_says roster s line ≡ said_of (after_reading roster s (packet_in text)) =
+      λ s. ap (after_roster roster s line) (packet_tells_none line text is) ∙ ap (after_text roster s line) is in
       let here : State = state_at i (w.site i) in
       subst (λ (s : State). RaisesNoAlarm roster s line text) (sym (played.stands.sites i)) (record {
         packet = it.of.sent;
-        read = it.reads ∙ is_read roster few w reached i it.packet posted it.shipped it.of;
-        known = is_known roster few w reached i it.packet posted it.shipped it.of;
-        remembered = is_remembered roster few w reached i it.packet posted it.shipped it.of;
-        said = told here ∙ ap (λ o. said_of (after_reading roster here o)) it.reads ∙ ap said_of (reads_receipt roster few w reached i it.packet posted it.shipped it.of);
+        read = reads i;
+        remembered = is_remembered n few w reached i it.packet posted it.shipped it.of;
+        said = λ known. told here ∙ ap (λ o. said_of (after_reading roster here o)) it.reads
+            ∙ ap said_of (reads_receipt n few w reached i it.packet posted it.shipped it.of roster known);
+        foreign = λ far. told here ∙ ap (λ o. said_of (after_reading roster here o)) (reads i)
+            ∙ ap said_of (cond-true (is_foreign roster it.of.sent) _ _ far);
       })

@@ -12,12 +12,13 @@ use Rattle.fed_model.specs.Run.{World, run, outcomes_from, start, step}
 use Rattle.fed_theory.proofs.Begins.{done_once}
 use Rattle.fed_script.specs.Line.{acts}
 use Rattle.fed_qstat.specs.Outcome.{answer_line, outcome_text}
-use Rattle.fed_turns.specs.Crash.{Happening, answered, turns_from, turns_of}
+use Rattle.fed_turns.specs.Crash.{Happening, answered, turns_from}
+use Rattle.fed_turns.specs.Home.{course_of}
 use Rattle.fed_turns.specs.Own.{AsksToBegin}
-use Rattle.fed_turns.specs.Run.{Deed, IsDeedAnswer, StandsFor, deed_of, does, events_at, events_done, events_from, looked, numbered}
-use Rattle.fed_turns.specs.Turn.{Course, MayTurn, MayTurns, Turn, after_turn, after_turns, beginning}
+use Rattle.fed_turns.specs.Run.{Deed, IsDeedAnswer, StandsFor, deed_of, does, events_at, events_done, events_from, heard, looked, numbered}
+use Rattle.fed_turns.specs.Turn.{Course, MayTurn, MayTurns, Turn, after_turn, after_turns, beginning, roster_at}
 use Rattle.fed_turns.proofs.Alarms.{start_stands}
-use Rattle.fed_turns.proofs.Crashes.{after_append}
+use Rattle.fed_turns.proofs.Crashes.{turns_more}
 use Rattle.fed_turns.proofs.Reached.{Reached, run_reached, start_reached}
 use Rattle.fed_turns.proofs.Turns.{turn_played, turns_played}
 
@@ -39,85 +40,91 @@ done_replies roster (Outcome.Gap site) e = let b : 103 ≡ 100 = first_byte _ _ 
 done_replies roster Outcome.NoPacket e = let b : 110 ≡ 100 = first_byte _ _ _ _ e in absurd (omega (arith, b))
 done_replies roster Outcome.NoSite e = let b : 110 ≡ 100 = first_byte _ _ _ _ e in absurd (omega (arith, b))
 
-module _ (roster : List (List ℕ × ℕ)) where
-  -- ---- turns before a turn, and behind it
-  first_turns : (c : Course) (ts : List Turn) (t : Turn) (later : List Turn) → MayTurns roster c (ts ++ t ∷ later) → MayTurns roster c ts
-  first_turns c [] t later may = tt
-  first_turns c (s ∷ ts) t later may = (may.0, first_turns (after_turn roster c s) ts t later may.1)
+-- ---- turns before a turn, and behind it
+first_turns : (whole : List (List ℕ × ℕ)) (c : Course) (ts : List Turn) (t : Turn) (later : List Turn) → MayTurns whole c (ts ++ t ∷ later) → MayTurns whole c ts
+first_turns whole c [] t later may = tt
+first_turns whole c (s ∷ ts) t later may = (may.0, first_turns whole (after_turn c s) ts t later may.1)
 
-  next_turn : (c : Course) (ts : List Turn) (t : Turn) (later : List Turn) → MayTurns roster c (ts ++ t ∷ later) → MayTurn roster (after_turns roster c ts) t
-  next_turn c [] t later may = may.0
-  next_turn c (s ∷ ts) t later may = next_turn (after_turn roster c s) ts t later may.1
+next_turn : (whole : List (List ℕ × ℕ)) (c : Course) (ts : List Turn) (t : Turn) (later : List Turn) → MayTurns whole c (ts ++ t ∷ later) → MayTurn whole (after_turns c ts) t
+next_turn whole c [] t later may = may.0
+next_turn whole c (s ∷ ts) t later may = next_turn whole (after_turn c s) ts t later may.1
 
-  events_append : (ts us : List Turn) (c : Course) → events_from roster c (ts ++ us) ≡ events_from roster c ts ++ events_from roster (after_turns roster c ts) us
-  events_append [] us c = refl
-  events_append (t ∷ ts) us c =
-      ap (λ l. events_at roster c t ++ l) (events_append ts us (after_turn roster c t))
-      ∙ sym (append_assoc (events_at roster c t) (events_from roster (after_turn roster c t) ts) (events_from roster (after_turns roster (after_turn roster c t) ts) us))
+events_append : (ts us : List Turn) (c : Course) → events_from c (ts ++ us) ≡ events_from c ts ++ events_from (after_turns c ts) us
+events_append [] us c = refl
+events_append (t ∷ ts) us c =
+    ap (λ l. events_at c t ++ l) (events_append ts us (after_turn c t))
+    ∙ sym (append_assoc (events_at c t) (events_from (after_turn c t) ts) (events_from (after_turns (after_turn c t) ts) us))
 
-  -- ---- what a line that asks to begin a job does
-  abbrev begin : (t : Turn) (job : StampValue) → AsksToBegin roster t.site t.line job → Event
-  begin t job asks = Do t.site asks.who (Command.Begin job asks.moment)
+-- ---- what a line that asks to begin a job does
+abbrev begin : (roster : List (List ℕ × ℕ)) (t : Turn) (job : StampValue) → AsksToBegin roster t.site t.line job → Event
+begin roster t job asks = Do t.site asks.who (Command.Begin job asks.moment)
 
-  deed_is : (c : Course) (t : Turn) (job : StampValue) (asks : AsksToBegin roster t.site t.line job) → deed_of roster c t ≡ does (Some (acts t.site asks.who (Command.Begin job asks.moment ∷ [])))
-  deed_is c t job asks = ap (numbered roster c t) asks.packet ∙ ap (looked roster t) asks.look ∙ ap does asks.says
+deed_is : (c : Course) (t : Turn) (job : StampValue) (asks : AsksToBegin (c.roster t.site) t.site t.line job) → deed_of c t ≡ does (Some (acts t.site asks.who (Command.Begin job asks.moment ∷ [])))
+deed_is c t job asks =
+    let roster = c.roster t.site in
+    ap (heard roster c t) asks.told ∙ ap (numbered roster c t) asks.packet ∙ ap (looked roster t) asks.look ∙ ap does asks.says
 
-  events_are : (c : Course) (t : Turn) (job : StampValue) (asks : AsksToBegin roster t.site t.line job) → events_at roster c t ≡ begin t job asks ∷ []
-  events_are c t job asks = ap events_done (deed_is c t job asks)
+events_are : (c : Course) (t : Turn) (job : StampValue) (asks : AsksToBegin (c.roster t.site) t.site t.line job) → events_at c t ≡ begin (c.roster t.site) t job asks ∷ []
+events_are c t job asks = ap events_done (deed_is c t job asks)
 
-  module _ (few : length roster ≤ 16) where
-    abbrev n : ℕ
-    n = length roster
+module _ (whole : List (List ℕ × ℕ)) (few : length whole ≤ 16) where
+  abbrev n : ℕ
+  n = length whole
 
-    done_at : (c : Course) (w : World) (t : Turn) (job : StampValue) (asks : AsksToBegin roster t.site t.line job) → StandsFor c w → Reached n w → MayTurn roster c t → t.answer ≡ answer_line (codes "done")
-        → (reply : Reply) × ((step n w (begin t job asks)).outcome ≡ Outcome.Replied reply)
-    done_at c w t job asks stands r may e =
-        let o : Outcome = (step n w (begin t job asks)).outcome in
-        let told : t.answer ≡ answer_line (outcome_text roster o) ++ [] =
-        subst (λ (d : Deed). IsDeedAnswer roster w t.site d (outcomes_from n w (events_done d)) t.answer) (deed_is c t job asks) (turn_played roster few c w t stands r may).answered in
-        done_replies roster o (append_cancel_right (outcome_text roster o) (codes "done") (10 ∷ []) (sym (append-nil (answer_line (outcome_text roster o))) ∙ sym told ∙ e))
+  done_at : (c : Course) (w : World) (t : Turn) (job : StampValue) (asks : AsksToBegin (c.roster t.site) t.site t.line job) → StandsFor c w → Reached n w → MayTurn whole c t → t.answer ≡ answer_line (codes "done")
+      → (reply : Reply) × ((step n w (begin (c.roster t.site) t job asks)).outcome ≡ Outcome.Replied reply)
+  done_at c w t job asks stands r may e =
+      let roster = c.roster t.site in
+      let o : Outcome = (step n w (begin roster t job asks)).outcome in
+      let told : t.answer ≡ answer_line (outcome_text roster o) ++ [] =
+      subst (λ (d : Deed). IsDeedAnswer roster w t.site d (outcomes_from n w (events_done d)) t.answer) (deed_is c t job asks) (turn_played whole few c w t stands r may).answered in
+      done_replies roster o (append_cancel_right (outcome_text roster o) (codes "done") (10 ∷ []) (sym (append-nil (answer_line (outcome_text roster o))) ∙ sym told ∙ e))
 
+  module _ (rosters : ℕ → List (List ℕ × ℕ)) where
     -- after turns that may be, where the next may be too
-    done_after : (early : List Turn) (t : Turn) (later : List Turn) (job : StampValue) (asks : AsksToBegin roster t.site t.line job) → MayTurns roster beginning (early ++ t ∷ later) → t.answer ≡ answer_line (codes "done")
-        → (reply : Reply) × ((step n (run n (events_from roster beginning early)) (begin t job asks)).outcome ≡ Outcome.Replied reply)
+    done_after : (early : List Turn) (t : Turn) (later : List Turn) (job : StampValue) (asks : AsksToBegin (roster_at rosters early t) t.site t.line job) → MayTurns whole (beginning rosters) (early ++ t ∷ later) → t.answer ≡ answer_line (codes "done")
+        → (reply : Reply) × ((step n (run n (events_from (beginning rosters) early)) (begin (roster_at rosters early t) t job asks)).outcome ≡ Outcome.Replied reply)
     done_after early t later job asks may e =
-        let played = turns_played roster few early beginning start start_stands (start_reached n) (first_turns beginning early t later may) in
-        done_at (after_turns roster beginning early) (run n (events_from roster beginning early)) t job asks played.stands (run_reached n (events_from roster beginning early) start played.ranged (start_reached n))
-        (next_turn beginning early t later may) e
+        let played = turns_played whole few early (beginning rosters) start (start_stands rosters) (start_reached n) (first_turns whole (beginning rosters) early t later may) in
+        done_at (after_turns (beginning rosters) early) (run n (events_from (beginning rosters) early)) t job asks played.stands (run_reached n (events_from (beginning rosters) early) start played.ranged (start_reached n))
+        (next_turn whole (beginning rosters) early t later may) e
 
-    pub answered_once : (early between later : List Turn) (t u : Turn) (job : StampValue) → MayTurns roster beginning (early ++ t ∷ between ++ u ∷ later) → AsksToBegin roster t.site t.line job
-        → AsksToBegin roster u.site u.line job → t.answer ≡ answer_line (codes "done") → u.answer ≡ answer_line (codes "done") → ⊥
+    pub answered_once : (early between later : List Turn) (t u : Turn) (job : StampValue) → MayTurns whole (beginning rosters) (early ++ t ∷ between ++ u ∷ later) → AsksToBegin (roster_at rosters early t) t.site t.line job
+        → AsksToBegin (roster_at rosters (early ++ t ∷ between) u) u.site u.line job → t.answer ≡ answer_line (codes "done") → u.answer ≡ answer_line (codes "done") → ⊥
     answered_once early between later t u job may asks again first second =
-        let c : Course = after_turns roster beginning early in
-        let behind : List Event = events_from roster (after_turn roster c t) between in
-        let events : events_from roster beginning (early ++ t ∷ between) ≡ events_from roster beginning early ++ begin t job asks ∷ behind =
-        events_append early (t ∷ between) beginning ∙ ap (λ l. events_from roster beginning early ++ (l ++ behind)) (events_are c t job asks) in
-        let all = subst (MayTurns roster beginning) (append_assoc early (t ∷ between) (u ∷ later)) may in
+        let c : Course = after_turns (beginning rosters) early in
+        let behind : List Event = events_from (after_turn c t) between in
+        let started : Event = begin (roster_at rosters early t) t job asks in
+        let events : events_from (beginning rosters) (early ++ t ∷ between) ≡ events_from (beginning rosters) early ++ started ∷ behind =
+        events_append early (t ∷ between) (beginning rosters) ∙ ap (λ l. events_from (beginning rosters) early ++ (l ++ behind)) (events_are c t job asks) in
+        let all = subst (MayTurns whole (beginning rosters)) (append_assoc early (t ∷ between) (u ∷ later)) may in
         let one = done_after early t (between ++ u ∷ later) job asks all first in
         let two = done_after (early ++ t ∷ between) u later job again may second in
-        done_once n (events_from roster beginning early) behind t.site u.site asks.who again.who job asks.moment again.moment one.0 two.0 few one.1
-        (ap (λ l. (step n (run n l) (begin u job again)).outcome) (sym events) ∙ two.1)
+        done_once n (events_from (beginning rosters) early) behind t.site u.site asks.who again.who job asks.moment again.moment one.0 two.0 few one.1
+        (ap (λ l. (step n (run n l) (begin (roster_at rosters (early ++ t ∷ between) u) u job again)).outcome) (sym events) ∙ two.1)
 
-  -- ---- happenings
-  turns_more : (hs ks : List Happening) (c : Course) → turns_from roster c (hs ++ ks) ≡ turns_from roster c hs ++ turns_from roster (after_turns roster c (turns_from roster c hs)) ks
-  turns_more [] ks c = refl
-  turns_more (h ∷ hs) ks c =
-      let ts = turns_of roster c h in
-      let d = after_turns roster c ts in
-      ap (λ l. ts ++ l) (turns_more hs ks d)
-      ∙ sym (append_assoc ts (turns_from roster d hs) (turns_from roster (after_turns roster d (turns_from roster d hs)) ks))
-      ∙ ap (λ (x : Course). (ts ++ turns_from roster d hs) ++ turns_from roster x ks) (sym (after_append roster ts (turns_from roster d hs) c))
+-- ---- happenings
+-- two answered turns among happenings are two among the turns, and their sites know then what they know there
+pub record AreBetween (rosters : ℕ → List (List ℕ × ℕ)) (early between later : List Happening) (t u : Turn) : Type 0 where
+  pub first : List Turn
+  pub middle : List Turn
+  pub last : List Turn
+  pub turns : turns_from (beginning rosters) (early ++ answered t ∷ between ++ answered u ∷ later) ≡ first ++ t ∷ middle ++ u ∷ last
+  pub one : (course_of rosters early).roster t.site ≡ roster_at rosters first t
+  pub two : (course_of rosters (early ++ answered t ∷ between)).roster u.site ≡ roster_at rosters (first ++ t ∷ middle) u
 
-  -- two answered turns among happenings are two among the turns
-  pub between_turns : (early between later : List Happening) (t u : Turn)
-      → (first middle last : List Turn) × (turns_from roster beginning (early ++ answered t ∷ between ++ answered u ∷ later) ≡ first ++ t ∷ middle ++ u ∷ last)
-  between_turns early between later t u =
-      let c : Course = after_turns roster beginning (turns_from roster beginning early) in
-      let middle : List Turn = turns_from roster (after_turn roster c t) between in
-      let e : Course = after_turns roster beginning (turns_from roster beginning (early ++ answered t ∷ between)) in
-      let last : List Turn = turns_from roster (after_turn roster e u) later in (
-        turns_from roster beginning early,
-        middle,
-        last,
-        turns_more (early ++ answered t ∷ between) (answered u ∷ later) beginning ∙ ap (λ l. l ++ u ∷ last) (turns_more early (answered t ∷ between) beginning),
-      )
+pub between_turns : (rosters : ℕ → List (List ℕ × ℕ)) (early between later : List Happening) (t u : Turn) → AreBetween rosters early between later t u
+between_turns rosters early between later t u =
+    let c : Course = after_turns (beginning rosters) (turns_from (beginning rosters) early) in
+    let middle : List Turn = turns_from (after_turn c t) between in
+    let e : Course = after_turns (beginning rosters) (turns_from (beginning rosters) (early ++ answered t ∷ between)) in
+    let last : List Turn = turns_from (after_turn e u) later in
+    let begun : turns_from (beginning rosters) (early ++ answered t ∷ between) ≡ turns_from (beginning rosters) early ++ t ∷ middle = turns_more early (answered t ∷ between) (beginning rosters) in
+    record {
+      first = turns_from (beginning rosters) early;
+      middle = middle;
+      last = last;
+      turns = turns_more (early ++ answered t ∷ between) (answered u ∷ later) (beginning rosters) ∙ ap (λ l. l ++ u ∷ last) begun;
+      one = refl;
+      two = ap (λ (ts : List Turn). roster_at rosters ts u) begun;
+    }

@@ -10,7 +10,9 @@ use Rattle.fed_script.specs.Asker.{scheduler}
 use Rattle.fed_script.specs.Forms.{◌>>=◌}
 use Rattle.fed_script.specs.Line.{acts, own_line, told, words_in}
 use Rattle.fed_script.specs.Lines.{is_readable, words_of}
+use Rattle.fed_script.specs.Rosters.{roster_of}
 use Rattle.fed_script.specs.Values.{identifier, moment}
+use Rattle.fed_site.specs.Rosters.{words_behind}
 use Rattle.fed_looks.specs.Look.{look_in}
 use Rattle.fed_turns.specs.Own.{AsksToBegin}
 
@@ -38,6 +40,7 @@ module _ (line id when : List ℕ) (e : words_in line ≡ Some (codes "begin" �
   begin_asks roster here job at i m = record {
     who = scheduler;
     moment = at;
+    told = ap (λ o. option_map roster_of (o >>= words_behind)) e;
     packet = no_packet (starts_with nat_eq line (codes "take ")) refl;
     look = ap (λ o. o >>= look_in roster here) e;
     says = ap (λ o. o >>= own_line roster here) e

@@ -33,13 +33,13 @@ begun_of ops job begun e =
     let kept = Has-filter (is_of_job job) ops (begun.0, found.0) found.1 in
     begin_of ops job begun.0 found.0 begun.1 kept.0 kept.1 found.2
 
-module _ (roster : List (List ℕ × ℕ)) (few : length roster ≤ 16) (turns : List Turn) (may : MayTurns roster beginning turns) (job : StampValue) where
-  pub one_begin : (i j : ℕ) (one other : StampValue × Beginning) → (((after_turns roster beginning turns).site i).view.job job).begun ≡ Some one
-      → (((after_turns roster beginning turns).site j).view.job job).begun ≡ Some other → one ≡ other
+module _ (whole : List (List ℕ × ℕ)) (few : length whole ≤ 16) (rosters : ℕ → List (List ℕ × ℕ)) (turns : List Turn) (may : MayTurns whole (beginning rosters) turns) (job : StampValue) where
+  pub one_begin : (i j : ℕ) (one other : StampValue × Beginning) → (((after_turns (beginning rosters) turns).site i).view.job job).begun ≡ Some one
+      → (((after_turns (beginning rosters) turns).site j).view.job job).begun ≡ Some other → one ≡ other
   one_begin i j one other e f =
-      let played = turns_played roster few turns beginning start start_stands (start_reached (length roster)) may in
-      let w : World = run_from (length roster) start (events_from roster beginning turns) in
-      let g = good (length roster) few w (run_reached (length roster) (events_from roster beginning turns) start played.ranged (start_reached (length roster))) in
+      let played = turns_played whole few turns (beginning rosters) start (start_stands rosters) (start_reached (length whole)) may in
+      let w : World = run_from (length whole) start (events_from (beginning rosters) turns) in
+      let g = good (length whole) few w (run_reached (length whole) (events_from (beginning rosters) turns) start played.ranged (start_reached (length whole))) in
       let mine = begun_of (w.site i).set job one (ap (λ (s : State). (s.view.job job).begun) (sym (played.stands.sites i)) ∙ e) in
       let theirs = begun_of (w.site j).set job other (ap (λ (s : State). (s.view.job job).begun) (sym (played.stands.sites j)) ∙ f) in
       let h = (g.1.cuts i).within _ mine in

@@ -1,33 +1,16 @@
 -- What the header of a home names is a roster.
-use Rattle.std.specs.Prelude.{codes, Option, Some, None, option_and_then, option_map, if◌then◌else◌}
-use Rattle.std.specs.List.{list_any}
-use Rattle.std.specs.Result.{result_ok}
+use Rattle.std.specs.Prelude.{codes, Option, Some, None, option_map, if◌then◌else◌}
 use Rattle.std.specs.Str.{bytes_eq}
 use Rattle.std.proofs.Common.{◌≡◌, ℕ, List, [], ◌∷◌, Bool, true, false, refl, subst}
-use Rattle.fed_stamp.specs.declared.rosters.RosterFault.{RosterFault}
-use Rattle.fed_stamp.specs.Roster.{IsRoster, first_fault, ok_unless}
-use Rattle.fed_stamp.proofs.RosterLemmas.{roster_from_no_fault}
+use Rattle.fed_stamp.specs.Roster.{IsRoster}
 use Rattle.fed_words.specs.Site.{site_named}
 use Rattle.fed_script.specs.Forms.{◌>>=◌}
 use Rattle.fed_script.specs.Line.{words_in}
-use Rattle.fed_script.specs.Rosters.{is_reserved, roster_of, sites_in}
+use Rattle.fed_script.specs.Rosters.{roster_of}
+use Rattle.fed_site.proofs.RosterLines.{read_lawful}
 use Rattle.fed_home.specs.declared.headers.Format.{Format}
 use Rattle.fed_home.specs.declared.headers.Header.{Header}
 use Rattle.fed_home.specs.Header.{format_of, header_in, header_of, site_among}
-
--- ---- rosters that are read
-faultless : (sites roster : List (List ℕ × ℕ)) (f : Option RosterFault) → first_fault sites ≡ f → result_ok (ok_unless f sites) ≡ Some roster → IsRoster roster
-faultless sites roster None is e = let same : sites ≡ roster = cc in subst IsRoster same (roster_from_no_fault sites is)
-faultless sites roster (Some fault) is e = let none : None ≡ Some roster = e in cc
-
-reserved : (sites roster : List (List ℕ × ℕ)) (b : Bool) → (if b then None else result_ok (ok_unless (first_fault sites) sites)) ≡ Some roster → IsRoster roster
-reserved sites roster true e = cc
-reserved sites roster false e = faultless sites roster (first_fault sites) refl e
-
-named : (roster : List (List ℕ × ℕ)) (o : Option (List (List ℕ × ℕ)))
-    → option_and_then (λ sites. if list_any (λ site. is_reserved site.0) sites then None else result_ok (ok_unless (first_fault sites) sites)) o ≡ Some roster → IsRoster roster
-named roster None e = cc
-named roster (Some sites) e = reserved sites roster (list_any (λ site. is_reserved site.0) sites) e
 
 -- ---- headers
 some_same : (x y : Header) → Some x ≡ Some y → x ≡ y
@@ -44,7 +27,7 @@ module _ (name : List ℕ) (h : Header) where
     among_roster : (words : List (List ℕ)) (o : Option (List (List ℕ × ℕ))) → roster_of words ≡ o
         → (o >>= λ roster. option_map (λ site. record { roster = roster; site = site; format = format }) (site_named roster name)) ≡ Some h → IsRoster h.roster
     among_roster words None is e = cc
-    among_roster words (Some roster) is e = found_roster roster (named roster (sites_in words) is) (site_named roster name) e
+    among_roster words (Some roster) is e = found_roster roster (read_lawful words roster is) (site_named roster name) e
 
   format_roster : (o : Option Format) (words : List (List ℕ)) → (o >>= λ format. site_among format name words) ≡ Some h → IsRoster h.roster
   format_roster None words e = cc

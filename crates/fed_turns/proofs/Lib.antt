@@ -12,4 +12,5 @@ pub mod Answered
 pub mod Headers
 pub mod Homes
 pub mod BeginLines
+pub mod Inside
 pub mod Knowing

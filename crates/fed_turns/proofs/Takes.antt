@@ -54,7 +54,7 @@ none_told (x ∷ v) zero zeros =
         or_from (nat_lt 0 y) (list_any (λ counter. nat_lt 0 counter) u) (le-ltb 0 y (omega arith)) (rest u (λ i. all (suc i)))
 none_told (x ∷ v) (suc n) zeros = none_told v n (λ i h. zeros (suc i) (omega arith))
 
-module _ (roster : List (List ℕ × ℕ)) (few : length roster ≤ 16) (w : World) (r : Reached (length roster) w) (i : ℕ)
+module _ (n : ℕ) (few : n ≤ 16) (w : World) (r : Reached n w) (i : ℕ)
     (p : Packet) (posted : Has w.packets p) (text : List ℕ) (t : IsTextOf p text) where
   abbrev c : PacketValue
   c = t.sent
@@ -62,8 +62,8 @@ module _ (roster : List (List ℕ × ℕ)) (few : length roster ≤ 16) (w : Wor
   abbrev here : State
   here = state_at i (w.site i)
 
-  sent : IsSent (good (length roster) few w r).0 w p
-  sent = (good (length roster) few w r).1.sent p posted
+  sent : IsSent (good n few w r).0 w p
+  sent = (good n few w r).1.sent p posted
 
   pub is_read : packet_in text ≡ Ok t.sent
   is_read = again Two text t.sent t.limits t.again
@@ -72,28 +72,28 @@ module _ (roster : List (List ℕ × ℕ)) (few : length roster ≤ 16) (w : Wor
   unfolding cut
   reached = ap (λ (v : View). v.version) t.stands.cut
 
-  -- ---- it is no stranger's
-  beyond : (j : ℕ) → length roster ≤ j → counter_of (version_of p.gives) j ≡ 0
+  -- ---- it is no stranger's to a site that knows all sites
+  beyond : (j : ℕ) → n ≤ j → counter_of (version_of p.gives) j ≡ 0
   beyond j far = elim (version_of-origin p.gives j) [
     | inl z ↦ z
-    | inr o ↦ (let own : o.0.0.site < length roster = (of_sites (length roster) few w r).gives p posted o.0 o.1 in let at = o.2 in absurd (omega arith))
+    | inr o ↦ (let own : o.0.0.site < n = (of_sites n few w r).gives p posted o.0 o.1 in let at = o.2 in absurd (omega arith))
   ]
 
-  pub is_known : is_foreign roster t.sent ≡ false
-  is_known =
+  pub is_known : (roster : List (List ℕ × ℕ)) → n ≤ length roster → is_foreign roster t.sent ≡ false
+  is_known roster all =
       let from : c.sender ≡ p.sender = t.stands.sender in
-      let known : p.sender < length roster = (of_sites (length roster) few w r).senders p posted in
+      let known : p.sender < n = (of_sites n few w r).senders p posted in
       or_from _ _ (lt-leb (length roster) c.sender (omega arith))
-      (ap (λ (v : List ℕ). list_any (λ counter. nat_lt 0 counter) (drop (length roster) v)) reached ∙ none_told (version_of p.gives) (length roster) beyond)
+      (ap (λ (v : List ℕ). list_any (λ counter. nat_lt 0 counter) (drop (length roster) v)) reached ∙ none_told (version_of p.gives) (length roster) (λ j far. beyond j (omega arith)))
 
   -- ---- nothing was forgotten
   own_seen : counter_of (version_of p.gives) i ≤ counter_of (version_of (w.site i).set) i
   own_seen = elim (version_of-origin p.gives i) [
     | inl z ↦ omega arith
     | inr o ↦ (
-        let g = good (length roster) few w r in
+        let g = good n few w r in
         let mine = g.1.own i o.0 (sent.cut.within o.0 o.1) o.2 in
-        let small : o.0.0.site < 16 = (lawful (length roster) few w r i).sites o.0 mine in
+        let small : o.0.0.site < 16 = (lawful n few w r i).sites o.0 mine in
         let le : o.0.0.counter ≤ counter_of (version_of (w.site i).set) o.0.0.site = version_of-Has (w.site i).set o.0 mine small in
         let at : o.0.0.counter ≤ counter_of (version_of (w.site i).set) i = subst (λ (j : ℕ). o.0.0.counter ≤ counter_of (version_of (w.site i).set) j) o.2 le in
         let is = o.3 in omega arith)
@@ -117,43 +117,45 @@ module _ (roster : List (List ℕ × ℕ)) (few : length roster ≤ 16) (w : Wor
 
   kin : AreKin (w.site i).set p.gives
   kin =
-      let g = good (length roster) few w r in
+      let g = good n few w r in
       cuts_kin g.0 (w.site i).set p.gives g.1.lawful (g.1.cuts i) sent.cut
 
-  -- what is done where something or nothing is lacked
-  abbrev receipt : Option ℕ → Done
-  receipt lacks = record {
-    after = after_packet_unless lacks here c;
-    text = answer_line (outcome_text roster (outcome_of_packet_unless lacks here c));
-    kept = is_none lacks;
-    complaint = option_map Complaint.Gap lacks;
-  }
+  -- by a roster that has all sites of which it tells
+  module _ (roster : List (List ℕ × ℕ)) (known : is_foreign roster c ≡ false) where
+    -- what is done where something or nothing is lacked
+    abbrev receipt : Option ℕ → Done
+    receipt lacks = record {
+      after = after_packet_unless lacks here c;
+      text = answer_line (outcome_text roster (outcome_of_packet_unless lacks here c));
+      kept = is_none lacks;
+      complaint = option_map Complaint.Gap lacks;
+    }
 
-  received : (lacks : Option ℕ) → missing p.need (version_of (w.site i).set) ≡ lacks → IsStepped roster i w (receives w i (takes_unless lacks (w.site i) p)) (receipt lacks)
-  received (Some from) e = record { after = refl; others = λ j apart. refl; packets = refl; text = refl }
-  received None e =
-      let joins = stands_absorbed (w.site i).set p.gives kin p.need (enough e) (view (w.site i).set) (board_reads c.delta.changes) (join_records (view (w.site i).set) (board_reads c.delta.changes)) refl refl t.stands.cut in
-      let seen : c.delta.changes.version ≡ p.reached = reached ∙ sym sent.exact in
-      record {
-        after =
-            (λ k. record {
-              site = i;
-              view = joins k;
-              heard = put (w.site i).heard (t.stands.sender k) (joined ((w.site i).heard (t.stands.sender k)) (seen k));
-            })
-            ∙ ap (state_at i) (sym (put_same w.site i (taken (w.site i) p)));
-        others = receives_others w i p None;
-        packets = refl;
-        text = ap (λ (v : List ℕ). answer_line (outcome_text roster (Outcome.Taken (record { grew = not (is_below v (version_of (w.site i).set)) })))) seen;
-      }
+    received : (lacks : Option ℕ) → missing p.need (version_of (w.site i).set) ≡ lacks → IsStepped roster i w (receives w i (takes_unless lacks (w.site i) p)) (receipt lacks)
+    received (Some from) e = record { after = refl; others = λ j apart. refl; packets = refl; text = refl }
+    received None e =
+        let joins = stands_absorbed (w.site i).set p.gives kin p.need (enough e) (view (w.site i).set) (board_reads c.delta.changes) (join_records (view (w.site i).set) (board_reads c.delta.changes)) refl refl t.stands.cut in
+        let seen : c.delta.changes.version ≡ p.reached = reached ∙ sym sent.exact in
+        record {
+          after =
+              (λ k. record {
+                site = i;
+                view = joins k;
+                heard = put (w.site i).heard (t.stands.sender k) (joined ((w.site i).heard (t.stands.sender k)) (seen k));
+              })
+              ∙ ap (state_at i) (sym (put_same w.site i (taken (w.site i) p)));
+          others = receives_others w i p None;
+          packets = refl;
+          text = ap (λ (v : List ℕ). answer_line (outcome_text roster (Outcome.Taken (record { grew = not (is_below v (version_of (w.site i).set)) })))) seen;
+        }
 
-  -- the text is taken as the packet
-  pub reads_receipt : after_reading roster here (packet_in text) ≡ after_receipt roster here t.sent
-  reads_receipt = ap (after_reading roster here) is_read ∙ cond-false (is_foreign roster c) _ _ is_known ∙ cond-false (is_forgotten here c) _ _ is_remembered
+    -- the text is taken as the packet
+    pub reads_receipt : after_reading roster here (packet_in text) ≡ after_receipt roster here t.sent
+    reads_receipt = ap (after_reading roster here) is_read ∙ cond-false (is_foreign roster c) _ _ known ∙ cond-false (is_forgotten here c) _ _ is_remembered
 
-  pub is_taken : IsStepped roster i w (takes w i (Some p)) (after_reading roster here (packet_in text))
-  is_taken =
-      let need : lacking here c ≡ missing p.need (version_of (w.site i).set) = ap (λ (v : List ℕ). missing v (version_of (w.site i).set)) t.stands.need in
-      let receives_it : IsStepped roster i w (takes w i (Some p)) (after_receipt roster here c) =
-      subst (λ lacks. IsStepped roster i w (takes w i (Some p)) (receipt lacks)) (sym need) (received (missing p.need (version_of (w.site i).set)) refl) in
-      subst (IsStepped roster i w (takes w i (Some p))) (sym reads_receipt) receives_it
+    pub is_taken : IsStepped roster i w (takes w i (Some p)) (after_reading roster here (packet_in text))
+    is_taken =
+        let need : lacking here c ≡ missing p.need (version_of (w.site i).set) = ap (λ (v : List ℕ). missing v (version_of (w.site i).set)) t.stands.need in
+        let receives_it : IsStepped roster i w (takes w i (Some p)) (after_receipt roster here c) =
+        subst (λ lacks. IsStepped roster i w (takes w i (Some p)) (receipt lacks)) (sym need) (received (missing p.need (version_of (w.site i).set)) refl) in
+        subst (IsStepped roster i w (takes w i (Some p))) (sym reads_receipt) receives_it

@@ -1,7 +1,7 @@
 -- Turns do what their events do in a run.
-use Rattle.std.specs.Prelude.{codes, map, nat_lt, suc, Option, Some, None, IfSome, option_map, if◌then◌else◌}
+use Rattle.std.specs.Prelude.{codes, map, nat_lt, suc, Option, Some, None, IfSome, option_map, Result, Ok, Err, if◌then◌else◌}
 use Rattle.std.specs.List.{position_or_len}
-use Rattle.std.proofs.Common.{◌≡◌, ◌≢◌, ◌≤◌, ◌<◌, ℕ, List, [], ◌∷◌, ◌++◌, All, Bool, true, false, length, append-nil, refl, sym, subst, ap, ◌∙◌, inl, inr}
+use Rattle.std.proofs.Common.{◌≡◌, ◌≢◌, ◌≤◌, ◌<◌, ℕ, List, [], ◌∷◌, ◌++◌, All, Bool, true, false, length, append-nil, refl, sym, subst, ap, ◌∙◌, inl, inr, arith}
 use Rattle.std.proofs.lemmas.Bool.{cases_eq, lt-ltb, ltb-true}
 use Rattle.std.proofs.lemmas.List.Elements.{All-append, All-cons, All-head, All-map, All-nil}
 use Rattle.fed_stamp.specs.Indexes.{put}
@@ -9,6 +9,8 @@ use Rattle.fed_stamp.specs.Stamp.{StampValue}
 use Rattle.fed_model.specs.declared.askers.Who.{Who}
 use Rattle.fed_model.specs.declared.commands.Command.{Command}
 use Rattle.fed_words.specs.declared.faults.UsageFault.{UsageFault}
+use Rattle.fed_wire.specs.declared.faults.WireFault.{WireFault}
+use Rattle.fed_wire.specs.Packet.{PacketValue}
 use Rattle.fed_wire.specs.Reading.{packet_in}
 use Rattle.fed_model.specs.Packet.{shipped}
 use Rattle.fed_model.specs.Ranges.{IsRanged}
@@ -27,15 +29,19 @@ use Rattle.fed_looks.specs.LookLine.{look_in_line}
 use Rattle.fed_looks.specs.LookText.{look_text}
 use Rattle.fed_site.specs.Journal.{kept_line}
 use Rattle.fed_site.specs.Line.{packet_text}
-use Rattle.fed_site.proofs.Replays.{unkept}
-use Rattle.fed_site.specs.Says.{Done, IsReply, Said, after_commands, after_line, after_look, after_plan, after_reading, after_text, after_told, only, said_of, site_says}
+use Rattle.fed_site.specs.Packets.{is_foreign, is_forgotten}
+use Rattle.fed_site.specs.Rosters.{next_roster, roster_after, told_in}
+use Rattle.fed_site.specs.declared.complaints.Complaint.{Complaint}
+use Rattle.fed_site.proofs.Replays.{next_unkept, reading_unkept}
+use Rattle.fed_site.proofs.RosterLines.{begins_length}
+use Rattle.fed_site.specs.Says.{Done, IsReply, Said, after_commands, after_line, after_look, after_next, after_plan, after_reading, after_receipt, after_roster, after_text, after_told, only, said_of, site_says, undone}
 use Rattle.fed_turns.specs.Turn.{Course, IsCarried, MayTurn, MayTurns, Turn, WasShipped, after_said, after_turn, after_turns, said_to}
-use Rattle.fed_turns.specs.Run.{AreAnswered, AreShipments, Deed, IsDeedAnswer, StandsFor, declines, deed_of, does, events_at, events_done, events_from, is_read_in, looked, numbered, state_at, taken_as}
+use Rattle.fed_turns.specs.Run.{AreAnswered, AreShipments, Deed, IsDeedAnswer, StandsFor, declines, deed_of, does, events_at, events_done, events_from, heard, hears, is_read_in, is_stranger, looked, numbered, state_at, taken_as}
 use Rattle.fed_turns.proofs.Acts.{IsStepped, acted}
 use Rattle.fed_turns.proofs.OwnLines.{own_line_is}
 use Rattle.fed_turns.proofs.Packets.{found, placed, shipment, shipments_push}
 use Rattle.fed_turns.proofs.Reached.{Reached, run_reached}
-use Rattle.fed_turns.proofs.Takes.{is_taken}
+use Rattle.fed_turns.proofs.Takes.{is_read, is_taken}
 
 -- ---- one site changes
 settled : (c : Course) (w v : World) (i : ℕ) (s : State) → StandsFor c w → s ≡ state_at i (v.site i) → ((j : ℕ) → j ≢ i → v.site j ≡ w.site j) → (j : ℕ) → put c.site i s j ≡ state_at j (v.site j)
@@ -49,26 +55,39 @@ unshipped : (c : Course) (w v : World) → StandsFor c w → v.packets ≡ w.pac
 unshipped c w v stands e =
     subst (AreShipments v.packets) (sym (append-nil c.shipped)) (subst (λ ps. AreShipments ps c.shipped) (sym e) stands.shipped)
 
--- the turn says this, and does the same in the run
-pub record IsPlayed (roster : List (List ℕ × ℕ)) (c : Course) (w : World) (t : Turn) (said : Said) (deed : Deed) : Type 0 where
-  pub answered : IsDeedAnswer roster w t.site deed (outcomes_from (length roster) w (events_done deed)) t.answer
-  pub stands : StandsFor (after_said c t.site said t.answer) (run_from (length roster) w (events_done deed))
+-- the turn says this, its site knows this roster then, and it does the same in the run of n sites
+pub record IsPlayed (n : ℕ) (roster next : List (List ℕ × ℕ)) (c : Course) (w : World) (t : Turn) (said : Said) (deed : Deed) : Type 0 where
+  pub answered : IsDeedAnswer roster w t.site deed (outcomes_from n w (events_done deed)) t.answer
+  pub stands : StandsFor (after_said c t.site next said t.answer) (run_from n w (events_done deed))
   pub ranged : AreRanged (events_done deed)
 
-module _ (roster : List (List ℕ × ℕ)) (few : length roster ≤ 16) (c : Course) (w : World) (t : Turn) (stands : StandsFor c w) (r : Reached (length roster) w) (small : t.site < length roster) where
-  abbrev n : ℕ
-  n = length roster
+-- a text that tells of a site which the roster hasn't changes nothing
+stranger_still : (roster : List (List ℕ × ℕ)) (s : State) (o : Result PacketValue WireFault) → is_stranger roster o ≡ true → (after_reading roster s o).after ≡ s
+stranger_still roster s (Err fault) e = cc
+stranger_still roster s (Ok p) e = go (is_foreign roster p) e
+  where
+    go : (b : Bool) → b ≡ true
+        → (if b then undone s (answer_line (codes "foreign")) Complaint.Foreign else (if is_forgotten s p then undone s (answer_line (codes "forgotten")) Complaint.Forgotten else after_receipt roster s p)).after ≡ s
+    go true e = refl
+    go false e = cc
 
+module _ (n : ℕ) (few : n ≤ 16) (roster next : List (List ℕ × ℕ)) (part : length roster ≤ n) (c : Course) (w : World) (t : Turn) (stands : StandsFor c w) (r : Reached n w) (small : t.site < length roster) where
   abbrev here : State
   here = state_at t.site (w.site t.site)
 
+  own : t.site < n
+  own = omega (arith, small, part)
+
+  few_here : length roster ≤ 16
+  few_here = omega (arith, few, part)
+
   -- nothing changes
-  quiet : (text : List ℕ) → StandsFor (after_said c t.site (said_of (only here text)) t.answer) w
+  quiet : (text : List ℕ) → StandsFor (after_said c t.site next (said_of (only here text)) t.answer) w
   quiet text = record { sites = settled c w w t.site here stands refl (λ j apart. refl); shipped = unshipped c w w stands refl }
 
   -- what is played of a line that can be read
   abbrev Plays : Line → Type 0
-  Plays line = IsReply here (after_line roster here line).reply t.answer → IsPlayed roster c w t (after_line roster here line) (does (Some line))
+  Plays line = IsReply here (after_line roster here line).reply t.answer → IsPlayed n roster next c w t (after_line roster here line) (does (Some line))
 
   skip_played : Plays skips
   skip_played e = record { answered = e; stands = quiet []; ranged = All-nil IsRangedEvent }
@@ -80,7 +99,7 @@ module _ (roster : List (List ℕ × ℕ)) (few : length roster ≤ 16) (c : Cou
   misuse_played fault e = record { answered = e; stands = quiet (usage_line fault); ranged = All-nil IsRangedEvent }
 
   plan_said : (plan : Option (List ℕ)) → IsReply here (said_of (after_plan here plan)).reply t.answer
-      → (t.answer ≡ plan_or_none plan) × StandsFor (after_said c t.site (said_of (after_plan here plan)) t.answer) w
+      → (t.answer ≡ plan_or_none plan) × StandsFor (after_said c t.site next (said_of (after_plan here plan)) t.answer) w
   plan_said (Some text) e = (e, quiet text)
   plan_said None e = (e, quiet (plan_or_none None))
 
@@ -91,7 +110,7 @@ module _ (roster : List (List ℕ × ℕ)) (few : length roster ≤ 16) (c : Cou
 
   act_played : (who : Who) (commands : List Command) → All (IsRanged who) commands → Plays (acts t.site who commands)
   act_played who commands ranged e =
-      let done = acted roster few t.site small who commands 0 w r ranged in
+      let done = acted n few roster t.site own who commands 0 w r ranged in
       let v : World = run_from n w (map (Do t.site who) commands) in
       record {
         answered = e ∙ done.text;
@@ -104,11 +123,11 @@ module _ (roster : List (List ℕ × ℕ)) (few : length roster ≤ 16) (c : Cou
 
   ship_played : (to : ℕ) → to < length roster → Plays (ships t.site to)
   ship_played to known reply =
-      let one = shipment n few w r t.site to small t.answer reply in
-      let does = ship_here n w t.site to small known in
+      let one = shipment n few w r t.site to own t.answer reply in
+      let does = ship_here n w t.site to own (omega (arith, known, part)) in
       record {
         answered = (ap (λ (s : Step). s.outcome ∷ []) does, one);
-        stands = subst (λ (s : Step). StandsFor (after_said c t.site (after_line roster here (ships t.site to)) t.answer) s.after) (sym does) (record {
+        stands = subst (λ (s : Step). StandsFor (after_said c t.site next (after_line roster here (ships t.site to)) t.answer) s.after) (sym does) (record {
           sites = settled c w (ships_in w t.site to).after t.site here stands refl (λ j apart. refl);
           shipped = shipments_push w.packets c.shipped (shipped t.site (w.site t.site) to) t.answer stands.shipped one;
         });
@@ -116,13 +135,15 @@ module _ (roster : List (List ℕ × ℕ)) (few : length roster ≤ 16) (c : Cou
       }
 
   -- the text of a packet that was shipped, taken or not
-  carried_played : (text : List ℕ) → position_or_len (is_read_in text) c.shipped < length c.shipped → t.answer ≡ (after_reading roster here (packet_in text)).text
-      → IsPlayed roster c w t (said_of (after_reading roster here (packet_in text))) (does (Some (takes_line t.site (suc (position_or_len (is_read_in text) c.shipped)))))
-  carried_played text within e =
+  carried_played : (text : List ℕ) → is_stranger roster (packet_in text) ≡ false → position_or_len (is_read_in text) c.shipped < length c.shipped → t.answer ≡ (after_reading roster here (packet_in text)).text
+      → IsPlayed n roster next c w t (said_of (after_reading roster here (packet_in text))) (does (Some (takes_line t.site (suc (position_or_len (is_read_in text) c.shipped)))))
+  carried_played text known within e =
       let k = position_or_len (is_read_in text) c.shipped in
       let it = found text w.packets c.shipped stands.shipped within in
-      let does : step n w (Take t.site (suc k)) ≡ takes w t.site (Some it.packet) = take_here n w t.site (suc k) small ∙ ap (takes w t.site) it.is in
-      let taken = is_taken roster few w r t.site it.packet (packet_Has w (suc k) it.packet it.is) it.shipped it.of in
+      let does : step n w (Take t.site (suc k)) ≡ takes w t.site (Some it.packet) = take_here n w t.site (suc k) own ∙ ap (takes w t.site) it.is in
+      let posted = packet_Has w (suc k) it.packet it.is in
+      let friend = sym (ap (is_stranger roster) (it.reads ∙ is_read n few w r t.site it.packet posted it.shipped it.of)) ∙ known in
+      let taken = is_taken n few w r t.site it.packet posted it.shipped it.of roster friend in
       let read = subst (λ o. IsStepped roster t.site w (takes w t.site (Some it.packet)) (after_reading roster here o)) (sym it.reads) taken in
       let one = subst (λ (s : Step). IsStepped roster t.site w s (after_reading roster here (packet_in text))) (sym does) read in
       let s : Step = step n w (Take t.site (suc k)) in
@@ -137,7 +158,7 @@ module _ (roster : List (List ℕ × ℕ)) (few : length roster ≤ 16) (c : Cou
 
   -- a text that isn't taken, and is of no packet shipped
   declined_played : (text : List ℕ) → (after_reading roster here (packet_in text)).after ≡ here → t.answer ≡ (after_reading roster here (packet_in text)).text
-      → IsPlayed roster c w t (said_of (after_reading roster here (packet_in text))) (declines text)
+      → IsPlayed n roster next c w t (said_of (after_reading roster here (packet_in text))) (declines text)
   declined_played text still e = record {
     answered = e;
     stands = record {
@@ -159,62 +180,84 @@ module _ (roster : List (List ℕ × ℕ)) (few : length roster ≤ 16) (c : Cou
       true_false e = cc
   declined text carried beyond false is = refl
 
-  take_played : (text : List ℕ) → packet_text t.line ≡ Some text → ((after_reading roster here (packet_in text)).kept ≡ true → WasShipped c.shipped text)
-      → t.answer ≡ (after_reading roster here (packet_in text)).text
-      → (within : Bool) → nat_lt (position_or_len (is_read_in text) c.shipped) (length c.shipped) ≡ within
-      → IsPlayed roster c w t (said_of (after_reading roster here (packet_in text))) (taken_as t.site text (option_map suc (if within then Some (position_or_len (is_read_in text) c.shipped) else None)))
-  take_played text is carried e true at = carried_played text (ltb-true (position_or_len (is_read_in text) c.shipped) (length c.shipped) at) e
-  take_played text is carried e false at =
+  take_played : (text : List ℕ) → ((after_reading roster here (packet_in text)).kept ≡ true → WasShipped c.shipped text) → t.answer ≡ (after_reading roster here (packet_in text)).text
+      → (stranger : Bool) → is_stranger roster (packet_in text) ≡ stranger → (within : Bool) → nat_lt (position_or_len (is_read_in text) c.shipped) (length c.shipped) ≡ within
+      → IsPlayed n roster next c w t (said_of (after_reading roster here (packet_in text)))
+      (if stranger then declines text else taken_as t.site text (option_map suc (if within then Some (position_or_len (is_read_in text) c.shipped) else None)))
+  take_played text carried e true far within at = declined_played text (stranger_still roster here (packet_in text) far) e
+  take_played text carried e false far true at = carried_played text far (ltb-true (position_or_len (is_read_in text) c.shipped) (length c.shipped) at) e
+  take_played text carried e false far false at =
       let done : Done = after_reading roster here (packet_in text) in
-      let said : site_says roster here t.line ≡ said_of done = ap (after_text roster here t.line) is in
-      let none : done.kept ≡ false = declined text carried at done.kept refl in
-      let still : done.after ≡ here = subst (λ (s : Said). s.kept ≡ false → s.after ≡ here) said (unkept roster here t.line) none in
-      declined_played text still e
+      declined_played text (reading_unkept roster here (packet_in text) (declined text carried at done.kept refl)) e
 
   -- a line that can be read, or can't
-  line_played : (o : Option Line) → own_line_in roster t.site t.line ≡ o → IsReply here (after_told roster here o).reply t.answer → IsPlayed roster c w t (after_told roster here o) (does o)
+  line_played : (o : Option Line) → own_line_in roster t.site t.line ≡ o → IsReply here (after_told roster here o).reply t.answer → IsPlayed n roster next c w t (after_told roster here o) (does o)
   line_played None is e = record { answered = e; stands = quiet (answer_line (codes "cannot be read")); ranged = All-nil IsRangedEvent }
   line_played (Some line) is reply =
-      own_line_is roster few t.site Plays skip_played act_played list_played misuse_played ship_played plan_played line t.line is reply
+      own_line_is roster few_here t.site Plays skip_played act_played list_played misuse_played ship_played plan_played line t.line is reply
 
   -- a look, or none
-  look_played : (o : Option Look) → IsReply here (after_look roster here t.line o).reply t.answer → IsPlayed roster c w t (after_look roster here t.line o) (looked roster t o)
+  look_played : (o : Option Look) → IsReply here (after_look roster here t.line o).reply t.answer → IsPlayed n roster next c w t (after_look roster here t.line o) (looked roster t o)
   look_played None reply = line_played (own_line_in roster t.site t.line) refl reply
   look_played (Some look) reply = record { answered = reply; stands = quiet (look_text roster here look); ranged = All-nil IsRangedEvent }
 
-  text_played : (o : Option (List ℕ)) → packet_text t.line ≡ o → ((after_text roster here t.line o).kept ≡ true → IfSome o (WasShipped c.shipped)) → IsReply here (after_text roster here t.line o).reply t.answer
-      → IsPlayed roster c w t (after_text roster here t.line o) (numbered roster c t o)
-  text_played None is carried reply = look_played (look_in_line roster t.site t.line) reply
-  text_played (Some text) is carried reply = take_played text is carried reply (nat_lt (position_or_len (is_read_in text) c.shipped) (length c.shipped)) refl
+  text_played : (o : Option (List ℕ)) → ((after_text roster here t.line o).kept ≡ true → IfSome o (WasShipped c.shipped)) → IsReply here (after_text roster here t.line o).reply t.answer
+      → IsPlayed n roster next c w t (after_text roster here t.line o) (numbered roster c t o)
+  text_played None carried reply = look_played (look_in_line roster t.site t.line) reply
+  text_played (Some text) carried reply =
+      take_played text carried reply (is_stranger roster (packet_in text)) refl (nat_lt (position_or_len (is_read_in text) c.shipped) (length c.shipped)) refl
+
+  -- a roster that is told, or none
+  told_played : (told : Option (List (List ℕ × ℕ))) → t.answer ≡ (after_next roster here (next_roster roster told)).text
+      → IsPlayed n roster next c w t (said_of (after_next roster here (next_roster roster told))) (hears told)
+  told_played told e = record {
+    answered = e;
+    stands = record {
+      sites = settled c w w t.site (after_next roster here (next_roster roster told)).after stands (next_unkept roster here (next_roster roster told)) (λ j apart. refl);
+      shipped = unshipped c w w stands refl;
+    };
+    ranged = All-nil IsRangedEvent;
+  }
+
+  roster_played : (o : Option (Option (List (List ℕ × ℕ)))) → ((after_roster roster here t.line o).kept ≡ true → IfSome (packet_text t.line) (WasShipped c.shipped)) → IsReply here (after_roster roster here t.line o).reply t.answer
+      → IsPlayed n roster next c w t (after_roster roster here t.line o) (heard roster c t o)
+  roster_played None carried reply = text_played (packet_text t.line) carried reply
+  roster_played (Some told) carried reply = told_played told reply
 
 -- ---- turns
 -- a line that is kept took what was shipped
-kept_carried : (roster : List (List ℕ × ℕ)) (answers : List (List ℕ)) (line : List ℕ) (kept : Bool) → All (IsCarried answers) (kept_line roster kept line ++ []) → kept ≡ true → IsCarried answers line
-kept_carried roster answers line true all e = All-head (IsCarried answers) line [] all
-kept_carried roster answers line false all e = cc
+kept_carried : (answers : List (List ℕ)) (line : List ℕ) (kept : Bool) → All (IsCarried answers) (kept_line kept line ++ []) → kept ≡ true → IsCarried answers line
+kept_carried answers line true all e = All-head (IsCarried answers) line [] all
+kept_carried answers line false all e = cc
 
-module _ (roster : List (List ℕ × ℕ)) (few : length roster ≤ 16) where
-  pub turn_played : (c : Course) (w : World) (t : Turn) → StandsFor c w → Reached (length roster) w → MayTurn roster c t → IsPlayed roster c w t (said_to roster c t) (deed_of roster c t)
+module _ (whole : List (List ℕ × ℕ)) (few : length whole ≤ 16) where
+  abbrev sites : ℕ
+  sites = length whole
+
+  pub turn_played : (c : Course) (w : World) (t : Turn) → StandsFor c w → Reached sites w → MayTurn whole c t
+      → IsPlayed sites (c.roster t.site) (roster_after (c.roster t.site) t.line) c w t (said_to c t) (deed_of c t)
   turn_played c w t stands r may =
-      let took = kept_carried roster c.shipped t.line (said_to roster c t).kept may.carried in
+      let roster = c.roster t.site in
+      let next = roster_after roster t.line in
+      let took = kept_carried c.shipped t.line (said_to c t).kept may.carried in
       subst (λ (s : State). ((site_says roster s t.line).kept ≡ true → IsCarried c.shipped t.line) → IsReply s (site_says roster s t.line).reply t.answer
-      → IsPlayed roster c w t (site_says roster s t.line) (deed_of roster c t)) (sym (stands.sites t.site))
-      (text_played roster few c w t stands r may.site (packet_text t.line) refl) took may.said
+      → IsPlayed sites roster next c w t (site_says roster s t.line) (deed_of c t)) (sym (stands.sites t.site))
+      (roster_played sites few roster next (begins_length roster whole may.part) c w t stands r may.site (told_in t.line)) took may.said
 
   pub record ArePlayed (c : Course) (w : World) (ts : List Turn) : Type 0 where
-    pub answered : AreAnswered roster c w ts
-    pub stands : StandsFor (after_turns roster c ts) (run_from (length roster) w (events_from roster c ts))
-    pub ranged : AreRanged (events_from roster c ts)
+    pub answered : AreAnswered sites c w ts
+    pub stands : StandsFor (after_turns c ts) (run_from sites w (events_from c ts))
+    pub ranged : AreRanged (events_from c ts)
 
-  pub turns_played : (ts : List Turn) (c : Course) (w : World) → StandsFor c w → Reached (length roster) w → MayTurns roster c ts → ArePlayed c w ts
+  pub turns_played : (ts : List Turn) (c : Course) (w : World) → StandsFor c w → Reached sites w → MayTurns whole c ts → ArePlayed c w ts
   turns_played [] c w stands r may = record { answered = tt; stands = stands; ranged = All-nil IsRangedEvent }
   turns_played (t ∷ ts) c w stands r may =
       let one = turn_played c w t stands r may.0 in
-      let v : World = run_from (length roster) w (events_at roster c t) in
-      let rest = turns_played ts (after_turn roster c t) v one.stands (run_reached (length roster) (events_at roster c t) w one.ranged r) may.1 in
-      let all = sym (run-append (length roster) w (events_at roster c t) (events_from roster (after_turn roster c t) ts)) in
+      let v : World = run_from sites w (events_at c t) in
+      let rest = turns_played ts (after_turn c t) v one.stands (run_reached sites (events_at c t) w one.ranged r) may.1 in
+      let all = sym (run-append sites w (events_at c t) (events_from (after_turn c t) ts)) in
       record {
         answered = (one.answered, rest.answered);
-        stands = subst (StandsFor (after_turns roster (after_turn roster c t) ts)) all rest.stands;
-        ranged = All-append IsRangedEvent (events_at roster c t) (events_from roster (after_turn roster c t) ts) one.ranged rest.ranged;
+        stands = subst (StandsFor (after_turns (after_turn c t) ts)) all rest.stands;
+        ranged = All-append IsRangedEvent (events_at c t) (events_from (after_turn c t) ts) one.ranged rest.ranged;
       }

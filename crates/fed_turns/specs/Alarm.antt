@@ -1,16 +1,20 @@
 -- Texts that a site takes as a packet of its federation.
-use Rattle.std.specs.Prelude.{◌≡◌, ℕ, false, List, Ok}
+use Rattle.std.specs.Prelude.{◌≡◌, ℕ, true, false, List, codes, Ok}
 use Rattle.fed_wire.specs.Packet.{PacketValue}
 use Rattle.fed_wire.specs.Reading.{packet_in}
 use Rattle.fed_replica.specs.State.{State}
+use Rattle.fed_qstat.specs.Outcome.{answer_line}
 use Rattle.fed_site.specs.Packets.{is_foreign, is_forgotten}
-use Rattle.fed_site.specs.Says.{after_receipt, said_of, site_says}
+use Rattle.fed_site.specs.Says.{after_receipt, said_of, site_says, undone}
+use Rattle.fed_site.specs.declared.complaints.Complaint.{Complaint}
 
--- The text of the line is read, its packet is of no stranger, and the site has forgotten nothing that it tells: so the site
--- says what it says to the packet, that it is taken, was known, or needs more.
+-- The text of the line is read, and the site has forgotten nothing that its packet tells. So the site says what it says to
+-- the packet, that it is taken, was known, or needs more; where the packet tells of a site that the roster hasn't, it is
+-- `foreign`, and changes nothing.
 pub record RaisesNoAlarm (roster : List (List ℕ × ℕ)) (s : State) (line text : List ℕ) : Type 0 where
   pub packet : PacketValue
   pub read : packet_in text ≡ Ok packet
-  pub known : is_foreign roster packet ≡ false
   pub remembered : is_forgotten s packet ≡ false
-  pub said : site_says roster s line ≡ said_of (after_receipt roster s packet)
+  pub said : is_foreign roster packet ≡ false → site_says roster s line ≡ said_of (after_receipt roster s packet)
+  pub foreign : is_foreign roster packet ≡ true →
+      site_says roster s line ≡ said_of (undone s (answer_line (codes "foreign")) Complaint.Foreign)

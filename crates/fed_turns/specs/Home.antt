@@ -5,15 +5,20 @@ use Rattle.fed_site.specs.Answered.{bytes_of}
 use Rattle.fed_site.specs.declared.site.Answered.{Answered}
 use Rattle.fed_journal.specs.Journal.{entries_in}
 use Rattle.fed_home.specs.Replay.{replay}
-use Rattle.fed_turns.specs.Turn.{Turn, after_turns, beginning}
+use Rattle.fed_turns.specs.Turn.{Course, Turn, after_turns, beginning}
 use Rattle.fed_turns.specs.Crash.{Happening, answered, cut, turns_from}
 
--- the file's entries stand for this site of the roster, as what happened has left it
-abbrev pub IsHomeOf : List (List ℕ × ℕ) → ℕ → List Happening → List ℕ → Type 0
-IsHomeOf roster i happenings file = IsRoster roster × (i < length roster)
+-- what has happened, where sites were made with these rosters
+abbrev pub course_of : (ℕ → List (List ℕ × ℕ)) → List Happening → Course
+course_of rosters happenings = after_turns (beginning rosters) (turns_from (beginning rosters) happenings)
+
+-- the file's entries stand for this site, one of the roster that it knows, as what happened has left it
+abbrev pub IsHomeOf : (ℕ → List (List ℕ × ℕ)) → ℕ → List Happening → List ℕ → Type 0
+IsHomeOf rosters i happenings file = IsRoster ((course_of rosters happenings).roster i)
+    × (i < length ((course_of rosters happenings).roster i))
     × (replay (entries_in file) ≡ Some (record {
-      roster = roster;
-      state = (after_turns roster beginning (turns_from roster beginning happenings)).site i;
+      roster = (course_of rosters happenings).roster i;
+      state = (course_of rosters happenings).site i;
     }))
 
 -- lines of a site, each with the bytes that answered it

@@ -1,5 +1,5 @@
 -- The run that turns make, and what is answered in it.
-use Rattle.std.specs.Prelude.{◌≡◌, ◌+◌, ◌-◌, ℕ, suc, Bool, false, List, [], ◌∷◌, ◌++◌, length, map, take, position, codes, Option, Some, None, option_map, Result, Ok}
+use Rattle.std.specs.Prelude.{◌≡◌, ◌+◌, ◌-◌, ℕ, suc, Bool, false, List, [], ◌∷◌, ◌++◌, length, map, take, position, codes, Option, Some, None, option_map, Result, Ok, Err, if◌then◌else◌}
 use Rattle.fed_model.specs.View.{view}
 use Rattle.fed_model.specs.Packet.{Site, Packet, shipped}
 use Rattle.fed_wire.specs.declared.faults.WireFault.{WireFault}
@@ -20,7 +20,9 @@ use Rattle.fed_looks.specs.Look.{Look}
 use Rattle.fed_looks.specs.LookLine.{look_in_line}
 use Rattle.fed_looks.specs.LookText.{look_text}
 use Rattle.fed_site.specs.Line.{packet_text}
-use Rattle.fed_site.specs.Says.{after_reading}
+use Rattle.fed_site.specs.Packets.{is_foreign}
+use Rattle.fed_site.specs.Rosters.{next_roster, told_in}
+use Rattle.fed_site.specs.Says.{after_next, after_reading}
 use Rattle.fed_turns.specs.Turn.{Turn, Course, after_turn}
 
 -- ---- what a turn does in a run
@@ -29,8 +31,11 @@ pub data Deed : Type 0 where
   looks : (look : Look) → Deed
   -- what the line of a script does that says the same, if it can be read
   does : (line : Option Line) → Deed
-  -- the site is to take a text that is of no packet shipped before, and takes nothing: no line of a script says so
+  -- the site is to take a text that tells of a site which its roster hasn't, or is of no packet shipped before, and takes
+  -- nothing: no line of a script says so
   declines : (text : List ℕ) → Deed
+  -- the site is told a roster, or words that name none, which changes nothing that it holds: no line of a script says so
+  hears : (told : Option (List (List ℕ × ℕ))) → Deed
 
 -- two texts are read, and as the same packet
 abbrev pub is_same_reading : Result PacketValue WireFault → Result PacketValue WireFault → Bool
@@ -59,12 +64,23 @@ abbrev pub taken_as : ℕ → List ℕ → Option ℕ → Deed
 taken_as site text (Some number) = does (Some (takes site number))
 taken_as site text None = declines text
 
+-- a packet is read that tells of a site which the roster hasn't
+abbrev pub is_stranger : List (List ℕ × ℕ) → Result PacketValue WireFault → Bool
+is_stranger roster (Ok p) = is_foreign roster p
+is_stranger roster (Err fault) = false
+
 abbrev pub numbered : List (List ℕ × ℕ) → Course → Turn → Option (List ℕ) → Deed
 numbered roster c t None = looked roster t (look_in_line roster t.site t.line)
-numbered roster c t (Some text) = taken_as t.site text (number_of c.shipped text)
+numbered roster c t (Some text) =
+    if is_stranger roster (packet_in text) then declines text else taken_as t.site text (number_of c.shipped text)
 
-abbrev pub deed_of : List (List ℕ × ℕ) → Course → Turn → Deed
-deed_of roster c t = numbered roster c t (packet_text t.line)
+abbrev pub heard : List (List ℕ × ℕ) → Course → Turn → Option (Option (List (List ℕ × ℕ))) → Deed
+heard roster c t None = numbered roster c t (packet_text t.line)
+heard roster c t (Some told) = hears told
+
+-- by the roster that the site knows
+abbrev pub deed_of : Course → Turn → Deed
+deed_of c t = heard (c.roster t.site) c t (told_in t.line)
 
 -- the events of a line: its commands in order, a packet that is made, or one that is taken
 abbrev pub events_of : Line → List Event
@@ -81,15 +97,15 @@ abbrev pub events_done : Deed → List Event
 events_done (looks look) = []
 events_done (does line) = events_told line
 events_done (declines text) = []
+events_done (hears told) = []
 
-module _ (roster : List (List ℕ × ℕ)) where
-  abbrev pub events_at : Course → Turn → List Event
-  events_at c t = events_done (deed_of roster c t)
+abbrev pub events_at : Course → Turn → List Event
+events_at c t = events_done (deed_of c t)
 
-  -- the events of turns, in their order
-  abbrev pub events_from : Course → List Turn → List Event
-  events_from c [] = []
-  events_from c (t ∷ ts) = events_at c t ++ events_from (after_turn roster c t) ts
+-- the events of turns, in their order
+abbrev pub events_from : Course → List Turn → List Event
+events_from c [] = []
+events_from c (t ∷ ts) = events_at c t ++ events_from (after_turn c t) ts
 
 -- ---- what a run leaves
 -- what is read of a site
@@ -133,20 +149,22 @@ abbrev pub IsToldAnswer : List (List ℕ × ℕ) → World → Option Line → L
 IsToldAnswer roster w None outcomes bytes = bytes ≡ answer_line (codes "cannot be read")
 IsToldAnswer roster w (Some line) outcomes bytes = IsAnswer roster w line outcomes bytes
 
--- a look at a site, and a text that it declines, are answered by what the site holds in the world
+-- a look at a site, a text that it declines and a roster that it is told are answered by what the site holds in the world
 abbrev pub IsDeedAnswer : List (List ℕ × ℕ) → World → ℕ → Deed → List Outcome → List ℕ → Type 0
 IsDeedAnswer roster w site (looks look) outcomes bytes = bytes ≡ look_text roster (state_at site (w.site site)) look
 IsDeedAnswer roster w site (does line) outcomes bytes = IsToldAnswer roster w line outcomes bytes
 IsDeedAnswer roster w site (declines text) outcomes bytes =
     bytes ≡ (after_reading roster (state_at site (w.site site)) (packet_in text)).text
+IsDeedAnswer roster w site (hears told) outcomes bytes =
+    bytes ≡ (after_next roster (state_at site (w.site site)) (next_roster roster told)).text
 
-module _ (roster : List (List ℕ × ℕ)) where
+-- in a run of so many sites
+module _ (n : ℕ) where
   abbrev pub IsAnswered : Course → World → Turn → Type 0
   IsAnswered c w t =
-      IsDeedAnswer roster w t.site (deed_of roster c t) (outcomes_from (length roster) w (events_at roster c t)) t.answer
+      IsDeedAnswer (c.roster t.site) w t.site (deed_of c t) (outcomes_from n w (events_at c t)) t.answer
 
   -- each turn is answered as in the run
   abbrev pub AreAnswered : Course → World → List Turn → Type 0
   AreAnswered c w [] = Unit {0}
-  AreAnswered c w (t ∷ ts) = IsAnswered c w t ×
-      AreAnswered (after_turn roster c t) (run_from (length roster) w (events_at roster c t)) ts
+  AreAnswered c w (t ∷ ts) = IsAnswered c w t × AreAnswered (after_turn c t) (run_from n w (events_at c t)) ts

@@ -1,5 +1,5 @@
 -- Sites by themselves: their lines, one after another, among which the texts of packets are carried.
-use Rattle.std.specs.Prelude.{◌≡◌, ℕ, ◌<◌, List, [], ◌∷◌, ◌++◌, length, All, IfSome}
+use Rattle.std.specs.Prelude.{◌≡◌, ℕ, ◌<◌, true, List, [], ◌∷◌, ◌++◌, length, All, IfSome}
 use Rattle.fed_stamp.specs.Indexes.{put}
 use Rattle.fed_lattice.specs.Sets.{Has}
 use Rattle.fed_replica.specs.State.{State, empty_at}
@@ -7,6 +7,7 @@ use Rattle.fed_wire.specs.Reading.{packet_in}
 use Rattle.fed_qstat.specs.Outcome.{answer_line}
 use Rattle.fed_site.specs.Journal.{kept_lines}
 use Rattle.fed_site.specs.Line.{packet_text}
+use Rattle.fed_site.specs.Rosters.{begins, roster_after}
 use Rattle.fed_site.specs.Says.{Reply, Text, PacketFor, IsReply, Said, site_says}
 
 -- a line at a site, and the bytes that answered it
@@ -15,26 +16,43 @@ pub record Turn : Type 0 where
   pub line : List ℕ
   pub answer : List ℕ
 
--- what is read of each site, and the answers to the ships so far, in order
+-- what is read of each site, the roster that it knows, and the answers to the ships so far, in order
 pub record Course : Type 0 where
   pub site : ℕ → State
+  pub roster : ℕ → List (List ℕ × ℕ)
   pub shipped : List (List ℕ)
 
--- each site holds nothing
-abbrev pub beginning : Course
-beginning = record { site = empty_at; shipped = [] }
+-- each site holds nothing, and knows the roster that it was made with
+abbrev pub beginning : (ℕ → List (List ℕ × ℕ)) → Course
+beginning rosters = record { site = empty_at; roster = rosters; shipped = [] }
 
 -- an answer to a ship
 abbrev pub shipped_by : Reply → List ℕ → List (List ℕ)
 shipped_by (Text text) answer = []
 shipped_by (PacketFor to) answer = answer ∷ []
 
--- once this was said at a site, and answered so
-abbrev pub after_said : Course → ℕ → Said → List ℕ → Course
-after_said c site said answer = record {
+-- once this was said at a site, and answered so, and the site knows this roster
+abbrev pub after_said : Course → ℕ → List (List ℕ × ℕ) → Said → List ℕ → Course
+after_said c site roster said answer = record {
   site = put c.site site said.after;
+  roster = put c.roster site roster;
   shipped = c.shipped ++ shipped_by said.reply answer;
 }
+
+-- what the site of a turn says
+abbrev pub said_to : Course → Turn → Said
+said_to c t = site_says (c.roster t.site) (c.site t.site) t.line
+
+abbrev pub after_turn : Course → Turn → Course
+after_turn c t = after_said c t.site (roster_after (c.roster t.site) t.line) (said_to c t) t.answer
+
+abbrev pub after_turns : Course → List Turn → Course
+after_turns c [] = c
+after_turns c (t ∷ ts) = after_turns (after_turn c t) ts
+
+-- the roster that the site of a turn behind these knows, where sites were made with these rosters
+abbrev pub roster_at : (ℕ → List (List ℕ × ℕ)) → List Turn → Turn → List (List ℕ × ℕ)
+roster_at rosters early t = (after_turns (beginning rosters) early).roster t.site
 
 -- ---- texts that are carried
 -- the text is that of an answer to a ship, or reads as the same packet
@@ -50,23 +68,20 @@ IsCarried answers line = IfSome (packet_text line) (WasShipped answers)
 abbrev pub AreCarried : List (List ℕ × ℕ) → List (List ℕ) → State → List (List ℕ) → Type 0
 AreCarried roster answers s lines = All (IsCarried answers) (kept_lines roster s lines)
 
-module _ (roster : List (List ℕ × ℕ)) where
-  -- what the site of a turn says
-  abbrev pub said_to : Course → Turn → Said
-  said_to c t = site_says roster (c.site t.site) t.line
+-- ---- what may be
+-- The sites' rosters are beginnings of one, by their names: so a number is that of one site wherever it is known.
+module _ (whole : List (List ℕ × ℕ)) where
+  -- so it is for a site that knows this roster, before each of these lines
+  abbrev pub AreBeginnings : List (List ℕ × ℕ) → List (List ℕ) → Type 0
+  AreBeginnings roster [] = Unit {0}
+  AreBeginnings roster (line ∷ lines) = (begins roster whole ≡ true) × AreBeginnings (roster_after roster line) lines
 
-  abbrev pub after_turn : Course → Turn → Course
-  after_turn c t = after_said c t.site (said_to c t) t.answer
-
-  abbrev pub after_turns : Course → List Turn → Course
-  after_turns c [] = c
-  after_turns c (t ∷ ts) = after_turns (after_turn c t) ts
-
-  -- a site of the roster said so, and a text that it took was shipped before
+  -- a site of its own roster said so, and a text that it took was shipped before
   pub record MayTurn (c : Course) (t : Turn) : Type 0 where
-    pub site : t.site < length roster
+    pub site : t.site < length (c.roster t.site)
+    pub part : begins (c.roster t.site) whole ≡ true
     pub said : IsReply (c.site t.site) (said_to c t).reply t.answer
-    pub carried : AreCarried roster c.shipped (c.site t.site) (t.line ∷ [])
+    pub carried : AreCarried (c.roster t.site) c.shipped (c.site t.site) (t.line ∷ [])
 
   abbrev pub MayTurns : Course → List Turn → Type 0
   MayTurns c [] = Unit {0}

@@ -2,7 +2,7 @@
 ghost use Rattle.fed_journal.specs.Memory.{memory_may_leave, memory_seen};
 ghost use Rattle.fed_home.specs.Home.{IsOpen};
 
-use crate::homes::{answer_groups, made, opened, running, stopping};
+use crate::homes::{HEADER, answer_groups, made, opened, running, stopping};
 use fed_home::{Compaction, Home, HomeFault, Told};
 use fed_journal::{Journal, Memory, Tear};
 use fed_script::BoxedRoster;
@@ -78,6 +78,9 @@ fn compacted(alloc: Global, file: &[u8]) -> Result<Vec<u8>, Fail> {
 /// The header of a journal of format 2.
 const COMPACTED: &[u8] = b"nettlebeam 2 argonne argonne:8 lemont:4";
 
+/// The one that is written once the home was told a roster.
+const COMPACTED_OF_THREE: &[u8] = b"nettlebeam 2 argonne argonne:6 lemont:4 batavia:2";
+
 // By hand: argonne has made five operations, and lemont, which has heard nothing, two.
 const SEEN: &[u8] = b"argonne 5 5\nlemont 2 0\n";
 
@@ -93,6 +96,38 @@ fn a_compacted_journal_stands_for_the_same(rt: HostRuntime) -> Result<(), Fail> 
     let entries = entries_of(alloc, &disk)?;
     assert_eq!(rt; entries.len(), 3);
     assert_eq!(rt; entries.first().ok_or("an entry")?.as_slice(), COMPACTED);
+    Ok(())
+}
+
+/// What the disk has of a home that was told a roster, and has a job which may run at a site that is new.
+fn told_a_roster(alloc: Global) -> Result<Vec<u8>, Fail> {
+    let mut home = opened(alloc, &made(alloc)?)?;
+    let line: &[u8] = b"roster argonne:6 lemont:4 batavia:2";
+    home.answer(&[line, b"ann qsub -l sites=batavia"], false)?;
+    Ok(home.into_device().into_disk())
+}
+
+// By hand: argonne has made one operation, of which no other site has heard.
+const SEEN_OF_THREE: &[u8] = b"argonne 1 1\nlemont 0 0\nbatavia 0 0\n";
+
+#[test]
+fn a_roster_that_was_told_is_known_again(rt: HostRuntime) -> Result<(), Fail> {
+    let alloc = rt.alloc();
+    let file = told_a_roster(alloc)?;
+    let before = looks(&mut opened(alloc, &file)?)?;
+    assert_eq!(rt;
+        before.get(1).ok_or("three answers")?.answer.bytes(),
+        SEEN_OF_THREE
+    );
+    let entries = entries_of(alloc, &file)?;
+    assert_eq!(rt; entries.first().ok_or("an entry")?.as_slice(), HEADER);
+    let disk = compacted(alloc, &file)?;
+    assert!(rt; are_same(&before, &looks(&mut opened(alloc, &disk)?)?));
+    let entries = entries_of(alloc, &disk)?;
+    assert_eq!(rt;
+        entries.first().ok_or("an entry")?.as_slice(),
+        COMPACTED_OF_THREE
+    );
     Ok(())
 }
 

@@ -13,7 +13,7 @@ use std::alloc::Global;
 use std::test::Fail;
 use std::{fs, io};
 
-const HEADER: &[u8] = b"nettlebeam 1 argonne argonne:8 lemont:4";
+pub(crate) const HEADER: &[u8] = b"nettlebeam 1 argonne argonne:8 lemont:4";
 
 /// Three groups of lines. The third line of the last group and the listing are not kept.
 const FIRST: [&[u8]; 1] = [b"ann qsub"];

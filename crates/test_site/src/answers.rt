@@ -43,7 +43,7 @@ fn commands_are_answered(rt: HostRuntime) {
     assert!(rt; says(&rt, &mut argonne, b"take", b"cannot be read\n", false));
     assert!(rt; says(&rt, &mut argonne, b"", b"", false));
     assert!(rt; says(&rt, &mut argonne, b"# a comment", b"", false));
-    assert!(rt; says(&rt, &mut argonne, b"roster a:1", b"usage 1\n", false));
+    assert!(rt; says(&rt, &mut argonne, b"roster a 1", b"usage 1\n", false));
     assert!(rt;
         says(
             &rt,

@@ -16,7 +16,7 @@ fn complaints_tell_why(rt: HostRuntime) {
     let unread = |fault: WireFault| Some(Complaint::Unread(fault));
     assert!(rt; complaint(&rt, &mut argonne, b"take") == Some(Complaint::Unreadable));
     assert!(rt;
-        complaint(&rt, &mut argonne, b"roster a:1")
+        complaint(&rt, &mut argonne, b"roster a 1")
             == Some(Complaint::Misused(UsageFault::UnknownUtility))
     );
     assert!(rt;

@@ -23,6 +23,9 @@ mod packets;
 /// Lines that are kept, and their replay.
 #[cfg(test)]
 mod replays;
+/// Rosters that are told to sites.
+#[cfg(test)]
+mod rosters;
 /// Sites, and what they answer.
 #[cfg(test)]
 mod sites;

@@ -19,14 +19,15 @@ loop-line-preserved c = record {
       c.loop-line-test.true c.loop-line.invariant.run c.in_ok-answered.ensures.said
       (answer_more c.loop-line.answers.items _ c.in_ok-told.told c.in_ok-answered.answered c.in_ok-push-2.ensures.items c.in_ok-told.ensures.answer)
       (elim c.if-is_kept.branch [
-        | then-is_kept+in_ok-push w ↦ keeps_more c.args.site.now.roster c.loop-line.kept.items c.if-is_kept.kept.items _ (kept_of c.in_ok-answered.answered) (sym c.is_kept.ensures ∙ w.if-is_kept.true) (ap (λ (v : Vec (Bor (List ℕ)) Global). v.items) w.kept-is ∙ w.in_ok-push.ensures.items)
-        | else-is_kept w ↦ keeps_same c.args.site.now.roster c.loop-line.kept.items c.if-is_kept.kept.items _ (kept_of c.in_ok-answered.answered) (sym c.is_kept.ensures ∙ w.if-is_kept.false) (ap (λ (v : Vec (Bor (List ℕ)) Global). v.items) w.kept-is)
+        | then-is_kept+in_ok-push w ↦ keeps_more c.loop-line.kept.items c.if-is_kept.kept.items _ (kept_of c.in_ok-answered.answered) (sym c.is_kept.ensures ∙ w.if-is_kept.true) (ap (λ (v : Vec (Bor (List ℕ)) Global). v.items) w.kept-is ∙ w.in_ok-push.ensures.items)
+        | else-is_kept w ↦ keeps_same c.loop-line.kept.items c.if-is_kept.kept.items _ (kept_of c.in_ok-answered.answered) (sym c.is_kept.ensures ∙ w.if-is_kept.false) (ap (λ (v : Vec (Bor (List ℕ)) Global). v.items) w.kept-is)
       ]);
   told = told_more c.args.asked c.loop-line.answers.items _ c.in_ok-told.told c.loop-line.invariant.told c.in_ok-told.ensures.words c.in_ok-push-2.ensures.items;
 }
 
 pub returns-clause-roster : goal.returns-clause-roster
-returns-clause-roster c = c.loop-line.invariant.run.roster
+returns-clause-roster c =
+    (all_answered c.args.site.now c.loop-line.site c.args.lines.now c.loop-line.line-index (answers_in c.loop-line.answers.items) _ c.loop-line-test.false c.loop-line.invariant.run).roster
 
 pub returns-clause-after : goal.returns-clause-after
 returns-clause-after c =

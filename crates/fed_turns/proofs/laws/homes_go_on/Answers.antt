@@ -5,6 +5,7 @@ use Rattle.fed_model.specs.Run.{start}
 use Rattle.fed_journal.specs.Journal.{entries_of}
 use Rattle.fed_home.specs.Replay.{replay}
 use Rattle.fed_turns.specs.Crash.{turns_from}
+use Rattle.fed_turns.specs.Home.{course_of}
 use Rattle.fed_turns.specs.Turn.{beginning}
 use Rattle.fed_turns.proofs.Alarms.{start_stands}
 use Rattle.fed_turns.proofs.Crashes.{all_may}
@@ -14,28 +15,29 @@ use Rattle.fed_turns.proofs.Turns.{turns_played}
 use Rattle.fed_turns.proofs.laws.homes_go_on.Goals as goal
 
 pub returns-clause-named : goal.returns-clause-named
-returns-clause-named c roster i happenings file h = (h.0, h.1)
+returns-clause-named c rosters i happenings file h = (h.0, h.1)
 
 pub returns-clause-made : goal.returns-clause-made
 returns-clause-made c header file now e r = home_made header file now e r
 
 pub returns-clause-opened : goal.returns-clause-opened
-returns-clause-opened c roster i happenings file may h =
-    let played = turns_played roster h.0.at_most (turns_from roster beginning happenings) beginning start start_stands (start_reached (length roster)) (all_may roster happenings beginning may) in
-    h.2 ∙ ap (λ (s : State). Some (record { roster = roster; state = s })) (played.stands.sites i)
+returns-clause-opened c whole rosters i happenings file lawful may h =
+    let played = turns_played whole lawful.at_most (turns_from (beginning rosters) happenings) (beginning rosters) start (start_stands rosters) (start_reached (length whole)) (all_may whole happenings (beginning rosters) may) in
+    h.2 ∙ ap (λ (s : State). Some (record { roster = (course_of rosters happenings).roster i; state = s })) (played.stands.sites i)
 
 pub returns-clause-answered : goal.returns-clause-answered
-returns-clause-answered c roster i happenings old new now lines answers may h e replies added carried =
-    home_answered roster i happenings old new now lines answers may h e replies added carried
+returns-clause-answered c whole rosters i happenings old new now lines answers may h e replies added carried parts =
+    home_answered i rosters happenings whole old new now lines answers may h e replies added carried parts
 
 pub returns-clause-crashed : goal.returns-clause-crashed
-returns-clause-crashed c roster i happenings old file now lines may h e left carried = home_crashed roster i happenings old file now lines may h e left carried
+returns-clause-crashed c whole rosters i happenings old file now lines may h e left carried parts =
+    home_crashed i rosters happenings whole old file now lines may h e left carried parts
 
 pub returns-clause-same : goal.returns-clause-same
-returns-clause-same c roster i happenings old new e h = (h.0, h.1, ap (λ r. replay (entries_of r)) e ∙ h.2)
+returns-clause-same c rosters i happenings old new e h = (h.0, h.1, ap (λ r. replay (entries_of r)) e ∙ h.2)
 
 pub returns-clause-compacted : goal.returns-clause-compacted
-returns-clause-compacted c roster i happenings old new now was is h = (h.0, h.1, is ∙ sym was ∙ h.2)
+returns-clause-compacted c rosters i happenings old new now was is h = (h.0, h.1, is ∙ sym was ∙ h.2)
 
 pub returns-clause-others : goal.returns-clause-others
-returns-clause-others c roster i happenings later file away h = home_of_other roster i happenings later file away h
+returns-clause-others c rosters i happenings later file away h = home_of_other i rosters happenings later file away h

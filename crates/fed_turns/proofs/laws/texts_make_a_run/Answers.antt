@@ -7,13 +7,13 @@ use Rattle.fed_turns.proofs.Turns.{turns_played}
 use Rattle.fed_turns.proofs.laws.texts_make_a_run.Goals as goal
 
 pub returns-clause-states : goal.returns-clause-states
-returns-clause-states c roster turns lawful may =
-    (turns_played roster lawful.at_most turns beginning start start_stands (start_reached (length roster)) may).stands
+returns-clause-states c whole rosters turns lawful may =
+    (turns_played whole lawful.at_most turns (beginning rosters) start (start_stands rosters) (start_reached (length whole)) may).stands
 
 pub returns-clause-answers : goal.returns-clause-answers
-returns-clause-answers c roster turns lawful may =
-    (turns_played roster lawful.at_most turns beginning start start_stands (start_reached (length roster)) may).answered
+returns-clause-answers c whole rosters turns lawful may =
+    (turns_played whole lawful.at_most turns (beginning rosters) start (start_stands rosters) (start_reached (length whole)) may).answered
 
 pub returns-clause-ranged : goal.returns-clause-ranged
-returns-clause-ranged c roster turns lawful may =
-    (turns_played roster lawful.at_most turns beginning start start_stands (start_reached (length roster)) may).ranged
+returns-clause-ranged c whole rosters turns lawful may =
+    (turns_played whole lawful.at_most turns (beginning rosters) start (start_stands rosters) (start_reached (length whole)) may).ranged
