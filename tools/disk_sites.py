@@ -21,7 +21,7 @@ from plain_words import READABLE
 
 LONGEST_WAIT = 120
 PIPE_BYTES = 65_536
-FAULTS = ("refused", "usage", "gap", "unread", "foreign", "forgotten", "cannot be read")
+FAULTS = ("refused", "usage", "gap", "unread", "foreign", "forgotten", "cannot be read", "other roster")
 NOT_KEPT = Answer("not kept\n")
 
 
@@ -135,19 +135,18 @@ class DiskSite:
 
     def __init__(self, program, path, roster, number):
         self.program = program
-        self.roster = roster
         self.model = Site(roster, number)
         self.name = roster.names[number]
-        self.directory = Directory(path, self.name, self.header(1))
+        self.directory = Directory(path, self.name, self.header(1, roster))
         # what the site held when its journal was compacted last, and how many entries say so
         self.base, self.base_entries = Site(roster, number), 1
         self.disk = None
         self.not_kept = 0
         self.compactions = 0
 
-    def header(self, version):
-        """The first entry of the site's journal."""
-        return " ".join([f"nettlebeam {version}", self.name, *self.roster.words()]).encode()
+    def header(self, version, roster):
+        """The first entry of the site's journal, where this roster was known when the journal was made."""
+        return " ".join([f"nettlebeam {version}", self.name, *roster.words()]).encode()
 
     def replayed(self, entries, packets):
         """A site of the model that was told these entries, of which the first say what it held before."""
@@ -163,7 +162,7 @@ class DiskSite:
 
     def make(self, cut=Cut()):
         """Makes the directory, at the second attempt where the first was cut short."""
-        words = ["init", self.directory.path, self.name, *self.roster.words()]
+        words = ["init", self.directory.path, self.name, *self.base.roster.words()]
         ended = run(self.program, words, cut=cut)
         if self.directory.journal()[0] != self.directory.entries:
             if ended.status == 0:
@@ -333,14 +332,14 @@ class DiskSite:
 
     def front_of(self, model):
         """The entries of a journal that is compacted where the site holds this."""
-        return [self.header(2), *(text.encode() for text in model.compacted())]
+        return [self.header(2, model.roster), *(text.encode() for text in model.compacted())]
 
     def is_compacted(self, needed):
         """Whether another journal has come into the place of the one that was known, which would have so many entries more
         at least. Both may begin with the same, where the lines between two compactions have changed nothing."""
         entries, known = self.directory.journal()[0], self.directory.entries
         goes_on = entries[: len(known)] == known and len(entries) >= len(known) + needed
-        return entries[:1] == [self.header(2)] and not goes_on
+        return bool(entries) and entries[0].startswith(b"nettlebeam 2 ") and not goes_on
 
     def note_compaction(self, front, model):
         """The journal begins with these entries, which say what the site held."""
@@ -354,13 +353,13 @@ class DiskSite:
         if before is None or len(entries) < 2:
             raise Wrong(f"{self.name}: the journal was compacted where nothing may: {shown(self.directory.file())}")
         reached = json.loads(entries[1])["reached"]
-        kept_now, after, heard, front, found = self.model, before.copy(), None, [], None
+        kept_now, after, known, front, found = self.model, before.copy(), None, [], None
         self.model = after
         try:
             for done in range(len(answers) + 1):
                 if after.version == reached:
-                    if heard != after.heard:
-                        heard, front = [list(version) for version in after.heard], self.front_of(after)
+                    if known != (after.roster, after.heard):
+                        known, front = (after.roster, [list(version) for version in after.heard]), self.front_of(after)
                     kept = [line.text for line, answer in answers[done:] if answer.kept]
                     new = entries[len(front) :]
                     if entries[: len(front)] == front and new == kept[: len(new)]:
@@ -422,7 +421,7 @@ class DiskSite:
         before = self.directory.file()
         ended = run(self.program, ["check", self.directory.path])
         self.expect_status(ended, 0, "check")
-        seen = " ".join(f"{name} {counter}" for name, counter in zip(self.roster.names, self.model.version))
+        seen = " ".join(f"{name} {counter}" for name, counter in zip(self.model.roster.names, self.model.version))
         form = " (compacted)" if self.base_entries > 1 else ""
         front = f"entries {len(self.directory.entries)}{form}, seen {seen}, jobs {len(self.model.jobs())}, "
         wanted = f"{front}unfinished bytes {len(self.directory.tail)}\n".encode()
@@ -459,7 +458,7 @@ class DiskSite:
         if not entries:
             self.expect_status(ended, 3, "a journal without an entry")
             return
-        if entries == [self.header(2)]:
+        if entries == [self.header(2, self.base.roster)]:
             self.expect_status(ended, 3, "a journal without what the site knew")
             return
         self.expect_status(ended, 0, "a journal with a closed gate")

@@ -8,7 +8,7 @@ from collections import Counter
 from typing import NamedTuple
 
 from plain_words import GREATEST_COUNTER, GREATEST_MOMENT, GREATEST_NODES
-from plain_words import Unread, read_line, read_roster, read_words, words_of
+from plain_words import Unread, read_line, read_roster, read_words, words_of, words_of_roster
 
 MOST_JOBS = 10_000
 MOST_RESERVATIONS = 1_000
@@ -208,8 +208,10 @@ class Site:
         return f"{stamp[0]}.{self.site_name(stamp[1])}"
 
     def site_name(self, number):
-        """The name of a site, `-` for none."""
-        return "-" if number is None else self.roster.names[number]
+        """The name of a site, `-` for none. A job may name a site that the roster hasn't yet: then it is the number."""
+        if number is None:
+            return "-"
+        return self.roster.names[number] if number < len(self.roster.names) else f"#{number}"
 
     # Refusals and operations
 
@@ -328,8 +330,15 @@ class Site:
         """The packet for a site."""
         return Packet(self.number, list(self.heard[to]), list(self.version), dict(self.operations))
 
+    def is_foreign(self, packet):
+        """Whether a packet is of a site that the roster hasn't, or tells of operations of one."""
+        count = len(self.roster.names)
+        return packet.sender >= count or any(packet.reached[count:])
+
     def take(self, packet):
         """Takes a packet: its answer."""
+        if self.is_foreign(packet):
+            return Answer("foreign\n")
         for site, counter in enumerate(packet.need):
             if counter > self.version[site]:
                 return Answer(f"gap {self.site_name(site)}\n")
@@ -440,6 +449,28 @@ class Site:
                 spans.append((moment, moment + job.value("limit"), job.value("nodes")))
         return text + f"head {self.name(head.stamp)} {shadow}\n"
 
+    # Rosters
+
+    def hear_roster(self, words):
+        """The answer to the words of a line that tells the roster: it has to go on with the one that is known."""
+        try:
+            told = read_roster(words)
+        except Unread:
+            return Answer("other roster\n")
+        if not told.goes_on_with(self.roster):
+            return Answer("other roster\n")
+        known, self.roster = self.roster, told
+        return Answer("done\n", told != known)
+
+    def seen(self):
+        """Of each site its name, the counter that was seen of it, and the counter of this one that it is known to have seen."""
+        rows = [f"{name} {self.version[site]} {self.counter_seen_by(site)}\n" for site, name in enumerate(self.roster.names)]
+        return "".join(rows)
+
+    def counter_seen_by(self, site):
+        """The counter of this site that another is known to have seen; it has seen all of its own."""
+        return (self.version if site == self.number else self.heard[site])[self.number]
+
     # Lines
 
     def say(self, said):
@@ -460,6 +491,11 @@ class Site:
     def answer(self, line):
         """The answer of a site by itself to a line that is no `take` of a packet."""
         try:
+            roster = words_of_roster(line)
+            if roster:
+                return self.hear_roster(roster)
+            if words_of(line) == ["seen"]:
+                return Answer(self.seen())
             said = read_line(self.roster, self.number, line)
         except Unread:
             return Answer("cannot be read\n")

@@ -54,6 +54,10 @@ class Roster(NamedTuple):
         """The words that make this roster."""
         return [f"{name}:{nodes}" for name, nodes in zip(self.names, self.nodes)]
 
+    def goes_on_with(self, known):
+        """Whether the names of a known roster stand first in this one, in their order."""
+        return self.names[: len(known.names)] == known.names
+
 
 class Who(NamedTuple):
     """Who asks: a user in the role `user`, `operator` or `admin`."""
@@ -114,6 +118,12 @@ def read_roster(words):
     if not 1 <= len(names) <= 16 or len(set(names)) < len(names):
         raise Unread
     return Roster(tuple(names), tuple(nodes))
+
+
+def words_of_roster(line):
+    """The words behind `roster` where a line tells a site by itself the roster, else None. A user may be called so too."""
+    words = words_of(line)
+    return words[1:] if words[:1] == ["roster"] and ":" in "".join(words[1:2]) else None
 
 
 def read_site(roster, name, malformed):

@@ -1,6 +1,7 @@
-"""Random lines for a site of the plain model: commands of every kind, misuses and lines that can't be read."""
+"""Random lines for a site of the plain model: commands of every kind, rosters, misuses and lines that can't be read."""
+from plain_words import Roster
 
-USERS = ("ann", "ann", "bob", "Dora.x-y", "cy_2/operator", "oz/operator", "root/admin", "root/admin")
+USERS = ("ann", "ann", "bob", "roster", "Dora.x-y", "cy_2/operator", "oz/operator", "root/admin", "root/admin")
 SITE_NAMES = (
     "argonne lemont batavia fermi oak-ridge sparks ames golden livermore hanford A z9 "
     "a-rather-long-1 brookhaven upton idaho"
@@ -36,7 +37,10 @@ MISUSES = (
     "ann qstat -x",
     "ann qstat --x",
     "ann qstat -f 1.",
-    "roster a:1",
+    "roster",
+    "roster a",
+    "roster argonne lemont:4",
+    "roster/admin argonne:8",
     "equal a b",
     "root/admin grant 1 argonne",
 )
@@ -65,16 +69,24 @@ UNREADABLE = (
     "oz/operator reserve nowhere 1 2 3",
     "oz/operator reserve lemont 1 2",
     "ann qsub \x7f",
+    "roster argonne:8 \x7f",
+    "roster argonne:8 lemont:4\xe9",
     "# a comment with \x01",
     "\xe9ric qsub",
 )
-SKIPPED = ("", "   ", "\t", "# a comment", "  #x qsub")
+SKIPPED = ("", "   ", "\t", "# a comment", "  #x qsub", "#roster a:1")
+NODES = (1, 2, 4, 8, 13, 1_000_000)
+# what stands for the nodes of a site in a roster that is none; the last but one is 4 where it is cut to 64 bits
+WRONG_NODES = ("0", "1000001", "", "x", "-4", "+4", "4x", "8:4", "18446744073709551620", "000")
+WRONG_NAMES = ("", "9x", "a_b", "a.b", "sixteen-letters-", "roster", "equal", "ann/admin", '"a"')
+MOST_SITES = 16
 
 
 class RandomLines:
     """Makes lines by what a site holds, so that most of them do something."""
 
     def __init__(self, pick, roster):
+        """The roster is the longest that a site will know."""
         self.pick = pick
         self.roster = roster
         self.makers = (
@@ -92,6 +104,8 @@ class RandomLines:
             + [self.finish] * 5
             + [self.hand_back] * 5
             + [self.plan] * 5
+            + [self.seen] * 1
+            + [self.tell_roster] * 2
             + [self.misuse] * 3
             + [self.unreadable] * 2
             + [self.skipped] * 1
@@ -115,19 +129,20 @@ class RandomLines:
         """A moment, mostly a small one."""
         return self.pick.choice((self.pick.randrange(100), self.pick.randrange(5000), 1_000_000_000_000))
 
-    def site_name(self):
-        """A site of the roster."""
-        return self.pick.choice(self.roster.names)
+    def site_name(self, site):
+        """A site that the site knows, seldom one that it may not know yet."""
+        roster = self.roster if self.pick.random() < 0.04 else site.roster
+        return self.pick.choice(roster.names)
 
-    def site_names(self):
+    def site_names(self, site):
         """A value of `sites`."""
-        return "+".join(self.site_name() for _ in range(self.pick.randrange(1, 4)))
+        return "+".join(self.site_name(site) for _ in range(self.pick.randrange(1, 4)))
 
     def identifier(self, site, wanted=lambda job: True):
         """The identifier of a job that the site knows, of those wanted if there are any; seldom of another job."""
         recent = site.jobs(40)
         if not recent or self.pick.random() < 0.04:
-            return f"{self.pick.randrange(1, 40)}.{self.site_name()}"
+            return f"{self.pick.randrange(1, 40)}.{self.site_name(site)}"
         job = self.pick.choice([job for job in recent if wanted(job)] or recent)
         counter, origin = job.stamp
         if origin == site.number and self.pick.random() < 0.5:
@@ -138,16 +153,16 @@ class RandomLines:
         """One to three jobs."""
         return " ".join(self.identifier(site) for _ in range(self.pick.choice((1, 1, 1, 2, 3))))
 
-    def resources(self):
+    def resources(self, site):
         """An argument of `-l`."""
         pairs = (
             f"nodes={self.pick.choice((1, 2, 3, 5, 8, 13, 1_000_000))}",
             f"walltime={self.pick.choice((1, 10, 50, 51, 100, 3600, 10_000_000))}",
-            f"sites={self.site_names()}",
+            f"sites={self.site_names(site)}",
         )
         return ",".join(self.pick.sample(pairs, self.pick.randrange(1, 4)))
 
-    def options(self, letters):
+    def options(self, site, letters):
         """Some options of a utility, in some spelling."""
         words = []
         for letter in self.pick.sample(letters, self.pick.randrange(0, len(letters) + 1)):
@@ -158,7 +173,7 @@ class RandomLines:
                 "A": lambda: self.pick.choice(("chem", "phys", "x.y-z_1")),
                 "N": lambda: self.pick.choice(("render", "STDIN", "a", "fifteen-letters")),
                 "p": lambda: self.pick.choice(("5", "-5", "+7", "1023", "-1024", "0012", str(self.pick.randrange(9)))),
-                "l": self.resources,
+                "l": lambda: self.resources(site),
             }[letter]()
             words.append(f"-{letter}{self.pick.choice(('', ' '))}{argument}")
         return " ".join(words + [""])
@@ -167,12 +182,12 @@ class RandomLines:
 
     def submit(self, site):
         """`qsub`"""
-        options = self.options(self.pick.choice(("", "l", "lp", "pN", "AhlNp")))
+        options = self.options(site, self.pick.choice(("", "l", "lp", "pN", "AhlNp")))
         return f"{self.user()} qsub {options}{self.pick.choice(('', '', 'render.sh', '-- -p 5'))}".strip()
 
     def alter(self, site):
         """`qalter`"""
-        return f"{self.master()} qalter {self.options('AlNp')}{self.identifiers(site)}"
+        return f"{self.master()} qalter {self.options(site, 'AlNp')}{self.identifiers(site)}"
 
     def kinds(self):
         """The option of `qhold` and `qrls`, which may be left out."""
@@ -206,7 +221,7 @@ class RandomLines:
         end = start + self.pick.choice((0, 1, 60, 1000, 1_000_000_000_000))
         nodes = self.pick.choice((0, 1, 2, 4, 8, 1_000_000, 1 << 63))
         who = self.pick.choice(("oz/operator", "root/admin", "oz/operator", "ann"))
-        return f"{who} reserve {self.site_name()} {start} {end} {nodes}"
+        return f"{who} reserve {self.site_name(site)} {start} {end} {nodes}"
 
     def cancel(self, site):
         """`cancel`"""
@@ -219,7 +234,7 @@ class RandomLines:
     def grant(self, site):
         """`grant`, mostly of a job of this site"""
         own = self.identifier(site, lambda job: job.stamp[1] == site.number and job.letter == "Q")
-        return f"grant {own} {self.pick.choice((self.site_name(), site.site_name(site.number)))}"
+        return f"grant {own} {self.pick.choice((self.site_name(site), site.site_name(site.number)))}"
 
     def of_granted(self, site, letters, verb, rest):
         """A line of the scheduler's on a job that is granted to the site and has one of these letters; mostly a grant
@@ -249,6 +264,17 @@ class RandomLines:
         """`plan`"""
         return f"plan {self.moment()}"
 
+    def seen(self, site):
+        """`seen`"""
+        return "seen"
+
+    def tell_roster(self, site):
+        """`roster`, with a roster that goes on with the site's, or with one that doesn't"""
+        words = self.right_roster(site) if self.pick.random() < 0.4 else self.wrong_roster(site)
+        if self.pick.random() < 0.05:
+            return "\t".join([" roster ", *words]) + " "
+        return " ".join(["roster", *words])
+
     def misuse(self, site):
         """The words of a utility, misused."""
         return self.pick.choice(MISUSES)
@@ -260,3 +286,48 @@ class RandomLines:
     def skipped(self, site):
         """A line that is answered by nothing."""
         return self.pick.choice(SKIPPED)
+
+    # Rosters
+
+    def right_roster(self, site):
+        """The words of a roster that goes on with the site's: the same one, one with other nodes, or a longer one."""
+        known, most = site.roster, len(self.roster.names)
+        count = min(most, len(known.names) + self.pick.choice((0, 0, 1, 1, 2, most)))
+        nodes = [*known.nodes, *self.roster.nodes[len(known.nodes) : count]]
+        for place in range(count):
+            if self.pick.random() < 0.15:
+                nodes[place] = self.pick.choice(NODES)
+        words = Roster(self.roster.names[:count], tuple(nodes)).words() if self.pick.random() < 0.7 else known.words()
+        if self.pick.random() < 0.1:
+            words[-1] = words[-1].replace(":", ":00")
+        return words
+
+    def wrong_roster(self, site):
+        """The words of a roster that doesn't go on with the site's, or of no roster. What is changed is a word that the site
+        knows, or makes it none: a site never learns another name than the round's."""
+        words, kind = self.right_roster(site), self.pick.randrange(10)
+        place = self.pick.randrange(len(site.roster.names) if kind < 4 else len(words))
+        name, nodes = words[place].split(":")
+        if kind == 0:
+            words.insert(place, "newcomer:4")
+        elif kind == 1:
+            del words[place]
+        elif kind == 2:
+            words[place] = f"{self.pick.choice((name.swapcase(), name[:14] + 'x', 'newcomer'))}:{nodes}"
+        elif kind == 3:
+            # the first and the last of a roster of one site are the same, and it stays right
+            other = (place + self.pick.randrange(1, max(2, len(words)))) % len(words)
+            words[place], words[other] = words[other], words[place]
+        elif kind == 4:
+            words.append(f"{name}:4")
+        elif kind == 5:
+            words.append(f"{self.pick.choice(WRONG_NAMES)}:4")
+        elif kind == 6:
+            words[place] = f"{self.pick.choice(WRONG_NAMES)}:{nodes}"
+        elif kind == 7:
+            words[place] = f"{name}:{self.pick.choice(WRONG_NODES)}"
+        elif kind == 8:
+            words += [f"newcomer-{number}:1" for number in range(len(words), MOST_SITES + 1)]
+        else:
+            words[place] = name
+        return words

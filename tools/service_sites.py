@@ -91,11 +91,15 @@ class ServedSite:
         )
         for peer in (entry.split(":")[0] for entry in roster):
             if peer != self.name and (self.federation.has_links or self.federation.folders):
-                shared = self.federation.folders
-                way = f"folder = {shared}\nkey = {self.federation.key(self.name, peer)}" if shared else f"command = {folder}/link {self.name} {peer}"
-                text += PEER.format(peer=peer, way=way)
+                text += self.peer_section(peer)
         with open(self.config, "w", encoding="ascii") as file:
             file.write(text + more)
+
+    def peer_section(self, peer):
+        """The section of another site."""
+        folder, shared = self.federation.folder, self.federation.folders
+        way = f"folder = {shared}\nkey = {self.federation.key(self.name, peer)}" if shared else f"command = {folder}/link {self.name} {peer}"
+        return PEER.format(peer=peer, way=way)
 
     def start(self):
         """Starts the service."""
@@ -183,18 +187,22 @@ class ServedFederation:
             file.write(LINK.format(folder=folder, service=SERVICE))
         os.chmod(f"{folder}/link", 0o755)
 
-    def make(self, *roster, jobs="", more="", home=None, pages=None, **how):
+    def make(self, *roster, **how):
         """Makes and starts the sites of a roster, with their pages at the ports that are given by their names."""
         for entry in roster:
-            name = entry.split(":")[0]
-            place = f"{self.folder}/{name}" if home is None else home(name)
-            site = self.sites[name] = ServedSite(self, name, place)
-            port = (pages or {}).get(name)
-            site.make(self.program, roster, jobs, more + (f"[page]\nport = {port}\n" if port else ""), **how)
-            site.start()
+            self.add(entry.split(":")[0], *roster, **how)
         for site in self.sites.values():
             site.wait_ready()
         return list(self.sites.values())
+
+    def add(self, name, *roster, jobs="", more="", home=None, pages=None, **how):
+        """Makes and starts one site of a roster."""
+        place = f"{self.folder}/{name}" if home is None else home(name)
+        site = self.sites[name] = ServedSite(self, name, place)
+        port = (pages or {}).get(name)
+        site.make(self.program, roster, jobs, more + (f"[page]\nport = {port}\n" if port else ""), **how)
+        site.start()
+        return site
 
     def key(self, one, other):
         """The file with the key of a pair of sites."""
