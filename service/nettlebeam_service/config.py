@@ -8,6 +8,8 @@ import shlex
 from dataclasses import dataclass, field, fields, replace
 from typing import Any, Dict, List, Mapping, Tuple
 
+from .journal import Nameless, read_identity
+
 Words = Tuple[str, ...]
 
 
@@ -92,7 +94,7 @@ class PeerKeys:
 
 @dataclass(frozen=True)
 class Config:
-    """A whole configuration, with the site's name and roster, which its journal tells."""
+    """A whole configuration, with the site's name and the roster that its journal tells when this is read."""
 
     name: str
     roster: Mapping[str, int]
@@ -107,7 +109,6 @@ class Config:
 SECTIONS = {"site": SiteKeys, "clients": ClientKeys, "jobs": JobKeys, "page": PageKeys, "house": HouseKeys}
 RUNS = ("yes", "drain", "no")
 GREATEST_PORT = 65_535
-FORMATS = ("1", "2")  # of a journal
 
 
 def read_value(default: Any, text: str) -> Any:
@@ -136,21 +137,15 @@ def read_section(kind: Any, title: str, items: Mapping[str, str]) -> Any:
     return kind(**values)
 
 
-def read_identity(directory: str) -> Tuple[str, Dict[str, int]]:
-    """The name and the roster of the site in a directory, from the first entry of its journal."""
+def identity_in(directory: str) -> Tuple[str, Dict[str, int]]:
+    """The name of the site in a directory, and the roster that it knows."""
     path = os.path.join(directory, "journal")
     try:
-        with open(path, encoding="ascii", errors="replace") as file:
-            words = file.readline(4096).split()
+        return read_identity(path)
     except OSError as fault:
         raise ConfigFault(f"[site] directory = {directory}: {path}: {fault.strerror}") from None
-    if len(words) < 6 or words[0] != "+" or words[2] != "nettlebeam" or words[3] not in FORMATS:
-        raise ConfigFault(f"[site] directory = {directory}: its journal doesn't begin with the name of a site")
-    roster = {}
-    for word in words[5:]:
-        name, _, nodes = word.partition(":")
-        roster[name] = int(nodes)
-    return words[4], roster
+    except Nameless as fault:
+        raise ConfigFault(f"[site] directory = {directory}: {path}: {fault}") from None
 
 
 def read_peers(parser: configparser.ConfigParser, name: str, roster: Mapping[str, int]) -> Dict[str, PeerKeys]:
@@ -191,7 +186,7 @@ def read_config(path: str) -> Config:
     keys: SiteKeys = parts["site"]
     if not keys.directory:
         raise ConfigFault("[site] directory: name the directory of the site")
-    name, roster = read_identity(keys.directory)
+    name, roster = identity_in(keys.directory)
     named = {it: getattr(keys, it).replace("{site}", name) for it in ("spool", "socket")}
     parts["site"] = replace(keys, **named)
     parts["house"] = replace(parts["house"], accounting=parts["house"].accounting.replace("{spool}", parts["site"].spool))

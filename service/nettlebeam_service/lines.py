@@ -13,10 +13,10 @@ UTILITIES = ("qsub", "qalter", "qhold", "qrls", "qdel", "qstat")
 ROLES = ("operator", "admin")
 # read as lines of the scheduler behind any site, whoever asks
 RESERVED = ("grant", "begin", "finish", "handback", "ship", "take", "plan", "retire", "decline", "compact", "roster")
-COMPLAINTS = ("refused ", "usage ", "gap ", "unread ", "foreign", "forgotten", "cannot be read", "no plan")
+COMPLAINTS = ("refused ", "usage ", "gap ", "unread ", "foreign", "forgotten", "cannot be read", "no plan", "other roster")
 # their answers tell of a change of the queue or of the machine: behind a user, and by themselves
 CHANGING_OF_USERS = ("qsub", "qalter", "qhold", "qrls", "qdel", "reserve", "cancel")
-CHANGING_OF_SITES = ("grant", "begin", "finish", "handback", "take")
+CHANGING_OF_SITES = ("grant", "begin", "finish", "handback", "take", "roster")
 CHANGING = CHANGING_OF_USERS + CHANGING_OF_SITES
 
 USER = re.compile(r"[A-Za-z][A-Za-z0-9_.-]{0,14}\Z")
@@ -47,6 +47,7 @@ FOR_THE_SITE = forms(
     finish=f" {JOB} {NUMBER} [0-9]{{1,3}}",
     handback=f" {JOB}",
     ship=f" {NAME}",
+    roster=f"(?: {NAME}:{NUMBER}){{1,16}}",
 )
 
 

@@ -2,8 +2,9 @@
 from __future__ import annotations
 
 import asyncio
+import contextlib
 import json
-from typing import Callable, Sequence
+from typing import Callable
 
 from .backup import Backup, NoBackup
 from .compacting import Compacting, Uncompacted
@@ -21,7 +22,6 @@ class Requests:
 
     def __init__(
         self,
-        names: Sequence[str],
         site: Site,
         spool: Spool,
         backup: Backup,
@@ -29,7 +29,6 @@ class Requests:
         compacting: Compacting,
         changed: Callable[[], None],
     ):
-        self.names = names
         self.site = site
         self.spool = spool
         self.backup = backup
@@ -74,8 +73,18 @@ class Requests:
             return await self.submit(client, request)
         line = line_of(client, request.words, request.role)
         if verb == "ship":
+            self.check_known(request.words[1])
             return self.reply(verb, Answer(await self.packet(request.words[1])))
-        return self.reply(verb, await self.site.ask(line))
+        answer = await self.site.ask(line)
+        if verb == "roster":
+            with contextlib.suppress(Stopped):  # the answer is there, and the next child is asked for the names anyhow
+                await self.site.learn_names()
+        return self.reply(verb, answer)
+
+    def check_known(self, peer: str) -> None:
+        """Denied where the roster hasn't this peer, which may have been told a longer one: it reads why in its log."""
+        if peer not in self.site.names:
+            raise Denied(f"{peer[:40]!r} is no site of the roster that is known here")
 
     async def packet(self, peer: str) -> str:
         """The text of a packet for a peer, once a backup is as new."""
@@ -114,14 +123,16 @@ class Requests:
         """Takes a packet that a peer has brought, or the site's own account, whose word is as good as the site's."""
         if not client.is_site:
             raise Denied("take is asked by the site's own account alone")
-        peer = request.words[1] if len(request.words) == 2 else ""
-        if len(request.words) > 2 or (peer and peer not in self.names):
+        if len(request.words) > 2:
             raise Denied("the words of take are wrong")
+        peer = request.words[1] if len(request.words) == 2 else ""
+        if peer:
+            self.check_known(peer)
         return self.reply("take", await self.take_packet(request.body, peer))
 
     async def take_packet(self, packet: bytes, peer: str) -> Answer:
         """The site's answer to the text of a packet, which must be of this peer where one is named."""
-        answer = await self.site.ask(line_of_packet(packet, self.names, peer))
+        answer = await self.site.ask(line_of_packet(packet, self.site.names, peer))
         if answer.text.startswith("forgotten"):
             self.site.memory.lose(peer or "a site")
         return answer

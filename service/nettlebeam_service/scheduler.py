@@ -49,6 +49,7 @@ class Scheduler:
         self.begins = Begins(config, site, spool, users, runs, log)
         self.passing = Passing(config.name, site, self.grants, self.begins, log)
         self.listed = 0.0
+        self.counts = (0, 0)  # of the hosts that are named, and of the nodes, when they were compared last
         self.trouble = ""
 
     def use(self, config: Config) -> None:
@@ -90,6 +91,7 @@ class Scheduler:
     async def look(self) -> None:
         """One look: what runs, what is deleted, what starts."""
         machine = (await self.site.ask(f"machine {now()}")).text.splitlines()
+        self.compare_hosts(int(machine[0].split()[1].rstrip(",")))
         running = [line.split()[1] for line in machine if line.startswith("run ")]
         await self.runs.sweep(running)
         for job in (await told_of(self.site, running)).values():
@@ -103,6 +105,13 @@ class Scheduler:
         if time.monotonic() - self.listed >= LISTING_SECONDS or self.config.jobs.run == "drain":
             self.listed = time.monotonic()
             self.begins.forget(await self.grants.hand_back())
+
+    def compare_hosts(self, nodes: int) -> None:
+        """Logs where fewer hosts are named than the site has nodes, which a roster may change while the service runs."""
+        counts = (len(self.config.jobs.hosts), nodes)
+        if counts != self.counts and 0 < counts[0] < counts[1]:
+            self.log(f"[jobs] hosts names {counts[0]} machines, and the site has {nodes} nodes: a job that finds too few waits")
+        self.counts = counts
 
     async def start(self, free: int) -> None:
         """Begins what starts now. Jobs that can't be had now don't keep the machine from others."""

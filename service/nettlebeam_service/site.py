@@ -6,7 +6,7 @@ import contextlib
 import os
 import time
 from collections import deque
-from typing import AsyncIterator, Callable, Deque, List, NamedTuple, Optional
+from typing import AsyncIterator, Callable, Deque, List, NamedTuple, Optional, Sequence
 
 from .lines import changes
 from .memory import Memory
@@ -95,9 +95,12 @@ def settle(asked: "asyncio.Future[Answer]", answer: Answer) -> None:
 class Site:
     """Keeps one `serve` as a child, writes lines to it as they come, and hands each answer to the one who asked."""
 
-    def __init__(self, program: str, folder: str, free_bytes: int, memory: Memory, log: Callable[[str], None]):
+    def __init__(
+        self, program: str, folder: str, names: Sequence[str], free_bytes: int, memory: Memory, log: Callable[[str], None]
+    ):
         self.program = program
         self.folder = folder
+        self.names = list(names)  # of all sites, in the order of the roster that this site knows
         self.free_bytes = free_bytes
         self.memory = memory
         self.log = log
@@ -216,11 +219,16 @@ class Site:
     async def probe(self) -> None:
         """Waits until the site answers, so that others are told that it does."""
         try:
-            await self.ask("seen")
+            await self.learn_names()
             self.ready.set()
             self.log("the site answers")
         except Stopped:
             pass
+
+    async def learn_names(self) -> None:
+        """Asks the site for the names of all sites. A roster may be kept though its answer was lost, so each child is asked."""
+        lines = (await self.ask("seen")).text.splitlines()
+        self.names = [words[0] for words in map(str.split, lines) if words]
 
     async def read_answers(self, process: asyncio.subprocess.Process) -> None:
         """Hands out the answers, until the child's output ends."""
