@@ -198,9 +198,9 @@ impl<D: Device + Drop> Home<D> {
             (length (at_rest (entries_in (D.seen (home_device self.old))
             ++ kept_lines (site_of self.old).roster (state_in self.old) (map (λ line. line.now) lines.now))))) }
     {
-        let run = answer_lines(self.alloc, &mut self.site, lines, asked)?;
-        self.journal.append(&run.kept)?;
-        Ok(run.answers)
+        let answered = answer_lines(self.alloc, &mut self.site, lines, asked)?;
+        self.journal.append(&answered.kept)?;
+        Ok(answered.answers)
     }
 
     /// Answers lines that keep nothing, also where the file isn't at rest, as when what stands behind its gate can't be kept
@@ -221,9 +221,9 @@ impl<D: Device + Drop> Home<D> {
         ensures left { IfOk result (λ looked. IfSome looked (λ answers. state_in self.new ≡
             after_lines (site_of self.old).roster (state_in self.old) (map (λ line. line.now) lines.now))) }
     {
-        let run = answer_lines(self.alloc, &mut self.site, lines, asked)?;
-        if run.kept.is_empty() {
-            Ok(Some(run.answers))
+        let answered = answer_lines(self.alloc, &mut self.site, lines, asked)?;
+        if answered.kept.is_empty() {
+            Ok(Some(answered.answers))
         } else {
             Ok(None)
         }

@@ -87,7 +87,7 @@ pub fn replay(alloc: Global, entries: &[Vec<u8>]) -> Result<Site, HomeFault>
 
 /// What is told of lines, and those of the lines that are to be kept.
 #[derive(Drop)]
-pub(crate) struct Run<'a> {
+pub(crate) struct AnsweredLines<'a> {
     pub(crate) answers: Vec<Told>,
     pub(crate) kept: Vec<&'a [u8]>,
 }
@@ -99,15 +99,15 @@ pub(crate) fn answer_lines<'a>(
     site: &mut Site,
     lines: &[&'a [u8]],
     asked: bool,
-) -> Result<Run<'a>, NoMemory>
-    ensures roster { IfOk result (λ run. site.new.roster ≡
+) -> Result<AnsweredLines<'a>, NoMemory>
+    ensures roster { IfOk result (λ answered. site.new.roster ≡
         roster_after_lines site.old.roster (map (λ line. line.now) lines.now)) }
-    ensures after { IfOk result (λ run. state_of site.new.replica ≡
+    ensures after { IfOk result (λ answered. state_of site.new.replica ≡
         after_lines site.old.roster (state_of site.old.replica) (map (λ line. line.now) lines.now)) }
-    ensures answers { IfOk result (λ run.
-        AreReplies site.old.roster (state_of site.old.replica) (map (λ line. line.now) lines.now) (answers_in run.answers.items)) }
-    ensures words { IfOk result (λ run. All (IsTold asked) run.answers.items) }
-    ensures kept { IfOk result (λ run. map (λ line. line.now) run.kept.items ≡
+    ensures answers { IfOk result (λ answered.
+        AreReplies site.old.roster (state_of site.old.replica) (map (λ line. line.now) lines.now) (answers_in answered.answers.items)) }
+    ensures words { IfOk result (λ answered. All (IsTold asked) answered.answers.items) }
+    ensures kept { IfOk result (λ answered. map (λ line. line.now) answered.kept.items ≡
         kept_lines site.old.roster (state_of site.old.replica) (map (λ line. line.now) lines.now)) }
 {
     let mut answers = Vec::new(alloc);
@@ -120,5 +120,5 @@ pub(crate) fn answer_lines<'a>(
         let told = Told::new(alloc, site, line, answered, asked)?;
         answers.push(told)?;
     }
-    Ok(Run { answers, kept })
+    Ok(AnsweredLines { answers, kept })
 }

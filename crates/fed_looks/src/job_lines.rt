@@ -30,14 +30,14 @@ fn put_names(
     ensures { OnOk result (members_view members.new.entries ≡
         with_names roster.now id (job_reads job.now) (members_view members.old.entries)) }
 {
-    let name = identifier_text(alloc, roster, id)?;
+    let id = identifier_text(alloc, roster, id)?;
     put(
         members,
         alloc,
         "account",
         json!(in alloc; job.account().1.as_str())?,
     )?;
-    put(members, alloc, "id", json!(in alloc; name.as_str())?)?;
+    put(members, alloc, "id", json!(in alloc; id.as_str())?)?;
     put(
         members,
         alloc,

@@ -47,8 +47,8 @@ fn behind_text(
     if id == head {
         return format!(in alloc; "head, at {second}");
     }
-    let name = identifier_text(alloc, roster, head)?;
-    format!(in alloc; "waits behind {name}, which starts at {second}")
+    let head_id = identifier_text(alloc, roster, head)?;
+    format!(in alloc; "waits behind {head_id}, which starts at {second}")
 }
 
 /// Where a job of the queue stands in the plan.

@@ -30,7 +30,7 @@ fn push_spaces(text: &mut String, count: usize) -> Result<(), AllocError>
 }
 
 /// Adds the identifier of a job left in 18, and a space.
-pub(crate) fn push_name_of_job(
+pub(crate) fn push_id_column(
     text: &mut String,
     roster: &Roster,
     id: JobId,

@@ -13,8 +13,8 @@ use std::alloc::{AllocError, Global};
 fn start_line(alloc: Global, roster: &Roster, job: JobId) -> Result<String, AllocError>
     ensures { IfOk result (λ text. string_bytes text ≡ line_of_start roster.now job) }
 {
-    let name = identifier_text(alloc, roster, job)?;
-    format!(in alloc; "start {name}\n")
+    let id = identifier_text(alloc, roster, job)?;
+    format!(in alloc; "start {id}\n")
 }
 
 /// The line of the head with its second, or nothing where there is no head.
@@ -27,8 +27,8 @@ fn head_line(
 {
     match head {
         Some((job, second)) => {
-            let name = identifier_text(alloc, roster, job)?;
-            format!(in alloc; "head {name} {second}\n")
+            let id = identifier_text(alloc, roster, job)?;
+            format!(in alloc; "head {id} {second}\n")
         }
         None => Ok(String::new(alloc)),
     }

@@ -11,14 +11,14 @@ ghost use Rattle.fed_qstat.specs.Identifier.{identifier_text};
 ghost use Rattle.fed_qstat.specs.Short.{short_line as line_of};
 
 use crate::attributes::{letter_sign, push_holder};
-use crate::padding::{push_name_of_job, push_nodes_and_limit, push_right, push_word};
+use crate::padding::{push_id_column, push_nodes_and_limit, push_right, push_word};
 use fed_record::{JobRecord, Letter};
 use fed_stamp::{JobId, Roster, Word};
 use itoa::Buffer;
 use std::alloc::AllocError;
 
-/// Adds the columns that are names, and the letter.
-fn push_names(
+/// Adds the columns that stand left: the identifier, the name and the owner; and the letter.
+fn push_left_columns(
     text: &mut String,
     roster: &Roster,
     id: JobId,
@@ -29,7 +29,7 @@ fn push_names(
     ensures { OnOk result (string_bytes text.new ≡ string_bytes text.old ++ join_with_byte 32
         (left_in 18 (identifier_text roster.now id) ∷ left_in 16 name.now ∷ left_in 16 owner.now ∷ letter.now ∷ [])) }
 {
-    push_name_of_job(text, roster, id)?;
+    push_id_column(text, roster, id)?;
     push_word(text, name)?;
     push_word(text, owner)?;
     text.push_str(letter)
@@ -65,7 +65,7 @@ pub(crate) fn push_short_line(
     let (_, name) = job.name();
     let (_, owner) = job.owner();
     let sign = letter_sign(letter);
-    push_names(text, roster, id, &name, &owner, sign)?;
+    push_left_columns(text, roster, id, &name, &owner, sign)?;
     let priority = job.priority().1.get();
     let (nodes, limit) = (job.nodes().1.get(), job.limit().1.get());
     push_numbers(text, priority, nodes, limit)?;

@@ -9,7 +9,7 @@ use Rattle.std.proofs.lemmas.List.Elements.{All-append, All-head, All-tail, All-
 use Rattle.std.proofs.lemmas.Bool.Decides.{nat_tests}
 use Rattle.std.proofs.lemmas.List.{append-nil, length-append, length-take, take-append-le, take-take, take_all}
 use Rattle.std.proofs.lemmas.List.Splits.{slice_split-cons_yes, slice_split-cons_no}
-use Rattle.fed_serve.specs.Inputs.{EndsLines, HasNoLineFeed, cut_line, heard, is_take, lines_in, lines_of_parts, most_bytes, most_bytes_of_a_take, most_of, unreadable}
+use Rattle.fed_serve.specs.Inputs.{EndsLines, HasNoLineFeed, cut_line, given_as, is_take, lines_in, lines_of_parts, most_bytes, most_bytes_of_a_take, most_bytes_of, unreadable}
 
 abbrev is_feed : ℕ → Bool
 is_feed byte = byte == 10
@@ -47,7 +47,7 @@ parts_both (x ∷ front) more = elim (cases_Bool (is_feed x)) [
 
 -- a line that has its line feed, as it is given
 abbrev ended : List ℕ → List ℕ
-ended line = heard (strip_carriage_return line)
+ended line = given_as (strip_carriage_return line)
 
 lines_both : (ps : List (List ℕ)) (q : List ℕ) (qs : List (List ℕ)) → lines_of_parts (ps ++ q ∷ qs) ≡ map ended ps ++ lines_of_parts (q ∷ qs)
 lines_both [] q qs = refl
@@ -69,41 +69,41 @@ lines_in-whole whole more (inr ends) =
     ∙ ap (λ ls. ls ++ lines_in more) (sym (append-nil (map ended (parts front))) ∙ sym (lines_behind front [])) ∙ sym (ap (λ t. lines_in t ++ lines_in more) ends.1)
 
 -- the lines of a text are those that are given of it, where each has its line feed
-text_both : (ps : List (List ℕ)) → map heard (text_lines_of_parts (ps ++ [] ∷ [])) ≡ map ended ps ++ []
+text_both : (ps : List (List ℕ)) → map given_as (text_lines_of_parts (ps ++ [] ∷ [])) ≡ map ended ps ++ []
 text_both [] = refl
 text_both (p ∷ []) = refl
 text_both (p ∷ next ∷ ps) = ap (λ ls. ended p ∷ ls) (text_both (next ∷ ps))
 
-pub whole_lines : (text : List ℕ) → EndsLines text → lines_in text ≡ map heard (lines text)
+pub whole_lines : (text : List ℕ) → EndsLines text → lines_in text ≡ map given_as (lines text)
 whole_lines text (inl none) = rw none refl
 whole_lines text (inr ends) =
     let front = ends.0 in
-    ap lines_in ends.1 ∙ lines_behind front [] ∙ sym (text_both (parts front)) ∙ sym (ap (λ ps. map heard (text_lines_of_parts ps)) (parts_both front [])) ∙ sym (ap (λ t. map heard (lines t)) ends.1)
+    ap lines_in ends.1 ∙ lines_behind front [] ∙ sym (text_both (parts front)) ∙ sym (ap (λ ps. map given_as (text_lines_of_parts ps)) (parts_both front [])) ∙ sym (ap (λ t. map given_as (lines t)) ends.1)
 
 -- ---- a line that is too long
 -- what a line may have is told by its first bytes
-most_front : (begun more : List ℕ) → 4 < length begun → most_of (begun ++ more) ≡ most_of begun
+most_front : (begun more : List ℕ) → 4 < length begun → most_bytes_of (begun ++ more) ≡ most_bytes_of begun
 most_front begun more long = ap (λ (bs : List ℕ). if pointwise nat_eq (codes "take ") bs then most_bytes_of_a_take else most_bytes) (take-append-le 5 begun more (omega (arith, long)))
 
-most_cut : (n : ℕ) (line : List ℕ) → 4 < n → most_of (take n line) ≡ most_of line
+most_cut : (n : ℕ) (line : List ℕ) → 4 < n → most_bytes_of (take n line) ≡ most_bytes_of line
 most_cut n line long = ap (λ (bs : List ℕ). if pointwise nat_eq (codes "take ") bs then most_bytes_of_a_take else most_bytes) (take-take 5 n line (omega (arith, long)))
 
-most_strip : (line : List ℕ) → 5 < length line → most_of (strip_carriage_return line) ≡ most_of line
+most_strip : (line : List ℕ) → 5 < length line → most_bytes_of (strip_carriage_return line) ≡ most_bytes_of line
 most_strip line long = cases (slice_index line (length line - 1) == 13)
   where
-    cases : (b : Bool) → most_of (if b then take (length line - 1) line else line) ≡ most_of line
+    cases : (b : Bool) → most_bytes_of (if b then take (length line - 1) line else line) ≡ most_bytes_of line
     cases true = most_cut (length line - 1) line (omega (arith, long))
     cases false = refl
 
-most_some : (line : List ℕ) → 5 < most_of line
+most_some : (line : List ℕ) → 5 < most_bytes_of line
 most_some line = cases (is_take line)
   where
     cases : (b : Bool) → 5 < (if b then most_bytes_of_a_take else most_bytes)
     cases true = omega arith
     cases false = omega arith
 
-long_heard : (line : List ℕ) → most_of line < length line → heard line ≡ unreadable
-long_heard line long = rw (beyond (length line) (most_of line) long) refl
+long_given : (line : List ℕ) → most_bytes_of line < length line → given_as line ≡ unreadable
+long_given line long = rw (beyond (length line) (most_bytes_of line) long) refl
   where
     beyond : (n most : ℕ) → most < n → nat_le n most ≡ false
     beyond n most h = grind (arith, nat_tests, h)
@@ -115,16 +115,16 @@ strip_long line most long = cases (slice_index line (length line - 1) == 13)
     cases true = omega (arith, long, length-take (length line - 1) line)
     cases false = omega (arith, long)
 
-long_ended : (line : List ℕ) → most_of line + 1 < length line → ended line ≡ unreadable
+long_ended : (line : List ℕ) → most_bytes_of line + 1 < length line → ended line ≡ unreadable
 long_ended line long =
     let some = most_some line in
-    long_heard (strip_carriage_return line) (subst (λ most. most < length (strip_carriage_return line)) (sym (most_strip line (omega (arith, long, some)))) (strip_long line (most_of line) long))
+    long_given (strip_carriage_return line) (subst (λ most. most < length (strip_carriage_return line)) (sym (most_strip line (omega (arith, long, some)))) (strip_long line (most_bytes_of line) long))
 
 some_bytes : (n : ℕ) → 0 < n → (n == 0) ≡ false
 some_bytes n h = grind (arith, nat_tests, h)
 
 -- the first line of such parts is one that can't be read, whatever it is
-long_first : (one two : List ℕ) (qs : List (List ℕ)) → most_of one + 1 < length one → most_of two + 1 < length two
+long_first : (one two : List ℕ) (qs : List (List ℕ)) → most_bytes_of one + 1 < length one → most_bytes_of two + 1 < length two
     → lines_of_parts (one ∷ qs) ≡ lines_of_parts (two ∷ qs)
 long_first one two [] long longer = rw (some_bytes (length one) (omega (arith, long)), some_bytes (length two) (omega (arith, longer))) refl
 long_first one two (q ∷ qs) long longer = ap (λ (l : List ℕ). l ∷ lines_of_parts (q ∷ qs)) (long_ended one long ∙ sym (long_ended two longer))
@@ -141,19 +141,19 @@ pub lines_in-begun : (begun : List ℕ) → HasNoLineFeed begun → lines_in beg
 lines_in-begun begun none = ap lines_in (sym (append-nil begun)) ∙ ap lines_of_parts (parts_begun begun [] [] [] none refl) ∙ ap cut_line (append-nil begun)
 
 -- the end of a line that is too long may be left out
-pub lines_in-cut : (begun more : List ℕ) → HasNoLineFeed begun → lines_in (take (most_of begun + 2) begun ++ more) ≡ lines_in (begun ++ more)
-lines_in-cut begun more none = elim (cases_lt (most_of begun + 2) (length begun)) [
-  | inr short ↦ ap (λ (b : List ℕ). lines_in (b ++ more)) (take_all (most_of begun + 2) begun short)
+pub lines_in-cut : (begun more : List ℕ) → HasNoLineFeed begun → lines_in (take (most_bytes_of begun + 2) begun ++ more) ≡ lines_in (begun ++ more)
+lines_in-cut begun more none = elim (cases_lt (most_bytes_of begun + 2) (length begun)) [
+  | inr short ↦ ap (λ (b : List ℕ). lines_in (b ++ more)) (take_all (most_bytes_of begun + 2) begun short)
   | inl long ↦
       let some = some_parts more in
       let room = most_some begun in
-      let cut = take (most_of begun + 2) begun in
-      let cut_len : length cut ≡ most_of begun + 2 = omega (arith, long, length-take (most_of begun + 2) begun) in
-      let most_of_cut : most_of (cut ++ some.first) ≡ most_of begun = most_front cut some.first (omega (arith, cut_len, room)) ∙ most_cut (most_of begun + 2) begun (omega (arith, room)) in
-      let most_of_begun : most_of (begun ++ some.first) ≡ most_of begun = most_front begun some.first (omega (arith, long, room)) in
-      let long_cut : most_of (cut ++ some.first) + 1 < length (cut ++ some.first) = omega (arith, cut_len, most_of_cut, length-append cut some.first) in
-      let long_begun : most_of (begun ++ some.first) + 1 < length (begun ++ some.first) = omega (arith, long, most_of_begun, length-append begun some.first) in
-      ap lines_of_parts (parts_begun cut more some.first some.more (All-take (λ byte. (byte == 10) ≡ false) (most_of begun + 2) begun none) some.is)
+      let cut = take (most_bytes_of begun + 2) begun in
+      let cut_len : length cut ≡ most_bytes_of begun + 2 = omega (arith, long, length-take (most_bytes_of begun + 2) begun) in
+      let most_of_cut : most_bytes_of (cut ++ some.first) ≡ most_bytes_of begun = most_front cut some.first (omega (arith, cut_len, room)) ∙ most_cut (most_bytes_of begun + 2) begun (omega (arith, room)) in
+      let most_of_begun : most_bytes_of (begun ++ some.first) ≡ most_bytes_of begun = most_front begun some.first (omega (arith, long, room)) in
+      let long_cut : most_bytes_of (cut ++ some.first) + 1 < length (cut ++ some.first) = omega (arith, cut_len, most_of_cut, length-append cut some.first) in
+      let long_begun : most_bytes_of (begun ++ some.first) + 1 < length (begun ++ some.first) = omega (arith, long, most_of_begun, length-append begun some.first) in
+      ap lines_of_parts (parts_begun cut more some.first some.more (All-take (λ byte. (byte == 10) ≡ false) (most_bytes_of begun + 2) begun none) some.is)
       ∙ long_first (cut ++ some.first) (begun ++ some.first) some.more long_cut long_begun
       ∙ sym (ap lines_of_parts (parts_begun begun more some.first some.more none some.is))
 ]
@@ -169,11 +169,11 @@ behind_begun : (begun whole : List ℕ) → EndsLines whole → (length whole ==
 behind_begun begun whole (inl none) some = let bad : (length {A = ℕ} [] == 0) ≡ false = subst (λ (w : List ℕ). (length w == 0) ≡ false) none some in absurd cc
 behind_begun begun whole (inr ends) some = inr (begun ++ ends.0, ap (λ w. begun ++ w) ends.1 ∙ sym (append_assoc begun ends.0 (10 ∷ [])))
 
-cut_none : (text : List ℕ) → HasNoLineFeed text → HasNoLineFeed (take (most_of text + 2) text)
-cut_none text none = All-take (λ byte. (byte == 10) ≡ false) (most_of text + 2) text none
+cut_none : (text : List ℕ) → HasNoLineFeed text → HasNoLineFeed (take (most_bytes_of text + 2) text)
+cut_none text none = All-take (λ byte. (byte == 10) ≡ false) (most_bytes_of text + 2) text none
 
 pub takes_some : (begun chunk whole rest taken left : List ℕ) → chunk ≡ whole ++ rest → EndsLines whole → HasNoLineFeed rest → (length whole == 0) ≡ false → taken ≡ begun ++ whole
-    → left ≡ take (most_of rest + 2) rest → Takes begun chunk taken left
+    → left ≡ take (most_bytes_of rest + 2) rest → Takes begun chunk taken left
 takes_some begun chunk whole rest taken left cut ends none some taken_is left_is = record {
   lines = λ more.
       ap (λ (c : List ℕ). lines_in (begun ++ (c ++ more))) cut ∙ ap (λ (t : List ℕ). lines_in (begun ++ t)) (append_assoc whole rest more) ∙ ap lines_in (sym (append_assoc begun whole (rest ++ more)))
@@ -192,7 +192,7 @@ no_bytes (x ∷ text) e = absurd (omega (arith, eqb_true (length (x ∷ text)) 0
     eqb_true m n h = grind (arith, nat_tests, h)
 
 pub takes_none : (begun chunk whole rest taken left : List ℕ) → chunk ≡ whole ++ rest → HasNoLineFeed begun → HasNoLineFeed rest → (length whole == 0) ≡ true → taken ≡ []
-    → left ≡ take (most_of (begun ++ rest) + 2) (begun ++ rest) → Takes begun chunk taken left
+    → left ≡ take (most_bytes_of (begun ++ rest) + 2) (begun ++ rest) → Takes begun chunk taken left
 takes_none begun chunk whole rest taken left cut before none empty taken_is left_is =
     let all = All-append (λ byte. (byte == 10) ≡ false) begun rest before none in
     record {

@@ -11,7 +11,7 @@ use Rattle.fed_home.specs.Fault.{StopsAnswers, is_in_doubt}
 use Rattle.fed_home.specs.Home.{home_device}
 use Rattle.fed_home.specs.declared.faults.HomeFault.{HomeFault}
 use Rattle.fed_home.specs.declared.homes.Home.{Home}
-use Rattle.fed_serve.specs.Inputs.{EndsLines, cut_line, heard, lines_in}
+use Rattle.fed_serve.specs.Inputs.{EndsLines, cut_line, given_as, lines_in}
 use Rattle.fed_serve.specs.Served.{AreNotKept, IsStop, StopsAt, bytes_with}
 use Rattle.fed_serve.specs.Written.{not_kept_bytes, not_kept_text}
 use Rattle.fed_serve.specs.declared.faults.ServeFault.{ServeFault}
@@ -21,13 +21,13 @@ use Rattle.fed_serve.specs.declared.serving.Served.TheVariants.{Ended, Long}
 use Rattle.fed_serve.proofs.InputLines.{whole_lines}
 
 -- as much is written to the lines as to what is given of them
-text_of_heard : (words : Option (List ℕ)) (given : List (List ℕ)) → not_kept_text words (map heard given) ≡ not_kept_text words given
-text_of_heard words [] = refl
-text_of_heard words (line ∷ given) = ap (λ (bs : List ℕ). not_kept_bytes words ++ bs) (text_of_heard words given)
+text_of_given : (words : Option (List ℕ)) (given : List (List ℕ)) → not_kept_text words (map given_as given) ≡ not_kept_text words given
+text_of_given words [] = refl
+text_of_given words (line ∷ given) = ap (λ (bs : List ℕ). not_kept_bytes words ++ bs) (text_of_given words given)
 
 not_kept_of : (asked : Bool) (text : List ℕ) (before after : Option (List ℕ)) → EndsLines text → AreNotKept asked (lines text) before after → AreNotKept asked (lines_in text) before after
 not_kept_of asked text before after ends told =
-    let same : not_kept_text told.0 (lines text) ≡ not_kept_text told.0 (lines_in text) = sym (ap (not_kept_text told.0) (whole_lines text ends) ∙ text_of_heard told.0 (lines text)) in
+    let same : not_kept_text told.0 (lines text) ≡ not_kept_text told.0 (lines_in text) = sym (ap (not_kept_text told.0) (whole_lines text ends) ∙ text_of_given told.0 (lines text)) in
     (told.0, told.1, subst (Appends before after) same told.2)
 
 module _ {D : Type 0} (asked : Bool) (seen : D → List ℕ) (errors : D → List Error) (moment : D → ℕ) (left_since : D → ℕ → List ℕ → Type 0) where

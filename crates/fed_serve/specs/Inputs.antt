@@ -13,16 +13,16 @@ most_bytes_of_a_take = 1073741824
 abbrev pub is_take : List ℕ → Bool
 is_take line = starts_with nat_eq line (codes "take ")
 
-abbrev pub most_of : List ℕ → ℕ
-most_of line = if is_take line then most_bytes_of_a_take else most_bytes
+abbrev pub most_bytes_of : List ℕ → ℕ
+most_bytes_of line = if is_take line then most_bytes_of_a_take else most_bytes
 
 -- a line that can't be read
 abbrev pub unreadable : List ℕ
 unreadable = 0 ∷ []
 
 -- A line that is too long is given as one that can't be read.
-abbrev pub heard : List ℕ → List ℕ
-heard line = if nat_le (length line) (most_of line) then line else unreadable
+abbrev pub given_as : List ℕ → List ℕ
+given_as line = if nat_le (length line) (most_bytes_of line) then line else unreadable
 
 -- What stands behind the last line feed was cut on its way, where it is anything: it is given as a line that can't be read.
 abbrev pub cut_line : List ℕ → List (List ℕ)
@@ -32,7 +32,7 @@ cut_line begun = if length begun == 0 then [] else (unreadable ∷ [])
 abbrev pub lines_of_parts : List (List ℕ) → List (List ℕ)
 lines_of_parts [] = []
 lines_of_parts (begun ∷ []) = cut_line begun
-lines_of_parts (line ∷ next ∷ parts) = heard (strip_carriage_return line) ∷ lines_of_parts (next ∷ parts)
+lines_of_parts (line ∷ next ∷ parts) = given_as (strip_carriage_return line) ∷ lines_of_parts (next ∷ parts)
 
 -- the lines that a site is given
 abbrev pub lines_in : List ℕ → List (List ℕ)

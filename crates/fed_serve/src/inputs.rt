@@ -1,7 +1,7 @@
 //! The lines of an input.
 ghost use Rattle.std.specs.Prelude.{◌≡◌, ◌++◌, List, ℕ, IfOk, OnOk, map};
 ghost use Rattle.std.specs.Str.Lines.{lines};
-ghost use Rattle.fed_serve.specs.Inputs.{EndsLines, HasNoLineFeed, heard as heard_as, lines_in, most_of as most_bytes_of};
+ghost use Rattle.fed_serve.specs.Inputs.{EndsLines, HasNoLineFeed, given_as, lines_in, most_bytes_of};
 
 use fed_script::split_line;
 use std::alloc::{AllocError, Global};
@@ -28,8 +28,8 @@ fn most_of(line: &[u8]) -> usize
 }
 
 /// The line that a site is given: for one that is too long a line that can't be read.
-pub fn heard(line: &[u8]) -> &[u8]
-    ensures { result.now ≡ heard_as line.now }
+pub fn at_most_longest(line: &[u8]) -> &[u8]
+    ensures { result.now ≡ given_as line.now }
 {
     if line.len() > most_of(line) {
         UNREADABLE
@@ -39,14 +39,14 @@ pub fn heard(line: &[u8]) -> &[u8]
 }
 
 /// Whole lines, as a site is given them.
-pub(crate) fn heard_lines(alloc: Global, text: &[u8]) -> Result<Vec<&[u8]>, AllocError>
+pub(crate) fn given_lines(alloc: Global, text: &[u8]) -> Result<Vec<&[u8]>, AllocError>
     requires { EndsLines text.now }
     ensures { IfOk result (λ given. map (λ line. line.now) given.items ≡ lines_in text.now) }
 {
     let mut given = Vec::new(alloc);
     let mut rest = text;
     while let Some((line, after)) = split_line(rest) {
-        given.push(heard(line))?;
+        given.push(at_most_longest(line))?;
         rest = after;
     }
     Ok(given)

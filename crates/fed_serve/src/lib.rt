@@ -15,6 +15,6 @@ pub mod serving;
 mod written;
 
 pub use faults::ServeFault;
-pub use inputs::{MAX_LINE_BYTES, MAX_TAKE_BYTES, heard};
+pub use inputs::{MAX_LINE_BYTES, MAX_TAKE_BYTES, at_most_longest};
 pub use lines::{line_of_words, take_line};
 pub use serving::{Served, serve};

@@ -17,7 +17,7 @@ ghost use Rattle.fed_serve.specs.Inputs.{EndsLines, HasNoLineFeed, IsKnownAs, cu
 ghost use Rattle.fed_serve.specs.Served.{HasServed, IsDone, IsStop, KeepsSome, ServesAs, StopsAt, StopsServing, bytes_with};
 
 use crate::faults::ServeFault;
-use crate::inputs::{heard_lines, take_lines};
+use crate::inputs::{given_lines, take_lines};
 use crate::written::{write_answers, write_not_kept};
 use fed_home::{Home, HomeFault, Told};
 use fed_journal::Device;
@@ -82,7 +82,7 @@ fn answers_to<D: Device + Drop>(
         LeavesOnly D.moment D.left_since (home_device home.old) (home_device home.new) (λ c. recovered c ≡ Ok (entries_in (D.seen (home_device home.old))))) }
     ensures fault { IfErr result (StopsAnswers (D.errors (home_device home.old)) (D.errors (home_device home.new)) (bytes_with D.seen home.old (lines_in text.now))) }
 {
-    let lines = heard_lines(alloc, text)?;
+    let lines = given_lines(alloc, text)?;
     home.answer(&lines, asked)
 }
 

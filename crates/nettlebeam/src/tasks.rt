@@ -12,7 +12,9 @@ use crate::faults::{Fault, FaultAt};
 use crate::making::make_home;
 use fed_home::{Format, Header, Home, HomeFault, read_header, replay};
 use fed_journal::{FileDevice, Journal};
-use fed_serve::{MAX_TAKE_BYTES, ServeFault, Served, heard, line_of_words, serve, take_line};
+use fed_serve::{
+    MAX_TAKE_BYTES, ServeFault, Served, at_most_longest, line_of_words, serve, take_line,
+};
 use fed_site::{Answered, Complaint, Site, words_beside};
 use fed_stamp::{SITES, SiteId};
 use std::alloc::Global;
@@ -133,9 +135,9 @@ fn answer_at<R: Files<File = File> + Clock + AllocGlobal + Clone + Drop>(
     match keep_tail(streams, rt, directory, &cut) {
         Ok(()) => {
             home.repair()?;
-            answer_line(streams, &mut home, heard(&line))
+            answer_line(streams, &mut home, at_most_longest(&line))
         }
-        Err(fault) => look_at(streams, &mut home, heard(&line), fault),
+        Err(fault) => look_at(streams, &mut home, at_most_longest(&line), fault),
     }
 }
 

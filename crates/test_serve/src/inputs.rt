@@ -6,7 +6,9 @@ ghost use Rattle.fed_home.specs.Home.{IsOpen};
 
 use fed_home::{Home, HomeFault};
 use fed_journal::{JournalFault, Memory, Tear};
-use fed_serve::{MAX_LINE_BYTES, ServeFault, Served, heard, line_of_words, serve, take_line};
+use fed_serve::{
+    MAX_LINE_BYTES, ServeFault, Served, at_most_longest, line_of_words, serve, take_line,
+};
 use std::alloc::Global;
 use std::io::{self, ErrorKind, Read, Write};
 use std::process::Abort;
@@ -173,8 +175,8 @@ fn words_are_told_where_they_are_asked_for(rt: HostRuntime) -> Result<(), Fail> 
 #[test]
 fn a_line_that_is_too_long_cannot_be_read(rt: HostRuntime) -> Result<(), Fail> {
     let line = vec![in rt.alloc(); 0u8; MAX_LINE_BYTES + 1]?;
-    assert_eq!(rt; heard(&line[1..]).len(), MAX_LINE_BYTES);
-    assert_eq!(rt; heard(&line), b"\0".as_slice());
+    assert_eq!(rt; at_most_longest(&line[1..]).len(), MAX_LINE_BYTES);
+    assert_eq!(rt; at_most_longest(&line), b"\0".as_slice());
     Ok(())
 }
 
@@ -182,7 +184,7 @@ fn a_line_that_is_too_long_cannot_be_read(rt: HostRuntime) -> Result<(), Fail> {
 fn a_line_that_takes_a_packet_may_be_longer(rt: HostRuntime) -> Result<(), Fail> {
     let mut line = b"take ".to_vec(rt.alloc())?;
     line.extend_from_slice(&vec![in rt.alloc(); 0u8; MAX_LINE_BYTES]?)?;
-    assert_eq!(rt; heard(&line).len(), MAX_LINE_BYTES + 5);
+    assert_eq!(rt; at_most_longest(&line).len(), MAX_LINE_BYTES + 5);
     Ok(())
 }
 

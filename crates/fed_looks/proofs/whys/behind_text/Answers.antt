@@ -6,4 +6,4 @@ use Rattle.fed_looks.proofs.whys.behind_text.Goals as goal
 pub returns : goal.returns
 returns c =
     let other : same_stamp c.args.id c.args.head ≡ false = sym c.eq.ensures ∙ c.if-eq.false in
-    IfOk-weaker c.format-2.result _ _ (λ s e. rw other (rw e (rw c.in_ok-name.ensures (simp append_assoc)))) c.format-2.ensures.ok
+    IfOk-weaker c.format-2.result _ _ (λ s e. rw other (rw e (rw c.in_ok-head_id.ensures (simp append_assoc)))) c.format-2.ensures.ok

@@ -9,7 +9,7 @@ use Rattle.fed_qstat.proofs.short_lines.push_short_line.Goals as goal
 pub returns : goal.returns
 returns c =
     let fits : FitsSigned w16 c.get-priority.result = search rules in
-    let written = line-of_parts (string_bytes c.args.text.now) _ _ _ _ _ _ _ _ c.in_ok-push_names.ensures c.in_ok-push_numbers.ensures c.in_ok-push_holder.ensures c.in_ok-push.ensures.bytes (c.in_ok-push.ensures.ascii (omega arith)) in
+    let written = line-of_parts (string_bytes c.args.text.now) _ _ _ _ _ _ _ _ c.in_ok-push_left_columns.ensures c.in_ok-push_numbers.ensures c.in_ok-push_holder.ensures c.in_ok-push.ensures.bytes (c.in_ok-push.ensures.ascii (omega arith)) in
     written ∙ rw (
       c.letter_sign-sign.ensures,
       to_z-of_z w16 c.get-priority.result fits,

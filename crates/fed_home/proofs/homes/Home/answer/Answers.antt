@@ -16,7 +16,7 @@ append-requires-clause-lines g c =
     let lines = map (λ (line : Bor (List ℕ)). line.now) c.args.lines.now in
     let site = c.args.self.now.site in
     let group : map (λ (text : Bor (List ℕ)). text.now) c.deref.result.now ≡ kept_lines site.roster (state_of site.replica) lines =
-    ap (map (λ (text : Bor (List ℕ)). text.now)) c.deref.ensures.value ∙ c.in_ok-run.ensures.kept in
+    ap (map (λ (text : Bor (List ℕ)). text.now)) c.deref.ensures.value ∙ c.in_ok-answered.ensures.kept in
     subst (λ (ls : List (List ℕ)). All IsLine ls) (sym group) (kept_are_lines site.roster (state_of site.replica) lines)
 
 pub returns-clause-open : goal.returns-clause-open
@@ -24,11 +24,11 @@ returns-clause-open g c =
     let lines = map (λ (line : Bor (List ℕ)). line.now) c.args.lines.now in
     let site = c.args.self.now.site in
     let group : map (λ (text : Bor (List ℕ)). text.now) c.deref.result.now ≡ kept_lines site.roster (state_of site.replica) lines =
-    ap (map (λ (text : Bor (List ℕ)). text.now)) c.deref.ensures.value ∙ c.in_ok-run.ensures.kept in
+    ap (map (λ (text : Bor (List ℕ)). text.now)) c.deref.ensures.value ∙ c.in_ok-answered.ensures.kept in
     record {
       settled = c.in_ok-append.ensures.acknowledged;
       replayed = open_again (entries_in (g.D.Device.seen (device_of c.args.self.now.journal))) (map (λ (text : Bor (List ℕ)). text.now) c.deref.result.now) lines
-          (g.D.Device.seen (device_of c.append.new.self)) site c.answer_lines.new.site c.in_ok-append.ensures.appended group c.requires.replayed c.in_ok-run.ensures.roster c.in_ok-run.ensures.after;
+          (g.D.Device.seen (device_of c.append.new.self)) site c.answer_lines.new.site c.in_ok-append.ensures.appended group c.requires.replayed c.in_ok-answered.ensures.roster c.in_ok-answered.ensures.after;
     }
 
 pub returns-in_err-append-clause-nothing : goal.returns-in_err-append-clause-nothing

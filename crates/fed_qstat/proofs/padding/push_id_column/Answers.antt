@@ -3,7 +3,7 @@ use Rattle.std.proofs.lemmas.Result.{on_ok_weaker}
 use Rattle.std.specs.Str.{IsAscii}
 use Rattle.fed_qstat.specs.Identifier.{identifier_text}
 use Rattle.fed_qstat.proofs.Columns.{identifier_ascii, left-of_ascii}
-use Rattle.fed_qstat.proofs.padding.push_name_of_job.Goals as goal
+use Rattle.fed_qstat.proofs.padding.push_id_column.Goals as goal
 
 pub returns : goal.returns
 returns c =
