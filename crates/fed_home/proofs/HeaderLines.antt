@@ -1,6 +1,7 @@
 -- What headers name.
 use Rattle.std.specs.Prelude.{Some, None, Option, option_map, codes, if◌then◌else◌}
 use Rattle.std.proofs.Common.{◌≡◌, ℕ, ◌<◌, Bool, true, false, List, [], ◌∷◌, length, refl, subst, arith}
+use Rattle.std.proofs.lemmas.Option.{same_Some}
 use Rattle.std.specs.Str.{bytes_eq}
 use Rattle.fed_stamp.specs.Roster.{is_named}
 use Rattle.fed_words.proofs.SiteNames.{found_in_range}
@@ -15,16 +16,13 @@ use Rattle.fed_home.specs.declared.headers.Header.{Header}
 use Rattle.fed_home.specs.Header.{format_of, header_in, header_of, site_among}
 use Rattle.fed_home.proofs.Lines.{readable_line}
 
-some_same : (x y : Header) → Some x ≡ Some y → x ≡ y
-some_same x y e = cc
-
 module _ (name : List ℕ) (h : Header) where
   found_below : (format : Format) (roster : List (List ℕ × ℕ)) (found : Option ℕ) → site_named roster name ≡ found
       → option_map (λ site. record { roster = roster; site = site; format = format }) found ≡ Some h → h.site < length h.roster
   found_below format roster None s e = cc
   found_below format roster (Some i) s e =
       let made : Header = record { roster = roster; site = i; format = format } in
-      let is : made ≡ h = some_same made h e in
+      let is : made ≡ h = same_Some made h e in
       let below : i < length roster = let within = (found_in_range (is_named roster name) 0 (length roster) i s).1 in omega arith in
       subst (λ (x : Header). x.site < length x.roster) is below
 

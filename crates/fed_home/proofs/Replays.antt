@@ -1,9 +1,10 @@
 -- What entries and lines come to.
 use Rattle.std.specs.Prelude.{Some, None, Option, option_map, Ok}
-use Rattle.std.proofs.Common.{◌≡◌, ◌⊎◌, inl, inr, ℕ, List, [], ◌∷◌, ◌++◌, refl, ap, sym, subst, ◌∙◌}
+use Rattle.std.proofs.Common.{◌≡◌, ◌⊎◌, inl, inr, ℕ, List, [], ◌∷◌, ◌++◌, refl, ap, append_assoc, sym, subst, ◌∙◌}
+use Rattle.std.proofs.lemmas.Option.{same_Some}
 use Rattle.fed_replica.specs.State.{State, empty_at, state_of}
 use Rattle.fed_script.specs.Forms.{◌>>=◌}
-use Rattle.fed_site.specs.Journal.{after_lines, kept_lines}
+use Rattle.fed_site.specs.Journal.{after_lines, kept_line, kept_lines}
 use Rattle.fed_site.specs.Known.{known_in}
 use Rattle.fed_site.specs.Rosters.{roster_after, roster_after_lines}
 use Rattle.fed_site.specs.Says.{site_says}
@@ -26,8 +27,13 @@ pub roster_after_both : (roster : List (List ℕ × ℕ)) (first second : List (
 roster_after_both roster [] second = refl
 roster_after_both roster (line ∷ first) second = roster_after_both (roster_after roster line) first second
 
-some_same : (x y : Replayed) → Some x ≡ Some y → x ≡ y
-some_same x y e = cc
+pub kept_both : (roster : List (List ℕ × ℕ)) (s : State) (first second : List (List ℕ)) → kept_lines roster s (first ++ second) ≡ kept_lines roster s first ++ kept_lines (roster_after_lines roster first) (after_lines roster s first) second
+kept_both roster s [] second = refl
+kept_both roster s (line ∷ first) second =
+    let says = site_says roster s line in
+    let next = roster_after roster line in
+    ap (λ ls. kept_line says.kept line ++ ls) (kept_both next says.after first second)
+    ∙ sym (append_assoc (kept_line says.kept line) (kept_lines next says.after first) (kept_lines (roster_after_lines next first) (after_lines next says.after first) second))
 
 -- a site that has answered these lines
 abbrev answered : Replayed → List (List ℕ) → Replayed
@@ -48,7 +54,7 @@ known_more : (roster : List (List ℕ × ℕ)) (first : List (List ℕ)) (o : Op
     → option_map (site_after roster (first ++ kept_lines r.roster r.state lines)) o ≡ Some (answered r lines)
 known_more roster first None r lines e = cc
 known_more roster first (Some s) r lines e =
-    let is : site_after roster first s ≡ r = some_same (site_after roster first s) r e in
+    let is : site_after roster first s ≡ r = same_Some (site_after roster first s) r e in
     subst (λ (x : Replayed). option_map (site_after roster (first ++ kept_lines x.roster x.state lines)) (Some s) ≡ Some (answered x lines)) is (ap Some (site_more roster s first lines))
 
 begun_more : (format : Format) (roster : List (List ℕ × ℕ)) (here : ℕ) (first : List (List ℕ)) (r : Replayed) (lines : List (List ℕ)) → begun format roster here first ≡ Some r

@@ -3,6 +3,7 @@ use Rattle.std.proofs.Common.{◌≡◌, ◌⊎◌, ◌∙◌, refl, sym, ap, su
 use Rattle.std.proofs.Math.Logic.{∥∥₁_map}
 use Rattle.std.proofs.lemmas.List.{length-append, length-take, length-drop, length-replicate, take_all, take-take, take-append-le, take-append-drop, drop_at, drop_all, drop-drop, reverse-append, take_rest}
 use Rattle.std.proofs.lemmas.Bool.Decides.{nat_tests}
+use Rattle.std.proofs.lemmas.Option.{same_Some}
 use Rattle.std.specs.declared.alloc.Global.{Global}
 use Rattle.std.specs.declared.io.Error.{Error}
 use Rattle.fed_journal.specs.Device.{Holds, Passes, Shortened, Torn}
@@ -152,11 +153,8 @@ module _ (calls new : List AnsweredCall) where
     wrote_cached old now change room seen over last left = ∥∥₁_map left (λ l. record {
       whole = subst (λ (events : List AnsweredCall). left_by events now) (sym (noted (Wrote at bytes, answer) is))
           (λ just. subst (λ (f : List ℕ). Torn at bytes.items f now) seen (subst (λ (n : List ℕ). Torn at bytes.items old n) (sym over) (torn_whole at bytes.items old room)));
-      part = λ call c which torn. wrote c l (subst (λ (k : Call). IsTornBy k disk c) (some_same (sym which ∙ last)) torn);
+      part = λ call c which torn. wrote c l (subst (λ (k : Call). IsTornBy k disk c) (same_Some _ _ (sym which ∙ last)) torn);
     })
-      where
-        some_same : {x y : Call} → Some x ≡ Some y → x ≡ y
-        some_same e = cc
 
   module _ (len : ℕ) (answer : CallAnswer) (is : new ≡ calls ++ (Resized len, answer) ∷ []) (room : len ≤ length (seen_by (reverse calls))) (disk : List ℕ) where
     resized : (c : List ℕ) → left_by (reverse calls) disk → (len ≤ length disk → Shortened len disk c) → left_by (reverse new) c
@@ -171,12 +169,9 @@ module _ (calls new : List AnsweredCall) where
         → ∥ IsCached (reverse new) disk now change ∥₁
     resized_cached old now change seen cut last left = ∥∥₁_map left (λ l. record {
       whole = subst (λ (events : List AnsweredCall). left_by events now) (sym (noted (Resized len, answer) is)) (λ just. shortest);
-      part = λ call c which torn. resized c l (subst (λ (k : Call). IsTornBy k disk c) (some_same (sym which ∙ last)) torn);
+      part = λ call c which torn. resized c l (subst (λ (k : Call). IsTornBy k disk c) (same_Some _ _ (sym which ∙ last)) torn);
     })
       where
-        some_same : {x y : Call} → Some x ≡ Some y → x ≡ y
-        some_same e = cc
-
         size : length now ≡ len
         size = omega (arith, ap length cut, length-take len old, ap length seen, room)
 

@@ -8,7 +8,7 @@ use Rattle.std.proofs.lemmas.List.{map-append}
 use Rattle.std.proofs.lemmas.List.Elements.{All-append, All-nil}
 use Rattle.std.specs.Prelude.{Bool}
 use Rattle.fed_replica.specs.State.{State}
-use Rattle.fed_site.specs.Journal.{after_lines, kept_line, kept_lines}
+use Rattle.fed_site.specs.Journal.{after_lines, kept_lines}
 use Rattle.fed_site.specs.Rosters.{roster_after, roster_after_lines}
 use Rattle.fed_site.specs.Says.{site_says}
 use Rattle.fed_site.specs.declared.site.Answered.{Answered}
@@ -23,7 +23,7 @@ use Rattle.fed_home.specs.Replay.{AreReplies, Replayed, replay, replayed_of}
 use Rattle.fed_home.specs.Fault.{StopsAnswers}
 use Rattle.fed_home.specs.declared.faults.HomeFault.TheVariants as home
 use Rattle.fed_home.specs.declared.homes.Home.{Home}
-use Rattle.fed_home.proofs.Replays.{after_both, roster_after_both}
+use Rattle.fed_home.proofs.Replays.{after_both, kept_both, roster_after_both}
 use Rattle.fed_serve.specs.Inputs.{HasNoLineFeed, IsKnownAs, cut_line, lines_in}
 use Rattle.fed_serve.proofs.Writing.{appends_kept, appends_more, appends_none}
 use Rattle.fed_serve.proofs.InputLines.{Takes, lines_in-begun}
@@ -82,14 +82,6 @@ rest_at_end None ended = refl
 rest_at_end (Some xs) ended = ended
 
 -- ---- lines after lines
-kept_both : (roster : List (List ℕ × ℕ)) (s : State) (first second : List (List ℕ)) → kept_lines roster s (first ++ second) ≡ kept_lines roster s first ++ kept_lines (roster_after_lines roster first) (after_lines roster s first) second
-kept_both roster s [] second = refl
-kept_both roster s (line ∷ first) second =
-    let says = site_says roster s line in
-    let next = roster_after roster line in
-    ap (λ ls. kept_line says.kept line ++ ls) (kept_both next says.after first second)
-    ∙ sym (append_assoc (kept_line says.kept line) (kept_lines next says.after first) (kept_lines (roster_after_lines next first) (after_lines next says.after first) second))
-
 replies_both : (roster : List (List ℕ × ℕ)) (s : State) (first second : List (List ℕ)) (xs ys : List Answered) → AreReplies roster s first xs → AreReplies (roster_after_lines roster first) (after_lines roster s first) second ys
     → AreReplies roster s (first ++ second) (xs ++ ys)
 replies_both roster s [] second [] ys a b = b

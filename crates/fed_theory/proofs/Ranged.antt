@@ -2,6 +2,7 @@
 use Rattle.std.specs.Prelude.{if◌then◌else◌, is_some, IfSome, Result, Ok, Err}
 use Rattle.std.proofs.Common.{◌≡◌, ◌≤◌, ◌+◌, ◌==◌, ℕ, Bool, true, false, Option, Some, None, refl, sym, ap, subst, ◌∙◌, inl, inr, arith}
 use Rattle.std.proofs.lemmas.Bool.{and_parts, or_parts, not-false, leb-false, ltb-false, cases_eq, both_ways, eq-eqb}
+use Rattle.std.proofs.lemmas.Option.{same_Some}
 use Rattle.fed_stamp.specs.declared.rosters.TheConstants.{MAX_NODES}
 use Rattle.fed_stamp.specs.declared.versions.ClockFull.{ClockFull}
 use Rattle.fed_stamp.specs.Stamp.{StampValue}
@@ -84,9 +85,6 @@ window_ranged w site e =
     (site, (omega arith, omega arith), (omega arith, omega arith), (omega arith, omega arith), omega arith)
 
 -- ---- what a command adds
-some_same : (body new : Body) → Some body ≡ Some new → body ≡ new
-some_same body new e = cc
-
 if_same : (b : Bool) (body new : Body) → (if b then Some body else None) ≡ Some new → body ≡ new
 if_same true body new e = cc
 if_same false body new e = cc
@@ -100,11 +98,11 @@ module _ (ops : History Body) (ranged : AreInRange ops) (here : ℕ) (who : Who)
   granted_term job term g = (ranged (g.1.0, Grant job s.site term) g.1.1.0).1
 
   effect_ranged : (command : Command) (new : Body) → IsRanged who command → AreClear (refusals (view ops) here who command) → IsAllowed ops s new → effect (view ops) who command ≡ Some new → IsInRange new
-  effect_ranged (Command.Submit values held) new t r a e = subst IsInRange (some_same _ new e) t
-  effect_ranged (Command.Alter job changes) new t r a e = subst IsInRange (some_same _ new e) t
-  effect_ranged (Command.Hold job kinds) new t r a e = subst IsInRange (some_same _ new e) tt
+  effect_ranged (Command.Submit values held) new t r a e = subst IsInRange (same_Some _ new e) t
+  effect_ranged (Command.Alter job changes) new t r a e = subst IsInRange (same_Some _ new e) t
+  effect_ranged (Command.Hold job kinds) new t r a e = subst IsInRange (same_Some _ new e) tt
   effect_ranged (Command.Release job kinds) new t r a e = subst IsInRange (if_same _ _ new e) tt
-  effect_ranged (Command.Delete job) new t r a e = subst IsInRange (some_same _ new e) tt
+  effect_ranged (Command.Delete job) new t r a e = subst IsInRange (same_Some _ new e) tt
   effect_ranged (Command.Grant job asker) new t r a e =
       let term : ℕ = term_in ((view ops).job job).grant + 1 in
       let same : Grant job asker term ≡ new = unless_same _ (Grant job asker term) new e in
@@ -112,16 +110,16 @@ module _ (ops : History Body) (ranged : AreInRange ops) (here : ℕ) (who : Who)
       subst IsInRange same (t, (omega arith, most))
   effect_ranged (Command.HandBack job) new t r a e =
       let term : ℕ = term_in ((view ops).job job).grant in
-      let same : HandBack job term ≡ new = some_same (HandBack job term) new e in
+      let same : HandBack job term ≡ new = same_Some (HandBack job term) new e in
       subst IsInRange same (granted_term job term (subst (IsGrounded ops s) (sym same) a.grounded))
   effect_ranged (Command.Begin job moment) new t r a e =
       let there = not-false _ r.0 in
       let limit = limit_read ops ranged job there in
       let nodes = nodes_read ops ranged job there in
-      subst IsInRange (some_same (Begin job (beginning ((view ops).job job) moment)) new e) (t, nodes, (omega arith, omega arith), omega arith)
-  effect_ranged (Command.Finish job moment status) new t r a e = subst IsInRange (some_same _ new e) t
-  effect_ranged (Command.Reserve window) new t r a e = subst IsInRange (some_same (Reserve window) new e) (window_ranged window t r.1.0)
-  effect_ranged (Command.Cancel reservation) new t r a e = subst IsInRange (some_same _ new e) tt
+      subst IsInRange (same_Some (Begin job (beginning ((view ops).job job) moment)) new e) (t, nodes, (omega arith, omega arith), omega arith)
+  effect_ranged (Command.Finish job moment status) new t r a e = subst IsInRange (same_Some _ new e) t
+  effect_ranged (Command.Reserve window) new t r a e = subst IsInRange (same_Some (Reserve window) new e) (window_ranged window t r.1.0)
+  effect_ranged (Command.Cancel reservation) new t r a e = subst IsInRange (same_Some _ new e) tt
 
 pub answer_ranged : (ops : History Body) → IsLawful ops → AreInRange ops → (here : ℕ) (who : Who) (command : Command) → IsRanged who command → (said : Reply) (new : StampValue × Body) → answer ops here who command ≡ Replies said (Some new) → IsInRange new.1
 unfolding answer_to

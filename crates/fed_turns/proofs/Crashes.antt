@@ -17,7 +17,7 @@ use Rattle.fed_site.specs.Line.{packet_text}
 use Rattle.fed_site.specs.Rosters.{roster_after, roster_after_lines, roster_told, told_in}
 use Rattle.fed_site.proofs.Replays.{replayed, replayed_roster}
 use Rattle.fed_site.proofs.RosterLines.{after_begins, begins_length}
-use Rattle.fed_home.proofs.Replays.{after_both, roster_after_both}
+use Rattle.fed_home.proofs.Replays.{after_both, kept_both, roster_after_both}
 use Rattle.fed_qstat.specs.Planned.{plan_if_any}
 use Rattle.fed_site.specs.Says.{IsReply, Reply, Said, Text, PacketFor, after_look, after_plan, after_roster, after_text, after_told, site_says}
 use Rattle.fed_turns.specs.Crash.{Happening, answered, cut, MayAllHappen, MayHappen, journal_of, lines_all, lines_at, lines_if, turn_unseen, turns_from, turns_of, turns_unseen, unseen}
@@ -37,14 +37,6 @@ turns_more (h ∷ hs) ks c =
     ap (λ l. ts ++ l) (turns_more hs ks d)
     ∙ sym (append_assoc ts (turns_from d hs) (turns_from (after_turns d (turns_from d hs)) ks))
     ∙ ap (λ (x : Course). (ts ++ turns_from d hs) ++ turns_from x ks) (sym (after_append ts (turns_from d hs) c))
-
-kept_append : (roster : List (List ℕ × ℕ)) (s : State) (xs ys : List (List ℕ)) → kept_lines roster s (xs ++ ys) ≡ kept_lines roster s xs ++ kept_lines (roster_after_lines roster xs) (after_lines roster s xs) ys
-kept_append roster s [] ys = refl
-kept_append roster s (x ∷ xs) ys =
-    let said = site_says roster s x in
-    let next = roster_after roster x in
-    ap (λ l. kept_line said.kept x ++ l) (kept_append next said.after xs ys)
-    ∙ sym (append_assoc (kept_line said.kept x) (kept_lines next said.after xs) (kept_lines (roster_after_lines next xs) (after_lines next said.after xs) ys))
 
 -- ---- lines whose answers nobody saw
 module _ (roster : List (List ℕ × ℕ)) where
@@ -245,7 +237,7 @@ module _ (i : ℕ) where
     journal_more hs ks =
         let went = all_go hs (beginning rosters) in
         ap (kept_lines (rosters i) (empty_at i)) (lines_more hs ks)
-        ∙ kept_append (rosters i) (empty_at i) (lines_all i hs) (lines_all i ks)
+        ∙ kept_both (rosters i) (empty_at i) (lines_all i hs) (lines_all i ks)
         ∙ (λ k. journal_of (rosters i) i hs ++ kept_lines (sym went.roster k) (sym went.site k) (lines_all i ks))
 
     -- once more has happened

@@ -2,6 +2,7 @@
 use Rattle.std.specs.Prelude.{codes, Option, Some, None, option_map, if◌then◌else◌}
 use Rattle.std.specs.Str.{bytes_eq}
 use Rattle.std.proofs.Common.{◌≡◌, ℕ, List, [], ◌∷◌, Bool, true, false, refl, subst}
+use Rattle.std.proofs.lemmas.Option.{same_Some}
 use Rattle.fed_stamp.specs.Roster.{IsRoster}
 use Rattle.fed_words.specs.Site.{site_named}
 use Rattle.fed_script.specs.Forms.{◌>>=◌}
@@ -13,16 +14,13 @@ use Rattle.fed_home.specs.declared.headers.Header.{Header}
 use Rattle.fed_home.specs.Header.{format_of, header_in, header_of, site_among}
 
 -- ---- headers
-some_same : (x y : Header) → Some x ≡ Some y → x ≡ y
-some_same x y e = cc
-
 module _ (name : List ℕ) (h : Header) where
   module _ (format : Format) where
     found_roster : (roster : List (List ℕ × ℕ)) → IsRoster roster → (found : Option ℕ) → option_map (λ site. record { roster = roster; site = site; format = format }) found ≡ Some h → IsRoster h.roster
     found_roster roster lawful None e = cc
     found_roster roster lawful (Some i) e =
         let made : Header = record { roster = roster; site = i; format = format } in
-        subst (λ (x : Header). IsRoster x.roster) (some_same made h e) lawful
+        subst (λ (x : Header). IsRoster x.roster) (same_Some made h e) lawful
 
     among_roster : (words : List (List ℕ)) (o : Option (List (List ℕ × ℕ))) → roster_of words ≡ o
         → (o >>= λ roster. option_map (λ site. record { roster = roster; site = site; format = format }) (site_named roster name)) ≡ Some h → IsRoster h.roster

@@ -3,6 +3,7 @@ use Rattle.std.specs.Prelude.{Some, None, Option, Ok, map}
 use Rattle.std.proofs.Common.{◌≡◌, ◌≢◌, ◌<◌, ◌==◌, ℕ, List, [], ◌∷◌, ◌++◌, All, Bool, true, false, length, refl, sym, subst, ap, ◌∙◌, inl, inr, arith}
 use Rattle.std.proofs.lemmas.Bool.{cases_Bool, eqb-true}
 use Rattle.std.proofs.lemmas.List.Elements.{All-cons, All-head, All-nil, All-tail, All-weaker}
+use Rattle.std.proofs.lemmas.Option.{same_Some}
 use Rattle.fed_stamp.specs.Roster.{IsRoster}
 use Rattle.fed_replica.specs.State.{State, empty_at}
 use Rattle.fed_script.specs.Forms.{◌>>=◌}
@@ -27,9 +28,6 @@ use Rattle.fed_turns.specs.Home.{IsHomeOf, course_of, happens_at, turns_at}
 use Rattle.fed_turns.specs.Turn.{AreBeginnings, AreCarried, Course, IsCarried, MayTurns, Turn, after_turn, after_turns, beginning, shipped_by}
 use Rattle.fed_turns.proofs.Crashes.{after_append, course_more, lines_answered, lines_stand, parted, still, still_own}
 use Rattle.fed_turns.proofs.Headers.{header_roster}
-
-some_same : (x y : Replayed) → Some x ≡ Some y → x ≡ y
-some_same x y e = cc
 
 -- ---- what may happen behind what may
 module _ (whole : List (List ℕ × ℕ)) where
@@ -94,7 +92,7 @@ module _ (i : ℕ) where
     now_at = record { roster = c.roster i; state = c.site i }
 
     now_is : (file : List ℕ) (now : Replayed) → IsHomeOf rosters i hs file → replay (entries_in file) ≡ Some now → now_at ≡ now
-    now_is file now h e = some_same now_at now (sym h.2 ∙ e)
+    now_is file now h e = same_Some now_at now (sym h.2 ∙ e)
 
     -- a file that stands for the site once more has happened
     more_home : (old file : List ℕ) (h : IsHomeOf rosters i hs old) (ks : List Happening) (lines : List (List ℕ)) → lines_all i ks ≡ lines
@@ -185,7 +183,7 @@ new_home header file h now is begins e = go h.format refl begins
     go Two f b = cc
     go One f b =
         let made : Replayed = record { roster = h.roster; state = empty_at h.site } in
-        let same : made ≡ now = some_same made now b in
+        let same : made ≡ now = same_Some made now b in
         subst (IsNewHome file) same (
           h.site,
           λ rosters at. (
