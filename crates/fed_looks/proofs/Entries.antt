@@ -10,7 +10,7 @@ use Rattle.fed_model.specs.Reservation.{ReservationView}
 use Rattle.fed_model.specs.Identifiers.{reservations_in}
 use Rattle.fed_board.specs.Board.{BoardValue, board_reads}
 use Rattle.fed_easy.proofs.BoardEntries.{entry_found}
-use Rattle.fed_looks.specs.Reserved.{reservation_line, reservation_lines}
+use Rattle.fed_looks.specs.Reserved.{lines_of_reservations, reservation_line}
 
 -- the lines of entries
 abbrev pub lines_of : List (List ℕ × ℕ) → List (StampValue × ReservationView) → List ℕ
@@ -23,7 +23,7 @@ ids_said f g (e ∷ es) h = ap₂ (λ l m. l ++ m) (h e (inl refl)) (ids_said f 
 
 -- the lines are those of the view, once all are written
 pub lines_done : (roster : List (List ℕ × ℕ)) (b : BoardValue) → IsStrictlySortedBy stamp_cmp (keys_of b.reservations) → keys_of b.reservations ≡ reservations_in (board_reads b)
-    → (written : List ℕ) (rest : List (StampValue × ReservationView)) → written ++ lines_of roster rest ≡ lines_of roster b.reservations → rest ≡ [] → written ≡ reservation_lines roster (board_reads b)
+    → (written : List ℕ) (rest : List (StampValue × ReservationView)) → written ++ lines_of roster rest ≡ lines_of roster b.reservations → rest ≡ [] → written ≡ lines_of_reservations roster (board_reads b)
 lines_done roster b sorted ids written rest under none =
     sym (append-nil written) ∙ ap (λ l. written ++ lines_of roster l) (sym none) ∙ under
     ∙ sym (ids_said (λ id. reservation_line roster id ((board_reads b).reservation id)) (λ e. reservation_line roster e.0 e.1) b.reservations

@@ -13,7 +13,7 @@ use Rattle.fed_model.specs.View.{View}
 use Rattle.fed_easy.specs.Plan.{ids}
 use Rattle.fed_easy.specs.Queue.{is_waiting, queue_in, queued, queued_with}
 use Rattle.fed_easy.proofs.QueueMembers.{queue_members, queued_id}
-use Rattle.fed_looks.specs.Why.{HasPlace, IsQueued, is_narrow, obstacle}
+use Rattle.fed_looks.specs.Why.{HasPlace, IsQueued, is_narrow, obstacle_of}
 
 -- ---- obstacles
 record Parts (h k s n : Bool) : Type 0 where
@@ -129,7 +129,7 @@ module _ (roster : List (List ℕ × ℕ)) (site : ℕ) (id : StampValue) (j : J
   abbrev Free : Type 0
   Free = Parts (is_held j) (is_granted j && not (is_granted_to j site)) (has_site j site) (is_narrow capacity j.nodes)
 
-  free_parts : obstacle roster site j ≡ None → Free
+  free_parts : obstacle_of roster site j ≡ None → Free
   free_parts e = none_of (is_held j) (is_granted j && not (is_granted_to j site)) (has_site j site) (is_narrow capacity j.nodes) _ _ _ _ e
 
   placed_waits : is_submitted j ≡ true → HasPlace roster site j → Waits site j

@@ -7,7 +7,7 @@ use Rattle.std.specs.Option.{option_map}
 use Rattle.fed_stamp.specs.Stamp.{StampValue}
 use Rattle.fed_script.specs.Forms.{◌>>=◌}
 use Rattle.fed_script.specs.Values.{identifier, moment}
-use Rattle.fed_looks.specs.Look.{Look, each, may_leave_out, plan_but, plans}
+use Rattle.fed_looks.specs.Look.{Look, each, may_be_left_out, plan_but, plans}
 
 module _ (roster : List (List ℕ × ℕ)) (here : ℕ) {W : Type 0} (text : W → List ℕ) where
   abbrev asked : List W → Option Look
@@ -28,14 +28,14 @@ module _ (roster : List (List ℕ × ℕ)) (here : ℕ) {W : Type 0} (text : W �
     abbrev said : Option Look
     said = moment (text time) >>= λ t. option_map (plans t) (each (identifier roster here) (map text jobs))
 
-    whole : (a b : Bool) → bytes_eq (text but) (codes "but") ≡ a → may_leave_out (length jobs) ≡ b → asked words ≡ cond (a && b) said None
+    whole : (a b : Bool) → bytes_eq (text but) (codes "but") ≡ a → may_be_left_out (length jobs) ≡ b → asked words ≡ cond (a && b) said None
     whole a b e f =
         let same : words ≡ time ∷ but ∷ jobs = p ∙ ap (λ os. time ∷ os) q in
-        let count : may_leave_out (length (map text jobs)) ≡ b = ap may_leave_out (length-map jobs text) ∙ f in
+        let count : may_be_left_out (length (map text jobs)) ≡ b = ap may_be_left_out (length-map jobs text) ∙ f in
         ap asked same ∙ (rw (e, count) refl)
 
     pub no_but : not (bytes_eq (text but) (codes "but")) ≡ true → None ≡ asked words
-    no_but e = sym (whole false (may_leave_out (length jobs)) (from_not (bytes_eq (text but) (codes "but")) e) refl)
+    no_but e = sym (whole false (may_be_left_out (length jobs)) (from_not (bytes_eq (text but) (codes "but")) e) refl)
       where
         from_not : (b : Bool) → not b ≡ true → b ≡ false
         from_not true e = absurd cc
@@ -45,10 +45,10 @@ module _ (roster : List (List ℕ × ℕ)) (here : ℕ) {W : Type 0} (text : W �
     none_either true = refl
     none_either false = refl
 
-    pub wrong_count : may_leave_out (length jobs) ≡ false → None ≡ asked words
+    pub wrong_count : may_be_left_out (length jobs) ≡ false → None ≡ asked words
     wrong_count e = sym (whole (bytes_eq (text but) (codes "but")) false refl e ∙ none_either (bytes_eq (text but) (codes "but")))
 
-    module _ (is_but : not (bytes_eq (text but) (codes "but")) ≡ false) (counted : may_leave_out (length jobs) ≡ true) where
+    module _ (is_but : not (bytes_eq (text but) (codes "but")) ≡ false) (counted : may_be_left_out (length jobs) ≡ true) where
       from_not_not : (b : Bool) → not b ≡ false → b ≡ true
       from_not_not true e = refl
       from_not_not false e = absurd cc

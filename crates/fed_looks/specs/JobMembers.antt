@@ -7,12 +7,12 @@ use Rattle.fed_model.specs.Account.{text_of}
 use Rattle.fed_model.specs.JobView.{JobView}
 use Rattle.fed_model.specs.Letter.{has_hold, letter}
 use Rattle.fed_json.specs.Numbers.{integer_value, natural_value}
-use Rattle.fed_qstat.specs.Identifier.{identifier_text}
+use Rattle.fed_qstat.specs.Identifier.{text_of_identifier}
 use Rattle.fed_looks.specs.JobObject.{begun_data, field_data, finished_data, grant_data, kinds_data, letter_data, sites_data}
 
 unfoldable pub with_names : List (List ℕ × ℕ) → StampValue → JobView → Members → Members
 with_names roster id j ms = put (codes "owner") (field_data string j.owner) (put (codes "name") (field_data string j.name)
-    (put (codes "id") (string (identifier_text roster id))
+    (put (codes "id") (string (text_of_identifier roster id))
     (put (codes "account") (field_data (λ account. string (text_of account)) j.account) ms)))
 
 unfoldable pub with_numbers : JobView → Members → Members

@@ -17,8 +17,8 @@ use Rattle.fed_model.specs.View.{View}
 use Rattle.fed_json.specs.Numbers.{integer_value, natural_value}
 use Rattle.fed_json.specs.Objects.{Named, object_value}
 use Rattle.fed_json.specs.Values.{list_value}
-use Rattle.fed_qstat.specs.Identifier.{identifier_text, site_text}
-use Rattle.fed_qstat.specs.JobText.{letter_sign, sites_of}
+use Rattle.fed_qstat.specs.Identifier.{text_of_identifier, text_of_site}
+use Rattle.fed_qstat.specs.JobText.{sign_of_letter, sites_of}
 
 -- the value of a field; a field of a job that is submitted has one
 abbrev pub field_data : {T : Type 0} → (T → Data) → Option (StampValue × T) → Data
@@ -28,10 +28,10 @@ field_data value (Some latest) = value latest.1
 -- a job that is gone has no letter
 abbrev pub letter_data : Option Letter → Data
 letter_data None = null
-letter_data (Some sign) = string (letter_sign sign)
+letter_data (Some sign) = string (sign_of_letter sign)
 
 abbrev pub site_data : List (List ℕ × ℕ) → ℕ → Data
-site_data roster site = string (site_text roster site)
+site_data roster site = string (text_of_site roster site)
 
 -- the site of a Begin with what the Begin says
 abbrev pub begun_data : List (List ℕ × ℕ) → Option (StampValue × Beginning) → Data
@@ -81,7 +81,7 @@ job_members roster id j =
     (codes "finished", finished_data j.finished) ∷
     (codes "grant", grant_data roster j.grant) ∷
     (codes "holds", kinds_data (has_hold j User) (has_hold j Operator) (has_hold j System)) ∷
-    (codes "id", string (identifier_text roster id)) ∷
+    (codes "id", string (text_of_identifier roster id)) ∷
     (codes "letter", letter_data (letter j)) ∷
     (codes "limit", field_data natural_value j.limit) ∷
     (codes "name", field_data string j.name) ∷
@@ -106,5 +106,5 @@ asked_jobs v (job ∷ jobs) = job ∷ jobs
 abbrev pub lines_of_jobs : List (List ℕ × ℕ) → View → List StampValue → List ℕ
 lines_of_jobs roster v jobs = flat_map (λ job. known_line roster job (v.job job)) jobs
 
-abbrev pub jobs_json : List (List ℕ × ℕ) → View → List StampValue → List ℕ
-jobs_json roster v asked = lines_of_jobs roster v (asked_jobs v asked)
+abbrev pub json_of_jobs : List (List ℕ × ℕ) → View → List StampValue → List ℕ
+json_of_jobs roster v asked = lines_of_jobs roster v (asked_jobs v asked)

@@ -28,19 +28,19 @@ abbrev pub each : {A : Type 0} → Reads A → Form (List A)
 each f words = if list_all (λ w. is_some (f w)) words then Some (filter_map f words) else None
 
 -- the look, where no word is left
-abbrev pub alone : Look → Form Look
-alone look [] = Some look
-alone look (word ∷ words) = None
+abbrev pub alone_of : Look → Form Look
+alone_of look [] = Some look
+alone_of look (word ∷ words) = None
 
 -- a plan may be asked to leave out so many jobs
-abbrev pub may_leave_out : ℕ → Bool
-may_leave_out count = nat_le 1 count && nat_le count MAX_LEFT_OUT
+abbrev pub may_be_left_out : ℕ → Bool
+may_be_left_out count = nat_le 1 count && nat_le count MAX_LEFT_OUT
 
 -- `MOMENT but JOB ..`
 abbrev pub plan_but : List (List ℕ × ℕ) → ℕ → Form Look
 plan_but roster here [] = None
 plan_but roster here (time ∷ []) = None
-plan_but roster here (time ∷ but ∷ jobs) = if bytes_eq but (codes "but") && may_leave_out (length jobs)
+plan_but roster here (time ∷ but ∷ jobs) = if bytes_eq but (codes "but") && may_be_left_out (length jobs)
     then (moment time >>= λ t. option_map (plans t) (each (identifier roster here) jobs)) else None
 
 -- the look that the words of a line ask a site for, if they ask for one
@@ -49,9 +49,9 @@ look_in roster here [] = None
 look_in roster here (word ∷ words) =
     if bytes_eq word (codes "why") then two (identifier roster here) moment whys words
     else if bytes_eq word (codes "machine") then one moment machines words
-    else if bytes_eq word (codes "reservations") then alone reserves words
+    else if bytes_eq word (codes "reservations") then alone_of reserves words
     else if bytes_eq word (codes "jobs") then option_map tells (each (identifier roster here) words)
-    else if bytes_eq word (codes "seen") then alone sees words
+    else if bytes_eq word (codes "seen") then alone_of sees words
     else if bytes_eq word (codes "chart") then one moment charts words
     else if bytes_eq word (codes "plan") then plan_but roster here words
     else None

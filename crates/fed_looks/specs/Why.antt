@@ -12,29 +12,29 @@ use Rattle.fed_model.specs.Letter.{has_site, holder, is_granted, is_granted_to, 
 use Rattle.fed_model.specs.View.{View}
 use Rattle.fed_easy.specs.Plan.{PlanValue, ids}
 use Rattle.fed_easy.specs.Queue.{queue_in}
-use Rattle.fed_qstat.specs.Identifier.{identifier_text, site_text}
-use Rattle.fed_qstat.specs.JobText.{field_text, holder_text, holds_text}
+use Rattle.fed_qstat.specs.Identifier.{text_of_identifier, text_of_site}
+use Rattle.fed_qstat.specs.JobText.{field_text, text_of_holder, text_of_holds}
 use Rattle.fed_qstat.specs.Outcome.{answer_line}
 use Rattle.fed_easy.specs.RosterPlan.{plan_in}
 
 -- where the job began, when, and on how many nodes
-abbrev pub begun_text : List (List ℕ × ℕ) → StampValue × Beginning → List ℕ
-begun_text roster begun = codes "begun at " ++ site_text roster begun.0.site ++ codes " since " ++ decimal begun.1.moment
+abbrev pub text_of_begun : List (List ℕ × ℕ) → StampValue × Beginning → List ℕ
+text_of_begun roster begun = codes "begun at " ++ text_of_site roster begun.0.site ++ codes " since " ++ decimal begun.1.moment
     ++ codes " on " ++ decimal begun.1.nodes ++ codes " nodes until " ++ decimal begun.1.end
 
 -- the head itself, or a job behind it
-abbrev pub behind_text : List (List ℕ × ℕ) → StampValue → StampValue × ℕ → List ℕ
-behind_text roster job head = if same_stamp job head.0 then codes "head, at " ++ decimal head.1
-    else codes "waits behind " ++ identifier_text roster head.0 ++ codes ", which starts at " ++ decimal head.1
+abbrev pub text_of_behind : List (List ℕ × ℕ) → StampValue → StampValue × ℕ → List ℕ
+text_of_behind roster job head = if same_stamp job head.0 then codes "head, at " ++ decimal head.1
+    else codes "waits behind " ++ text_of_identifier roster head.0 ++ codes ", which starts at " ++ decimal head.1
 
 -- where a job of the queue stands: without a head the whole queue starts
 abbrev pub place_beside : List (List ℕ × ℕ) → StampValue → Bool → Option (StampValue × ℕ) → List ℕ
 place_beside roster job starts None = codes "starts"
-place_beside roster job starts (Some head) = if starts then codes "starts" else behind_text roster job head
+place_beside roster job starts (Some head) = if starts then codes "starts" else text_of_behind roster job head
 
-abbrev pub place_text : List (List ℕ × ℕ) → StampValue → Option PlanValue → List ℕ
-place_text roster job None = codes "no plan"
-place_text roster job (Some plan) = place_beside roster job (list_any (λ start. same_stamp start job) plan.starts) plan.head
+abbrev pub text_of_place : List (List ℕ × ℕ) → StampValue → Option PlanValue → List ℕ
+text_of_place roster job None = codes "no plan"
+text_of_place roster job (Some plan) = place_beside roster job (list_any (λ start. same_stamp start job) plan.starts) plan.head
 
 -- the nodes that a job asks for are at most so many
 abbrev pub is_narrow : ℕ → Option (StampValue × ℕ) → Bool
@@ -42,31 +42,31 @@ is_narrow capacity None = true
 is_narrow capacity (Some nodes) = nat_le nodes.1 capacity
 
 -- the first thing that keeps a job that has not begun from the queue of the site, if anything does
-abbrev pub obstacle : List (List ℕ × ℕ) → ℕ → JobView → Option (List ℕ)
-obstacle roster here j =
-    if is_held j then Some (codes "held " ++ holds_text j)
-    else if is_granted j && not (is_granted_to j here) then Some (codes "granted to " ++ holder_text roster (holder j))
-    else if not (has_site j here) then Some (codes "not for " ++ site_text roster here)
+abbrev pub obstacle_of : List (List ℕ × ℕ) → ℕ → JobView → Option (List ℕ)
+obstacle_of roster here j =
+    if is_held j then Some (codes "held " ++ text_of_holds j)
+    else if is_granted j && not (is_granted_to j here) then Some (codes "granted to " ++ text_of_holder roster (holder j))
+    else if not (has_site j here) then Some (codes "not for " ++ text_of_site roster here)
     else if is_narrow (nodes_at roster here) j.nodes then None
     else Some (codes "needs " ++ field_text decimal j.nodes ++ codes " of " ++ decimal (nodes_at roster here) ++ codes " nodes")
 
 -- how far a job has come; one that has not begun waits
 abbrev pub progress_text : List (List ℕ × ℕ) → Option (StampValue × Ending) → Option (StampValue × Beginning) → List ℕ → List ℕ
 progress_text roster (Some finished) begun waiting = codes "finished " ++ decimal finished.1.status
-progress_text roster None (Some begun) waiting = begun_text roster begun
+progress_text roster None (Some begun) waiting = text_of_begun roster begun
 progress_text roster None None waiting = waiting
 
 -- of a job that is known, beside the plan of the site
-abbrev pub job_text : List (List ℕ × ℕ) → ℕ → StampValue → JobView → Option PlanValue → List ℕ
-job_text roster here job j plan = if j.deleted then codes "deleted"
-    else progress_text roster j.finished j.begun (unwrap_or (obstacle roster here j) (place_text roster job plan))
+abbrev pub text_of_job : List (List ℕ × ℕ) → ℕ → StampValue → JobView → Option PlanValue → List ℕ
+text_of_job roster here job j plan = if j.deleted then codes "deleted"
+    else progress_text roster j.finished j.begun (unwrap_or (obstacle_of roster here j) (text_of_place roster job plan))
 
 -- what is told of the job is its place in the plan
 pub record HasPlace (roster : List (List ℕ × ℕ)) (here : ℕ) (j : JobView) : Type 0 where
   pub not_deleted : j.deleted ≡ false
   pub unfinished : j.finished ≡ None
   pub not_begun : j.begun ≡ None
-  pub free : obstacle roster here j ≡ None
+  pub free : obstacle_of roster here j ≡ None
 
 -- the job is in the queue of a site of so many nodes
 abbrev pub IsQueued : ℕ → ℕ → View → StampValue → Type 0
@@ -75,7 +75,7 @@ IsQueued site capacity v job = Has (ids (queue_in site capacity v)) job
 -- the first that applies
 abbrev pub why_text : List (List ℕ × ℕ) → View → ℕ → StampValue → ℕ → List ℕ
 why_text roster v here job moment = if is_submitted (v.job job)
-    then job_text roster here job (v.job job) (plan_in roster v here moment) else codes "unknown"
+    then text_of_job roster here job (v.job job) (plan_in roster v here moment) else codes "unknown"
 
-abbrev pub why_line : List (List ℕ × ℕ) → View → ℕ → StampValue → ℕ → List ℕ
-why_line roster v here job moment = answer_line (why_text roster v here job moment)
+abbrev pub line_of_why : List (List ℕ × ℕ) → View → ℕ → StampValue → ℕ → List ℕ
+line_of_why roster v here job moment = answer_line (why_text roster v here job moment)

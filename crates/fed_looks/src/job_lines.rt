@@ -7,7 +7,7 @@ ghost use Rattle.fed_model.specs.Letter.{is_submitted};
 ghost use Rattle.fed_board.specs.Board.{board_reads};
 ghost use Rattle.fed_model.specs.Identifiers.{jobs_in};
 ghost use Rattle.fed_looks.specs.JobMembers.{with_names, with_numbers, with_sets, with_stages};
-ghost use Rattle.fed_looks.specs.JobObject.{job_data, jobs_json as json_of_jobs, known_line, lines_of_jobs};
+ghost use Rattle.fed_looks.specs.JobObject.{job_data, json_of_jobs, known_line, lines_of_jobs};
 
 use crate::job_values::{begun, finished, grant, kinds, letter, sites};
 use fed_board::Board;

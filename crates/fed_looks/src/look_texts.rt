@@ -1,7 +1,7 @@
 //! The texts of looks.
 ghost use Rattle.std.specs.Prelude.{◌≡◌, ◌<◌, IfOk, length, string_bytes};
 ghost use Rattle.fed_replica.specs.State.{state_of};
-ghost use Rattle.fed_looks.specs.LookText.{look_text as text_of_look};
+ghost use Rattle.fed_looks.specs.LookText.{text_of_look};
 ghost use Rattle.fed_looks.specs.LookView.{asked_by};
 
 use crate::job_lines::jobs_json;

@@ -3,7 +3,7 @@ ghost use Rattle.std.specs.Prelude.{◌≡◌, IfOk, option_map};
 ghost use Rattle.fed_words.specs.Item.{words_of as texts_of};
 ghost use Rattle.fed_script.specs.Forms.{one, two};
 ghost use Rattle.fed_script.specs.Values.{identifier, moment as moment_of};
-ghost use Rattle.fed_looks.specs.Look.{alone as alone_of, charts, each, look_in, machines, may_leave_out as is_permitted, plan_but, whys};
+ghost use Rattle.fed_looks.specs.Look.{alone_of, charts, each, look_in, machines, may_be_left_out, plan_but, whys};
 ghost use Rattle.fed_looks.specs.LookView.{asked_by};
 
 use fed_lattice::NoMemory;
@@ -81,7 +81,7 @@ fn read_jobs(
 
 /// Whether a plan may be asked to leave out so many jobs.
 fn may_leave_out(count: usize) -> bool
-    ensures { result ≡ is_permitted count }
+    ensures { result ≡ may_be_left_out count }
 {
     1 <= count && count <= MAX_LEFT_OUT
 }

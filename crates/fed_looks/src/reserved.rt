@@ -1,7 +1,7 @@
 //! What is reserved.
 ghost use Rattle.std.specs.Prelude.{◌≡◌, ◌++◌, IfOk, OnOk, string_bytes};
 ghost use Rattle.fed_board.specs.Board.{board_reads};
-ghost use Rattle.fed_looks.specs.Reserved.{reservation_line, reservation_lines as lines_of_reservations, window_line as line_of_window};
+ghost use Rattle.fed_looks.specs.Reserved.{line_of_window, lines_of_reservations, reservation_line};
 
 use fed_board::Board;
 use fed_lattice::NoMemory;

@@ -1,7 +1,7 @@
 //! What a site has seen of the others, and what they are known to have seen of it.
 ghost use Rattle.std.specs.Prelude.{◌≡◌, IfOk, string_bytes};
 ghost use Rattle.fed_replica.specs.State.{state_of};
-ghost use Rattle.fed_looks.specs.Seen.{known_counter as counter_known, seen_line as line_of_seen, seen_lines as lines_of_seen};
+ghost use Rattle.fed_looks.specs.Seen.{counter_known, line_of_seen, lines_of_seen};
 
 use fed_lattice::NoMemory;
 use fed_qstat::site_text;

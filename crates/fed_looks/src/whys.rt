@@ -5,10 +5,10 @@ ghost use Rattle.fed_record.specs.JobRecord.{job_reads};
 ghost use Rattle.fed_model.specs.Letter.{holder, is_submitted};
 ghost use Rattle.fed_board.specs.Board.{board_reads};
 ghost use Rattle.fed_easy.specs.Plan.{plan_reads};
-ghost use Rattle.fed_qstat.specs.Identifier.{site_text as text_of_site};
-ghost use Rattle.fed_qstat.specs.JobText.{holder_text as text_of_holder};
+ghost use Rattle.fed_qstat.specs.Identifier.{text_of_site};
+ghost use Rattle.fed_qstat.specs.JobText.{text_of_holder};
 ghost use Rattle.fed_easy.specs.RosterPlan.{plan_in};
-ghost use Rattle.fed_looks.specs.Why.{behind_text as text_of_behind, begun_text as text_of_begun, job_text as text_of_job, obstacle as obstacle_of, place_text as text_of_place, why_line as line_of_why};
+ghost use Rattle.fed_looks.specs.Why.{line_of_why, obstacle_of, text_of_begun, text_of_behind, text_of_job, text_of_place};
 
 use fed_board::Board;
 use fed_easy::{Plan, nodes_of, plan_at};

@@ -25,8 +25,8 @@ standing_cmp s t = ordering_then (nat_cmp s.seconds t.seconds)
     (ordering_then (stamp_cmp s.id t.id) (ordering_then (nat_cmp s.nodes t.nodes) (bool_cmp s.starts t.starts)))
 
 -- a job that runs has its nodes for a second at least
-abbrev pub run_standing : ℕ → RunningJob → StandingJob
-run_standing moment r = record { seconds = max (r.end - moment) 1; id = r.id; nodes = r.nodes; starts = false }
+abbrev pub standing_of_run : ℕ → RunningJob → StandingJob
+standing_of_run moment r = record { seconds = max (r.end - moment) 1; id = r.id; nodes = r.nodes; starts = false }
 
 -- what a field says; that of a job that is submitted says something
 abbrev pub said : Option (StampValue × ℕ) → ℕ
@@ -34,8 +34,8 @@ said None = 0
 said (Some latest) = latest.1
 
 -- a job that starts has its nodes until its limit
-abbrev pub start_standing : StampValue → JobView → Option StandingJob
-start_standing job j = if is_submitted j
+abbrev pub standing_of_start : StampValue → JobView → Option StandingJob
+standing_of_start job j = if is_submitted j
     then Some (record { seconds = said j.limit; id = job; nodes = said j.nodes; starts = true }) else None
 
 abbrev pub with_some : List StandingJob → Option StandingJob → List StandingJob
@@ -43,10 +43,10 @@ with_some sorted None = sorted
 with_some sorted (Some s) = insert_key standing_cmp sorted s
 
 abbrev pub with_run : ℕ → List StandingJob → RunningJob → List StandingJob
-with_run moment sorted r = insert_key standing_cmp sorted (run_standing moment r)
+with_run moment sorted r = insert_key standing_cmp sorted (standing_of_run moment r)
 
 abbrev pub with_start : View → List StandingJob → StampValue → List StandingJob
-with_start v sorted job = with_some sorted (start_standing job (v.job job))
+with_start v sorted job = with_some sorted (standing_of_start job (v.job job))
 
 -- the jobs that run at the site and those that start, the longest first
 abbrev pub standing_in : View → ℕ → ℕ → List StampValue → List StandingJob
@@ -54,19 +54,19 @@ standing_in v here moment starts = reverse (fold (with_start v) (fold (with_run 
 
 -- ---- bars
 -- the nodes up to the upper edge, counted up to 2^64 - 1
-abbrev pub top : Bar → ℕ
-top b = min (b.bottom + b.nodes) (2 ^ 64 - 1)
+abbrev pub top_of : Bar → ℕ
+top_of b = min (b.bottom + b.nodes) (2 ^ 64 - 1)
 
 -- the second after the moment at which it ends, counted likewise
-abbrev pub end : Bar → ℕ
-end b = min (b.from + b.seconds) (2 ^ 64 - 1)
+abbrev pub end_of : Bar → ℕ
+end_of b = min (b.from + b.seconds) (2 ^ 64 - 1)
 
 abbrev pub top_if : Option Bar → ℕ
 top_if None = 0
-top_if (Some b) = top b
+top_if (Some b) = top_of b
 
-abbrev pub last_top : List Bar → ℕ
-last_top bars = top_if (slice_get bars (length bars - 1))
+abbrev pub last_top_in : List Bar → ℕ
+last_top_in bars = top_if (slice_get bars (length bars - 1))
 
 abbrev pub bar_of : ℕ → StandingJob → Bar
 bar_of bottom s = record {
@@ -80,19 +80,19 @@ bar_of bottom s = record {
 
 -- on top of the last one
 abbrev pub with_standing : List Bar → StandingJob → List Bar
-with_standing bars s = bars ++ bar_of (last_top bars) s ∷ []
+with_standing bars s = bars ++ bar_of (last_top_in bars) s ∷ []
 
 -- the bar is there at one of so many seconds
-abbrev pub meets : ℕ → ℕ → Bar → Bool
-meets from seconds b = nat_lt b.from (from + seconds) && nat_lt from (b.from + b.seconds)
+abbrev pub meets_bar : ℕ → ℕ → Bar → Bool
+meets_bar from seconds b = nat_lt b.from (from + seconds) && nat_lt from (b.from + b.seconds)
 
 -- raised to the top of a bar, where it is there at one of so many seconds
 abbrev pub raised : ℕ → ℕ → ℕ → Bar → ℕ
-raised from seconds level b = if meets from seconds b then max level (top b) else level
+raised from seconds level b = if meets_bar from seconds b then max level (top_of b) else level
 
 -- the least level above all that are there at one of so many seconds
-abbrev pub level_over : ℕ → ℕ → List Bar → ℕ
-level_over from seconds bars = fold (raised from seconds) 0 bars
+abbrev pub level_above : ℕ → ℕ → List Bar → ℕ
+level_above from seconds bars = fold (raised from seconds) 0 bars
 
 -- above those that are there at its seconds
 abbrev pub with_bar : Kind → StampValue → ℕ → ℕ → ℕ → List Bar → List Bar
@@ -102,7 +102,7 @@ with_bar kind id from seconds nodes bars = bars ++ record {
   from = from;
   seconds = seconds;
   nodes = nodes;
-  bottom = level_over from seconds bars;
+  bottom = level_above from seconds bars;
 } ∷ []
 
 abbrev pub with_job : JobView → StampValue → ℕ → List Bar → List Bar
@@ -127,4 +127,4 @@ bars_in v here moment plan = fold (with_kept moment)
 
 -- the first bar lies below the second one, where they share a second
 abbrev pub LiesBelow : Bar → Bar → Type 0
-LiesBelow b c = IsTrue (meets c.from c.seconds b) → top b ≤ c.bottom
+LiesBelow b c = IsTrue (meets_bar c.from c.seconds b) → top_of b ≤ c.bottom

@@ -17,7 +17,7 @@ use Rattle.fed_easy.specs.Machine.{running_of}
 use Rattle.fed_easy.specs.SitePlan.{booked_at, used_in}
 use Rattle.fed_machine.specs.declared.machines.Reserved.{Reserved}
 use Rattle.fed_machine.specs.declared.machines.RunningJob.{RunningJob}
-use Rattle.fed_qstat.specs.Identifier.{identifier_text}
+use Rattle.fed_qstat.specs.Identifier.{text_of_identifier}
 
 -- by end, then by stamp
 abbrev pub run_cmp : RunningJob → RunningJob → Ordering
@@ -34,8 +34,8 @@ in_order cmp sorted [] = sorted
 in_order cmp sorted (x ∷ xs) = in_order cmp (insert_key cmp sorted x) xs
 
 -- the job, if the site has begun it and it is not finished
-abbrev pub run_of : ℕ → StampValue → JobView → Option RunningJob
-run_of here job j = option_map (λ r. record { end = r.end; id = job; nodes = r.nodes }) (running_of here j)
+abbrev pub run_from : ℕ → StampValue → JobView → Option RunningJob
+run_from here job j = option_map (λ r. record { end = r.end; id = job; nodes = r.nodes }) (running_of here j)
 
 -- the time of a reservation, if it is not over at the moment
 abbrev pub kept_time : ℕ → StampValue → Booking → Option Reserved
@@ -43,31 +43,32 @@ kept_time moment id b = if nat_lt moment b.until
     then Some (record { start = b.from; id = id; end = b.until; nodes = b.nodes }) else None
 
 -- the reservation, if it stands, is of the site and is not over at the moment
-abbrev pub kept_of : ℕ → ℕ → StampValue → ReservationView → Option Reserved
-kept_of here moment id r = option_and_then (kept_time moment id) (booked_at here r)
+abbrev pub kept_from : ℕ → ℕ → StampValue → ReservationView → Option Reserved
+kept_from here moment id r = option_and_then (kept_time moment id) (booked_at here r)
 
 -- the jobs that run at a site, in the order of their ends
 abbrev pub runs_in : ℕ → View → List RunningJob
-runs_in here v = in_order run_cmp [] (filter_map (λ job. run_of here job (v.job job)) (jobs_in v))
+runs_in here v = in_order run_cmp [] (filter_map (λ job. run_from here job (v.job job)) (jobs_in v))
 
 -- its reservations, in the order of their starts
 abbrev pub kept_in : ℕ → ℕ → View → List Reserved
 kept_in here moment v =
-    in_order kept_cmp [] (filter_map (λ id. kept_of here moment id (v.reservation id)) (reservations_in v))
+    in_order kept_cmp [] (filter_map (λ id. kept_from here moment id (v.reservation id)) (reservations_in v))
 
-abbrev pub nodes_line : ℕ → ℕ → List ℕ
-nodes_line nodes free = codes "nodes " ++ decimal nodes ++ codes ", free " ++ decimal free ++ 10 ∷ []
+abbrev pub line_of_nodes : ℕ → ℕ → List ℕ
+line_of_nodes nodes free = codes "nodes " ++ decimal nodes ++ codes ", free " ++ decimal free ++ 10 ∷ []
 
-abbrev pub run_line : List (List ℕ × ℕ) → RunningJob → List ℕ
-run_line roster r = codes "run " ++ join_with_byte 32 (identifier_text roster r.id ∷ decimal r.nodes ∷ decimal r.end ∷ []) ++ 10 ∷ []
+abbrev pub line_of_run : List (List ℕ × ℕ) → RunningJob → List ℕ
+line_of_run roster r = codes "run "
+    ++ join_with_byte 32 (text_of_identifier roster r.id ∷ decimal r.nodes ∷ decimal r.end ∷ []) ++ 10 ∷ []
 
-abbrev pub kept_line : List (List ℕ × ℕ) → Reserved → List ℕ
-kept_line roster k = codes "reserved "
-    ++ join_with_byte 32 (identifier_text roster k.id ∷ decimal k.start ∷ decimal k.end ∷ decimal k.nodes ∷ []) ++ 10 ∷ []
+abbrev pub line_of_kept : List (List ℕ × ℕ) → Reserved → List ℕ
+line_of_kept roster k = codes "reserved "
+    ++ join_with_byte 32 (text_of_identifier roster k.id ∷ decimal k.start ∷ decimal k.end ∷ decimal k.nodes ∷ []) ++ 10 ∷ []
 
 -- the nodes and how many of them are not in use, the jobs that run, and the reservations that are not over
-abbrev pub machine_lines : List (List ℕ × ℕ) → View → ℕ → ℕ → List ℕ
-machine_lines roster v here moment =
+abbrev pub lines_of_machine : List (List ℕ × ℕ) → View → ℕ → ℕ → List ℕ
+lines_of_machine roster v here moment =
     let nodes = nodes_at roster here in
-    nodes_line nodes (nodes - used_in here v moment)
-    ++ flat_map (run_line roster) (runs_in here v) ++ flat_map (kept_line roster) (kept_in here moment v)
+    line_of_nodes nodes (nodes - used_in here v moment)
+    ++ flat_map (line_of_run roster) (runs_in here v) ++ flat_map (line_of_kept roster) (kept_in here moment v)

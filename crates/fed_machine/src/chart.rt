@@ -2,7 +2,7 @@
 ghost use Rattle.std.specs.Prelude.{◌≡◌, ◌<◌, ◌++◌, IfOk, flat_map, length, string_bytes};
 ghost use Rattle.std.specs.List.{AllPairs, range_with_len};
 ghost use Rattle.fed_board.specs.Board.{board_reads};
-ghost use Rattle.fed_machine.specs.Chart.{chart_bars, chart_svg as svg_of_chart, foot_text as text_of_foot, ground_text as text_of_ground, head_text as text_of_head, heading_text as text_of_heading, level_line as level_line_at, nodes_text as text_of_nodes, picture as picture_of, plan_note as note_of_plan, style_text as text_of_style, tick_text as text_of_tick, upward_line as upward_line_at};
+ghost use Rattle.fed_machine.specs.Chart.{chart_bars, level_line_at, note_of_plan, picture_of, svg_of_chart, text_of_foot, text_of_ground, text_of_head, text_of_heading, text_of_nodes, text_of_style, text_of_tick, upward_line_at};
 ghost use Rattle.fed_machine.specs.ChartBars.{LiesBelow};
 
 use crate::chart_bars::{Bar, bars_at};
@@ -16,7 +16,7 @@ use fed_stamp::{Roster, SiteId};
 use std::alloc::{AllocError, Global};
 
 /// The colours, and what they tell.
-#[tactic(auto, unfolding(crate::specs::Chart::style_text))]
+#[tactic(auto, unfolding(crate::specs::Chart::text_of_style))]
 fn style_text() -> &'static str
     ensures { result.now ≡ text_of_style }
 {
@@ -106,7 +106,7 @@ fn nodes_text(alloc: Global, levels: u64, nodes: u64) -> Result<String, AllocErr
 }
 
 /// The words at the axes, the 0 of the nodes, and the start of the list.
-#[tactic(auto, unfolding(crate::specs::Chart::ground_text))]
+#[tactic(auto, unfolding(crate::specs::Chart::text_of_ground))]
 fn ground_text() -> &'static str
     ensures { result.now ≡ text_of_ground }
 {
@@ -114,7 +114,7 @@ fn ground_text() -> &'static str
 }
 
 /// The end of the list and of the picture.
-#[tactic(auto, unfolding(crate::specs::Chart::foot_text))]
+#[tactic(auto, unfolding(crate::specs::Chart::text_of_foot))]
 fn foot_text() -> &'static str
     ensures { result.now ≡ text_of_foot }
 {

@@ -3,7 +3,7 @@ ghost use Rattle.std.specs.Prelude.{◌≡◌, [], IfOk, OnOk};
 ghost use Rattle.std.specs.List.{fold};
 ghost use Rattle.fed_board.specs.Board.{board_reads};
 ghost use Rattle.fed_easy.specs.Plan.{plan_reads};
-ghost use Rattle.fed_machine.specs.ChartBars.{bar_of, bars_in, end as end_of, last_top as last_top_in, level_over as level_above, meets as meets_bar, run_standing as standing_of_run, standing_in, start_standing as standing_of_start, top as top_of, with_bar, with_head, with_kept, with_run, with_standing, with_start};
+ghost use Rattle.fed_machine.specs.ChartBars.{bar_of, bars_in, end_of, last_top_in, level_above, meets_bar, standing_in, standing_of_run, standing_of_start, top_of, with_bar, with_head, with_kept, with_run, with_standing, with_start};
 ghost use Rattle.fed_machine.specs.Machine.{runs_in};
 
 use crate::machines::{Reserved, RunningJob, kept_at, runs_at};

@@ -1,6 +1,6 @@
 //! How the bars of a chart are drawn.
 ghost use Rattle.std.specs.Prelude.{◌≡◌, ◌+◌, ◌*◌, ◌/◌, ◌<◌, ◌≤◌, IfOk, flat_map, string_bytes};
-ghost use Rattle.fed_machine.specs.ChartMarks.{across as pixels_across, area_of as area_of_bar, box_text as text_of_box, class as class_of, label_size as size_of_label, label_text as text_of_label, levels_in, place_text as text_of_place, rect_text as text_of_rect, rise as pixels_up, row_text as text_of_row, span_in, turn as turn_of, turning_text as text_of_turning, words as words_of};
+ghost use Rattle.fed_machine.specs.ChartMarks.{area_of_bar, class_of, levels_in, pixels_across, pixels_up, size_of_label, span_in, text_of_box, text_of_label, text_of_place, text_of_rect, text_of_row, text_of_turning, turn_of, words_of};
 
 use crate::chart_bars::{Bar, Kind, end, top};
 use fed_qstat::identifier_text;

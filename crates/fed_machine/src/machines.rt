@@ -3,7 +3,7 @@ ghost use Rattle.std.specs.Prelude.{◌≡◌, ◌<◌, ◌-◌, ◌++◌, [], I
 ghost use Rattle.fed_record.specs.JobRecord.{job_reads};
 ghost use Rattle.fed_board.specs.Board.{board_reads};
 ghost use Rattle.fed_easy.specs.SitePlan.{used_in};
-ghost use Rattle.fed_machine.specs.Machine.{kept_in, kept_line as line_of_kept, kept_of as kept_from, machine_lines as lines_of_machine, nodes_line as line_of_nodes, run_line as line_of_run, run_of as run_from, runs_in};
+ghost use Rattle.fed_machine.specs.Machine.{kept_from, kept_in, line_of_kept, line_of_nodes, line_of_run, lines_of_machine, run_from, runs_in};
 
 use fed_board::Board;
 use fed_easy::{nodes_of, reserved_time, running_job, used_nodes};

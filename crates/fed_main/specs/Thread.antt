@@ -9,9 +9,9 @@ use Rattle.fed_threads.specs.declared.journal.Asked.TheVariants.{Do, Ship}
 use Rattle.fed_threads.specs.Calls.{AddsClaim, Looks}
 use Rattle.fed_threads.specs.Seat.{Known, known_by}
 use Rattle.fed_script.specs.Line.{Line, skips, begins, acts, lists, misuses, ships, takes, plans, compares}
-use Rattle.fed_qstat.specs.Outcome.{answer_line, outcome_text, usage_line}
+use Rattle.fed_qstat.specs.Outcome.{answer_line, line_of_usage, text_of_outcome}
 use Rattle.fed_qstat.specs.Listed.{listed}
-use Rattle.fed_qstat.specs.Planned.{plan_text}
+use Rattle.fed_qstat.specs.Planned.{text_of_plan}
 use Rattle.fed_main.specs.declared.live_sites.Log.{Log}
 
 -- what a thread's seat knows, and what was answered so far
@@ -51,7 +51,7 @@ pub record Does (roster : List (List ℕ × ℕ)) (here : ℕ) (who : Who) (comm
     (text : List ℕ) : Type 0 where
   pub outcome : Outcome
   pub claim : AddsClaim before after here (Do here who command) outcome
-  pub told : text ≡ answer_line (outcome_text roster outcome)
+  pub told : text ≡ answer_line (text_of_outcome roster outcome)
 
 -- a packet is made: its place in the journal is not told
 pub record MakesPacket (here to : ℕ) (before after : Known) (text : List ℕ) : Type 0 where
@@ -71,10 +71,10 @@ LineSays roster here skips = Only []
 LineSays roster here (begins sites) = Only []
 LineSays roster here (acts site who commands) = Each (Does roster here who) commands
 LineSays roster here (lists site full jobs) = Looked here (λ board. listed full roster board jobs)
-LineSays roster here (misuses site fault) = Only (usage_line fault)
+LineSays roster here (misuses site fault) = Only (line_of_usage fault)
 LineSays roster here (ships site to) = MakesPacket here to
 LineSays roster here (takes site packet) = Only []
-LineSays roster here (plans site moment) = Looked here (λ board. plan_text roster board here moment)
+LineSays roster here (plans site moment) = Looked here (λ board. text_of_plan roster board here moment)
 LineSays roster here (compares site other) = Only []
 
 -- does the line ask the site?

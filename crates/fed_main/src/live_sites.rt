@@ -6,9 +6,9 @@ ghost use Rattle.fed_script.specs.LineView.{said_by};
 ghost use Rattle.fed_threads.specs.Calls.{Looks};
 ghost use Rattle.fed_threads.specs.Seat.{known_by, starts};
 ghost use Rattle.fed_qstat.specs.Listed.{listed};
-ghost use Rattle.fed_qstat.specs.Outcome.{usage_line as line_of_usage};
+ghost use Rattle.fed_qstat.specs.Outcome.{line_of_usage};
 ghost use Rattle.fed_main.specs.Thread.{asks as asks_site, reads, Answers, Does, Each, LineSays, Looked, MakesPacket, Only, ThreadSays};
-ghost use Rattle.fed_qstat.specs.Planned.{plan_text};
+ghost use Rattle.fed_qstat.specs.Planned.{text_of_plan};
 
 use fed_board::Board;
 use fed_qstat::{listing_text, outcome_line, plan_line, usage_line};
@@ -173,7 +173,7 @@ impl<'a, R: Wait, G: Gate> LiveSite<'a, R, G> {
     fn plan(&self, moment: Moment, log: &mut Log) -> Result<(), CallFault>
         requires { self.now.here < length self.now.sites.now.roster.now }
         ensures { OnOk result (Answers
-            (Looked self.now.here (λ board. plan_text self.now.sites.now.roster.now board self.now.here moment))
+            (Looked self.now.here (λ board. text_of_plan self.now.sites.now.roster.now board self.now.here moment))
             (reads log.old) (reads log.new)) }
     {
         let board = self.board(log)?;

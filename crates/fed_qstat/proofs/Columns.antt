@@ -17,7 +17,7 @@ use Rattle.fed_stamp.proofs.WordLemmas.{name_ascii}
 use Rattle.fed_stamp.specs.Stamp.{StampValue}
 use Rattle.fed_stamp.specs.Word.{is_name}
 use Rattle.fed_qstat.specs.Columns.{left_in, right_in}
-use Rattle.fed_qstat.specs.Identifier.{identifier_text, site_text}
+use Rattle.fed_qstat.specs.Identifier.{text_of_identifier, text_of_site}
 
 -- the parts of a line, and its line feed
 pub join-parts : (a b c d e f g h : List ℕ) → join_with_byte 32 (a ∷ b ∷ c ∷ d ∷ []) ++ ((32 ∷ (join_with_byte 32 (e ∷ f ∷ g ∷ []) ++ 32 ∷ [])) ++ (h ++ 10 ∷ [])) ≡ join_with_byte 32 (a ∷ b ∷ c ∷ d ∷ e ∷ f ∷ g ∷ h ∷ []) ++ 10 ∷ []
@@ -65,10 +65,10 @@ site_ascii roster site (Some s) lawful e small =
     let named : is_site_name (get_or roster site ([], 0)).0 ≡ true = lawful.named site ([], 0) (slice_get_within roster site s e) in
     site_name_ascii s.0 (subst (λ (t : List ℕ × ℕ). is_site_name t.0 ≡ true) (get_or_from_slice_get roster site s ([], 0) e) named)
 
-pub identifier_ascii : (roster : List (List ℕ × ℕ)) (id : StampValue) → IsRoster roster → id.counter < 2 ^ 64 → id.site < 2 ^ 64 → IsAscii (identifier_text roster id)
+pub identifier_ascii : (roster : List (List ℕ × ℕ)) (id : StampValue) → IsRoster roster → id.counter < 2 ^ 64 → id.site < 2 ^ 64 → IsAscii (text_of_identifier roster id)
 identifier_ascii roster id lawful small place =
-    IsAscii-append (decimal id.counter) (46 ∷ site_text roster id.site) (IsAscii-decimal id.counter small)
-    (IsAscii-cons 46 (site_text roster id.site) (omega arith) (site_ascii roster id.site (slice_get roster id.site) lawful refl place))
+    IsAscii-append (decimal id.counter) (46 ∷ text_of_site roster id.site) (IsAscii-decimal id.counter small)
+    (IsAscii-cons 46 (text_of_site roster id.site) (omega arith) (site_ascii roster id.site (slice_get roster id.site) lawful refl place))
 
 -- ---- numbers that are written into a row of spaces
 replicate-split : (a b : ℕ) → replicate {A = ℕ} (a + suc b) 32 ≡ replicate a 32 ++ 32 ∷ replicate b 32

@@ -6,7 +6,7 @@ use Rattle.std.proofs.lemmas.List.{map-append}
 use Rattle.std.proofs.lemmas.List.Elements.{filter-append}
 use Rattle.fed_model.specs.JobView.{JobView}
 use Rattle.fed_model.specs.Letter.{has_site}
-use Rattle.fed_qstat.specs.Identifier.{site_text}
+use Rattle.fed_qstat.specs.Identifier.{text_of_site}
 
 -- a range, and the number behind it
 pub range_more : (n a : ℕ) → range_with_len a (suc n) ≡ range_with_len a n ++ (a + n) ∷ []
@@ -44,7 +44,7 @@ module _ (roster : List (List ℕ × ℕ)) (j : JobView) where
   sites_below n = filter (has_site j) (range_with_len 0 n)
 
   abbrev pub names_below : ℕ → List ℕ
-  names_below n = join_with_byte 43 (map (site_text roster) (sites_below n))
+  names_below n = join_with_byte 43 (map (text_of_site roster) (sites_below n))
 
   sites_more : (b : Bool) (m n : ℕ) → m ≡ suc n → has_site j n ≡ b → sites_below m ≡ sites_below n ++ cond b (n ∷ []) []
   sites_more b m n e h =
@@ -60,19 +60,19 @@ module _ (roster : List (List ℕ × ℕ)) (j : JobView) where
   pub skipped : (m n : ℕ) (text : List ℕ) (is_first : Bool) → m ≡ suc n → has_site j n ≡ false → AreNamed n text is_first → AreNamed m text is_first
   skipped m n text is_first e h before =
       let same : sites_below m ≡ sites_below n = sites_more false m n e h ∙ append-nil (sites_below n) in
-      record { named = before.named ∙ ap (λ l. join_with_byte 43 (map (site_text roster) l)) (sym same); first = before.first ∙ ap is_none_of (sym same) }
+      record { named = before.named ∙ ap (λ l. join_with_byte 43 (map (text_of_site roster) l)) (sym same); first = before.first ∙ ap is_none_of (sym same) }
 
   -- a site that it may
   pub added : (m n : ℕ) (old new : List ℕ) (is_first : Bool) → m ≡ suc n → has_site j n ≡ true → AreNamed n old is_first
-      → new ≡ old ++ cond is_first (site_text roster n) (43 ∷ site_text roster n) → AreNamed m new false
+      → new ≡ old ++ cond is_first (text_of_site roster n) (43 ∷ text_of_site roster n) → AreNamed m new false
   added m n old new is_first e h before more =
       let grown : sites_below m ≡ sites_below n ++ n ∷ [] = sites_more true m n e h in
-      let names : map (site_text roster) (sites_below m) ≡ map (site_text roster) (sites_below n) ++ site_text roster n ∷ [] =
-      ap (map (site_text roster)) grown ∙ map-append (site_text roster) (sites_below n) (n ∷ []) in
+      let names : map (text_of_site roster) (sites_below m) ≡ map (text_of_site roster) (sites_below n) ++ text_of_site roster n ∷ [] =
+      ap (map (text_of_site roster)) grown ∙ map-append (text_of_site roster) (sites_below n) (n ∷ []) in
       record {
         named = more
-            ∙ ap₂ (λ (l : List ℕ) (b : Bool). l ++ cond b (site_text roster n) (43 ∷ site_text roster n)) before.named (before.first ∙ sym (none-map (site_text roster) (sites_below n)))
-            ∙ sym (join-push 43 (map (site_text roster) (sites_below n)) (site_text roster n))
+            ∙ ap₂ (λ (l : List ℕ) (b : Bool). l ++ cond b (text_of_site roster n) (43 ∷ text_of_site roster n)) before.named (before.first ∙ sym (none-map (text_of_site roster) (sites_below n)))
+            ∙ sym (join-push 43 (map (text_of_site roster) (sites_below n)) (text_of_site roster n))
             ∙ ap (join_with_byte 43) (sym names);
         first = sym (ap is_none_of grown ∙ none-push (sites_below n) n);
       }

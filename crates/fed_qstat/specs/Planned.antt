@@ -20,10 +20,10 @@ plan_or_none (Some text) = text
 plan_or_none None = answer_line (codes "no plan")
 
 -- what is said
-abbrev pub plan_text : List (List ℕ × ℕ) → View → ℕ → ℕ → List ℕ
-plan_text roster v site moment = plan_or_none (plan_if_any roster v site moment)
+abbrev pub text_of_plan : List (List ℕ × ℕ) → View → ℕ → ℕ → List ℕ
+text_of_plan roster v site moment = plan_or_none (plan_if_any roster v site moment)
 
 -- and where these jobs are left out
-abbrev pub plan_text_without : List StampValue → List (List ℕ × ℕ) → View → ℕ → ℕ → List ℕ
-plan_text_without jobs roster v site moment =
+abbrev pub text_of_plan_without : List StampValue → List (List ℕ × ℕ) → View → ℕ → ℕ → List ℕ
+text_of_plan_without jobs roster v site moment =
     plan_or_none (option_map (plan_lines roster) (plan_in_without jobs roster v site moment))

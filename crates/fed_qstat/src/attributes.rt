@@ -2,7 +2,7 @@
 ghost use Rattle.std.specs.Prelude.{◌≡◌, ◌∷◌, ◌++◌, IfOk, OnOk, Some, string_bytes, if◌then◌else◌};
 ghost use Rattle.fed_record.specs.JobRecord.{job_reads};
 ghost use Rattle.fed_model.specs.Letter.{holder};
-ghost use Rattle.fed_qstat.specs.JobText.{begun_text as text_of_begun, holder_text as text_of_holder, holds_text as text_of_holds, kinds_text as letters_of_kinds, letter_sign as sign_of_letter, or_dash as text_or_dash, sites_text as text_of_sites};
+ghost use Rattle.fed_qstat.specs.JobText.{letters_of_kinds, sign_of_letter, text_of_begun, text_of_holder, text_of_holds, text_of_sites, text_or_dash};
 
 use crate::identifiers::{push_site, site_text};
 use fed_record::{HoldKind, HoldKinds, JobRecord, Letter};

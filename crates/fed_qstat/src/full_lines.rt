@@ -2,7 +2,7 @@
 ghost use Rattle.std.specs.Prelude.{◌≡◌, ◌++◌, IfOk, OnOk, IsTrue, Some, string_bytes};
 ghost use Rattle.fed_record.specs.JobRecord.{job_reads};
 ghost use Rattle.fed_model.specs.Letter.{is_submitted, letter as letter_of};
-ghost use Rattle.fed_qstat.specs.Full.{attribute, full_lines as lines_of, head_line, naming, resources, running, standing};
+ghost use Rattle.fed_qstat.specs.Full.{attribute, head_line, lines_in_full, naming, resources, running, standing};
 
 use crate::attributes::{begun_text, holder_text, holds_text, letter_sign, or_dash, sites_text};
 use crate::identifiers::identifier_text;
@@ -114,7 +114,7 @@ pub(crate) fn full_lines(
 ) -> Result<String, AllocError>
     requires submitted { IsTrue (is_submitted (job_reads job.now)) }
     requires letter { letter_of (job_reads job.now) ≡ Some letter }
-    ensures { IfOk result (λ text. string_bytes text ≡ lines_of roster.now id (job_reads job.now)) }
+    ensures { IfOk result (λ text. string_bytes text ≡ lines_in_full roster.now id (job_reads job.now)) }
 {
     let mut text = naming_text(alloc, roster, id, job)?;
     let standing = standing_text(alloc, job, letter)?;

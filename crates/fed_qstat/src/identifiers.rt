@@ -1,6 +1,6 @@
 //! The text of identifiers.
 ghost use Rattle.std.specs.Prelude.{◌≡◌, ◌++◌, IfOk, OnOk, string_bytes};
-ghost use Rattle.fed_qstat.specs.Identifier.{identifier_text as text_of_identifier, site_text as text_of_site};
+ghost use Rattle.fed_qstat.specs.Identifier.{text_of_identifier, text_of_site};
 
 use fed_stamp::{JobId, Roster, SiteId};
 use itoa::Buffer;

@@ -7,10 +7,10 @@ ghost use Rattle.fed_lattice.specs.Sets.{Has};
 ghost use Rattle.fed_record.specs.JobRecord.{job_reads};
 ghost use Rattle.fed_model.specs.Letter.{is_submitted, letter as letter_of};
 ghost use Rattle.fed_board.specs.Board.{board_reads};
-ghost use Rattle.fed_qstat.specs.Full.{full_lines as lines_of_full};
+ghost use Rattle.fed_qstat.specs.Full.{lines_in_full};
 ghost use Rattle.fed_qstat.specs.Layout.{lines_in};
 ghost use Rattle.fed_qstat.specs.Listing.{listing, shown_text};
-ghost use Rattle.fed_qstat.specs.Short.{short_line as line_of_short};
+ghost use Rattle.fed_qstat.specs.Short.{line_in_short};
 
 use crate::full_lines::full_lines;
 use crate::short_lines::push_short_line;
@@ -169,7 +169,7 @@ pub fn list(
     roster: &Roster,
     ids: &[JobId],
 ) -> Result<String, NoMemory>
-    ensures { IfOk result (λ text. string_bytes text ≡ listing (line_of_short roster.now) (board_reads board.now) ids.now) }
+    ensures { IfOk result (λ text. string_bytes text ≡ listing (line_in_short roster.now) (board_reads board.now) ids.now) }
 {
     lines_of(alloc, roster, Layout::Short, board, ids)
 }
@@ -181,7 +181,7 @@ pub fn full(
     roster: &Roster,
     ids: &[JobId],
 ) -> Result<String, NoMemory>
-    ensures { IfOk result (λ text. string_bytes text ≡ listing (lines_of_full roster.now) (board_reads board.now) ids.now) }
+    ensures { IfOk result (λ text. string_bytes text ≡ listing (lines_in_full roster.now) (board_reads board.now) ids.now) }
 {
     lines_of(alloc, roster, Layout::Full, board, ids)
 }

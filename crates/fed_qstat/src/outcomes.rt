@@ -2,7 +2,7 @@
 ghost use Rattle.std.specs.Prelude.{◌≡◌, IfOk, string_bytes};
 ghost use Rattle.std.specs.Cow.{cow_str_bytes};
 ghost use Rattle.fed_model.specs.declared.outcomes.Outcome.TheVariants.{Gap};
-ghost use Rattle.fed_qstat.specs.Outcome.{answer_line, outcome_text as text_of_outcome, reply_text as text_of_reply, usage_line as line_of_usage};
+ghost use Rattle.fed_qstat.specs.Outcome.{answer_line, line_of_usage, text_of_outcome, text_of_reply};
 
 use crate::identifiers::{identifier_text, site_text};
 use fed_model::Outcome;

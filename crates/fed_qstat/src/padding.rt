@@ -4,7 +4,7 @@ ghost use Rattle.std.specs.Fmt.{decimal};
 ghost use Rattle.fed_stamp.specs.declared.rosters.TheConstants.{MAX_NODES};
 ghost use Rattle.fed_model.specs.declared.limits.TheConstants.{MAX_LIMIT};
 ghost use Rattle.fed_qstat.specs.Columns.{left_in, right_in};
-ghost use Rattle.fed_qstat.specs.Identifier.{identifier_text};
+ghost use Rattle.fed_qstat.specs.Identifier.{text_of_identifier};
 
 use crate::identifiers::push_identifier;
 use fed_stamp::{JobId, Roster, Word, roster_is_lawful, stamp_is_in_range};
@@ -35,7 +35,8 @@ pub(crate) fn push_id_column(
     roster: &Roster,
     id: JobId,
 ) -> Result<(), AllocError>
-    ensures { OnOk result (string_bytes text.new ≡ string_bytes text.old ++ (left_in 18 (identifier_text roster.now id) ++ 32 ∷ [])) }
+    ensures { OnOk result (string_bytes text.new ≡
+        string_bytes text.old ++ (left_in 18 (text_of_identifier roster.now id) ++ 32 ∷ [])) }
 {
     // by these an identifier is ASCII
     roster_is_lawful(roster);

@@ -1,7 +1,7 @@
 //! The text of a plan.
 ghost use Rattle.std.specs.Prelude.{◌≡◌, IfOk, flat_map, string_bytes};
 ghost use Rattle.fed_easy.specs.Plan.{plan_reads};
-ghost use Rattle.fed_qstat.specs.PlanText.{head_of, plan_lines, start_line as line_of_start};
+ghost use Rattle.fed_qstat.specs.PlanText.{head_of, line_of_start, plan_lines};
 
 use crate::identifiers::identifier_text;
 use fed_easy::Plan;

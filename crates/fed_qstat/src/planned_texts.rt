@@ -2,7 +2,7 @@
 ghost use Rattle.std.specs.Prelude.{◌≡◌, ◌<◌, IfOk, length, option_map, string_bytes};
 ghost use Rattle.std.specs.Cow.{cow_str_bytes};
 ghost use Rattle.fed_board.specs.Board.{board_reads};
-ghost use Rattle.fed_qstat.specs.Planned.{plan_if_any, plan_text as text_of_plan, plan_text_without as text_without};
+ghost use Rattle.fed_qstat.specs.Planned.{plan_if_any, text_of_plan, text_of_plan_without};
 
 use crate::outcomes::AnswerText;
 use crate::plan_texts::plan_text;
@@ -60,7 +60,7 @@ pub fn plan_text_without(
 ) -> Result<String, NoMemory>
     requires { site < length roster.now }
     ensures { IfOk result (λ text. string_bytes text ≡
-        text_without jobs.now roster.now (board_reads board.now) site moment) }
+        text_of_plan_without jobs.now roster.now (board_reads board.now) site moment) }
 {
     match plan_at_without(alloc, roster, board, site, moment, jobs)? {
         Some(plan) => plan_text(alloc, &plan, roster),

@@ -7,8 +7,8 @@ ghost use Rattle.fed_model.specs.declared.limits.TheConstants.{MAX_LIMIT};
 ghost use Rattle.fed_record.specs.JobRecord.{job_reads};
 ghost use Rattle.fed_model.specs.Letter.{is_submitted, letter as letter_of};
 ghost use Rattle.fed_qstat.specs.Columns.{left_in, right_in};
-ghost use Rattle.fed_qstat.specs.Identifier.{identifier_text};
-ghost use Rattle.fed_qstat.specs.Short.{short_line as line_of};
+ghost use Rattle.fed_qstat.specs.Identifier.{text_of_identifier};
+ghost use Rattle.fed_qstat.specs.Short.{line_in_short};
 
 use crate::attributes::{letter_sign, push_holder};
 use crate::padding::{push_id_column, push_nodes_and_limit, push_right, push_word};
@@ -27,7 +27,7 @@ fn push_left_columns(
     letter: &str,
 ) -> Result<(), AllocError>
     ensures { OnOk result (string_bytes text.new ≡ string_bytes text.old ++ join_with_byte 32
-        (left_in 18 (identifier_text roster.now id) ∷ left_in 16 name.now ∷ left_in 16 owner.now ∷ letter.now ∷ [])) }
+        (left_in 18 (text_of_identifier roster.now id) ∷ left_in 16 name.now ∷ left_in 16 owner.now ∷ letter.now ∷ [])) }
 {
     push_id_column(text, roster, id)?;
     push_word(text, name)?;
@@ -60,7 +60,7 @@ pub(crate) fn push_short_line(
 ) -> Result<(), AllocError>
     requires submitted { IsTrue (is_submitted (job_reads job.now)) }
     requires letter { letter_of (job_reads job.now) ≡ Some letter }
-    ensures { OnOk result (string_bytes text.new ≡ string_bytes text.old ++ line_of roster.now id (job_reads job.now)) }
+    ensures { OnOk result (string_bytes text.new ≡ string_bytes text.old ++ line_in_short roster.now id (job_reads job.now)) }
 {
     let (_, name) = job.name();
     let (_, owner) = job.owner();

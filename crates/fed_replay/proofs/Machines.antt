@@ -9,7 +9,7 @@ use Rattle.fed_easy.specs.Machine.{first_fault, running_in}
 use Rattle.fed_easy.specs.SitePlan.{site_plan}
 use Rattle.fed_model.specs.Limits.{IsWithinLimits}
 use Rattle.fed_easy.specs.RosterPlan.{machine_in}
-use Rattle.fed_qstat.specs.Planned.{plan_or_none, plan_text, planned}
+use Rattle.fed_qstat.specs.Planned.{plan_or_none, planned, text_of_plan}
 use Rattle.fed_qstat.specs.PlanText.{plan_lines}
 use Rattle.fed_replay.proofs.RunMachines.{machine_within}
 
@@ -22,8 +22,8 @@ whole_machine r roster v ops site lawful small same stands within =
     (machine_within ops within site (nodes_at roster site) (lawful.counted site ([], 0) small)))
 
 module _ (r roster : List (List ℕ × ℕ)) (v : View) (ops : History Body) (site moment : ℕ) (lawful : IsRoster roster) (small : site < length roster) (same : r ≡ roster) (stands : v ≡ view ops) (within : IsWithinLimits ops) where
-  planned_whole : plan_text r v site moment ≡ planned r v site moment
+  planned_whole : text_of_plan r v site moment ≡ planned r v site moment
   planned_whole = ap (λ (b : Bool). plan_or_none (option_map (plan_lines r) (if b then Some (site_plan v site moment (machine_in r v site)) else None))) (ap is_none (whole_machine r roster v ops site lawful small same stands within))
 
-  pub planned_at : (text : List ℕ) → text ≡ plan_text r v site moment → text ≡ planned roster (view ops) site moment
+  pub planned_at : (text : List ℕ) → text ≡ text_of_plan r v site moment → text ≡ planned roster (view ops) site moment
   planned_at text e = e ∙ planned_whole ∙ ap (λ l. planned l v site moment) same ∙ ap (λ u. planned roster u site moment) stands

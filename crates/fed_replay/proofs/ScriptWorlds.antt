@@ -14,7 +14,7 @@ use Rattle.fed_model.specs.Run.{World, run, step}
 use Rattle.fed_theory.proofs.Runs.{run-push}
 use Rattle.fed_replay.specs.ScriptWorld.{reads}
 use Rattle.fed_qstat.specs.Listed.{listed}
-use Rattle.fed_qstat.specs.Outcome.{answer_line, outcome_text}
+use Rattle.fed_qstat.specs.Outcome.{answer_line, text_of_outcome}
 use Rattle.fed_script.specs.Line.{Line}
 use Rattle.fed_script.specs.LineSites.{HasSites}
 use Rattle.fed_replay.specs.Script.{Answered, Script, State, after_commands, after_event, does, followed, later, says}
@@ -26,13 +26,13 @@ listed_at text full r s v w jobs e f g = e ∙ ap (λ l. listed full l v jobs) f
 abbrev script : List (List ℕ × ℕ) → List Event → Script
 script roster events = reads (record { roster = roster; events = events })
 
-event_said : (roster : List (List ℕ × ℕ)) (events : List Event) (event : Event) (outcome : Outcome) (text : List ℕ) → outcome ≡ (step (length roster) (run (length roster) events) event).outcome → text ≡ answer_line (outcome_text roster outcome)
+event_said : (roster : List (List ℕ × ℕ)) (events : List Event) (event : Event) (outcome : Outcome) (text : List ℕ) → outcome ≡ (step (length roster) (run (length roster) events) event).outcome → text ≡ answer_line (text_of_outcome roster outcome)
     → after_event (script roster events) event ≡ says (script roster (events ++ event ∷ [])) text
 event_said roster events event outcome text e f =
-    ap₂ (λ (w : World) t. let s : Script = record { roster = roster; world = w } in says s t) (sym (run-push (length roster) events event)) (sym (f ∙ ap (λ o. answer_line (outcome_text roster o)) e))
+    ap₂ (λ (w : World) t. let s : Script = record { roster = roster; world = w } in says s t) (sym (run-push (length roster) events event)) (sym (f ∙ ap (λ o. answer_line (text_of_outcome roster o)) e))
 
 pub happened : {T E F : Type 0} (answer : Result T E) (outcome : Result Outcome F) (bytes : T → List ℕ) (roster : List (List ℕ × ℕ)) (old new : WorldValue) (event : Event) → old.sites ≡ length roster
-    → IfOk answer (λ t. MatchResult outcome (λ o. bytes t ≡ answer_line (outcome_text roster o)) (λ _. ⊥)) → IfOk outcome (λ o. o ≡ (step old.sites (run old.sites old.events) event).outcome)
+    → IfOk answer (λ t. MatchResult outcome (λ o. bytes t ≡ answer_line (text_of_outcome roster o)) (λ _. ⊥)) → IfOk outcome (λ o. o ≡ (step old.sites (run old.sites old.events) event).outcome)
     → OnOk outcome (new ≡ record { sites = old.sites; events = old.events ++ event ∷ [] }) → IfOk answer (λ t. after_event (script roster old.events) event ≡ says (script roster new.events) (bytes t))
 happened (Err x) outcome bytes roster old new event n a o w = tt
 happened (Ok t) (Err x) bytes roster old new event n a o w = absurd a

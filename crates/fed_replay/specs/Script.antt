@@ -9,7 +9,7 @@ use Rattle.fed_model.specs.declared.events.Event.{Event}
 use Rattle.fed_model.specs.declared.events.Event.TheVariants.{Do, Ship, Take}
 use Rattle.fed_model.specs.Run.{World, run, start, step}
 use Rattle.fed_script.specs.Line.{Line, skips, begins, acts, lists, misuses, ships, takes, plans, compares, first_line_in, later_line_in}
-use Rattle.fed_qstat.specs.Outcome.{answer_line, outcome_text, usage_line}
+use Rattle.fed_qstat.specs.Outcome.{answer_line, line_of_usage, text_of_outcome}
 use Rattle.fed_qstat.specs.Listed.{listed}
 use Rattle.fed_qstat.specs.Planned.{planned}
 
@@ -46,7 +46,7 @@ view_at s site = view (s.world.site site).set
 abbrev pub after_event : Script → Event → Answered Script
 after_event s event = says
     (with_world s (step (length s.roster) s.world event).after)
-    (answer_line (outcome_text s.roster (step (length s.roster) s.world event).outcome))
+    (answer_line (text_of_outcome s.roster (step (length s.roster) s.world event).outcome))
 
 -- commands, one after another
 abbrev pub after_commands : Script → ℕ → Who → List Command → Answered Script
@@ -69,7 +69,7 @@ later s skips = says s []
 later s (begins roster) = says s []
 later s (acts site who commands) = after_commands s site who commands
 later s (lists site full jobs) = says s (listed full s.roster (view_at s site) jobs)
-later s (misuses site fault) = says s (usage_line fault)
+later s (misuses site fault) = says s (line_of_usage fault)
 later s (ships site to) = after_event s (Ship site to)
 later s (takes site packet) = after_event s (Take site packet)
 later s (plans site moment) = says s (planned s.roster (view_at s site) site moment)

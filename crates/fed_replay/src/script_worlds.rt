@@ -8,7 +8,7 @@ ghost use Rattle.fed_model.specs.declared.events.Event.TheVariants.{Do};
 ghost use Rattle.fed_script.specs.LineSites.{HasSites};
 ghost use Rattle.fed_script.specs.LineView.{said_by};
 ghost use Rattle.fed_replay.specs.ScriptWorld.{reads};
-ghost use Rattle.fed_qstat.specs.Outcome.{answer_line, outcome_text};
+ghost use Rattle.fed_qstat.specs.Outcome.{answer_line, text_of_outcome};
 ghost use Rattle.fed_qstat.specs.Listed.{listed};
 ghost use Rattle.fed_qstat.specs.Planned.{planned};
 ghost use Rattle.fed_replay.specs.Script.{after_commands, after_event, answered, compared, does, later, says, view_at};
@@ -79,7 +79,7 @@ impl ScriptWorld {
         outcome: Result<Outcome, NoMemory>,
     ) -> Result<AnswerText, NoMemory>
         ensures { IfOk result (λ text. MatchResult outcome
-            (λ o. cow_str_bytes text ≡ answer_line (outcome_text self.now.roster o)) (λ _. ⊥)) }
+            (λ o. cow_str_bytes text ≡ answer_line (text_of_outcome self.now.roster o)) (λ _. ⊥)) }
     {
         match outcome {
             Ok(outcome) => Ok(outcome_line(alloc, self.roster(), outcome)?),

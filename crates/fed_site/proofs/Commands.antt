@@ -19,7 +19,7 @@ use Rattle.fed_model.specs.Outcome.{outcome_of_answer}
 use Rattle.fed_replica.specs.Outcome.{said_by}
 use Rattle.fed_replica.specs.Replica.{ReplicaValue}
 use Rattle.fed_replica.specs.State.{State, state_of}
-use Rattle.fed_qstat.specs.Outcome.{answer_line, outcome_text, reply_text}
+use Rattle.fed_qstat.specs.Outcome.{answer_line, text_of_outcome, text_of_reply}
 use Rattle.fed_site.specs.Acts.{DoneAs, line_for, next_line, stamp_line}
 use Rattle.fed_site.specs.declared.complaints.Complaint.{Complaint}
 use Rattle.fed_site.specs.Says.{Done, after_command, after_commands, followed, refused_at}
@@ -46,7 +46,7 @@ module _ (v : View) (here : ℕ) (who : Who) (command : Command) (P : Answer →
   answer_cases = asked (first_of (refusals v here who command))
 
 -- ---- the line of a reply
-plain_reply : (roster : List (List ℕ × ℕ)) (ready : List ℕ) (command : Command) → line_for ready (reply_without command) ≡ answer_line (reply_text roster (reply_without command))
+plain_reply : (roster : List (List ℕ × ℕ)) (ready : List ℕ) (command : Command) → line_for ready (reply_without command) ≡ answer_line (text_of_reply roster (reply_without command))
 plain_reply roster ready (Command.Submit values held) = refl
 plain_reply roster ready (Command.Alter job changes) = refl
 plain_reply roster ready (Command.Hold job kinds) = refl
@@ -60,7 +60,7 @@ plain_reply roster ready (Command.Reserve window) = refl
 plain_reply roster ready (Command.Cancel id) = refl
 
 stamped_reply : (roster : List (List ℕ × ℕ)) (version : List ℕ) (here : ℕ) (t : StampValue) (command : Command) → next_stamp version here ≡ Ok t
-    → line_for (next_line roster version here command) (reply_with t command) ≡ answer_line (reply_text roster (reply_with t command))
+    → line_for (next_line roster version here command) (reply_with t command) ≡ answer_line (text_of_reply roster (reply_with t command))
 stamped_reply roster version here t (Command.Submit values held) e = ap (stamp_line roster) e
 stamped_reply roster version here t (Command.Alter job changes) e = refl
 stamped_reply roster version here t (Command.Hold job kinds) e = refl
@@ -78,7 +78,7 @@ module _ (roster : List (List ℕ × ℕ)) (v : View) (here : ℕ) (who : Who) (
   -- where it replies, the line at hand is that of the reply, and there is no complaint
   abbrev Replied : Reply → Answer → Type 0
   Replied reply a = Ok reply ≡ said_by a
-      → (line_for (next_line roster v.version here command) reply ≡ answer_line (outcome_text roster (outcome_of_answer a))) × (None ≡ refused_at index a)
+      → (line_for (next_line roster v.version here command) reply ≡ answer_line (text_of_outcome roster (outcome_of_answer a))) × (None ≡ refused_at index a)
 
   abbrev did : Reply → Result Reply Refusal
   did reply = Ok reply

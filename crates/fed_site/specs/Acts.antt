@@ -7,7 +7,7 @@ use Rattle.fed_model.specs.declared.commands.Command.{Command}
 use Rattle.fed_model.specs.declared.replies.Reply.{Reply}
 use Rattle.fed_model.specs.declared.replies.Reply.TheVariants.{Submitted, Done as IsDone, Granted, Yours, Reserved}
 use Rattle.fed_replica.specs.Replica.{ReplicaValue}
-use Rattle.fed_qstat.specs.Identifier.{identifier_text}
+use Rattle.fed_qstat.specs.Identifier.{text_of_identifier}
 use Rattle.fed_qstat.specs.Outcome.{answer_line}
 use Rattle.fed_replica.specs.State.{state_of}
 use Rattle.fed_site.specs.declared.complaints.Complaint.{Complaint}
@@ -21,7 +21,7 @@ pub record DoneAs (new : ReplicaValue) (text : List ℕ) (kept : Bool) (complain
   pub complains : complaint ≡ d.complaint
 
 abbrev pub stamp_line : List (List ℕ × ℕ) → Result StampValue ClockFull → List ℕ
-stamp_line roster (Ok stamp) = answer_line (identifier_text roster stamp)
+stamp_line roster (Ok stamp) = answer_line (text_of_identifier roster stamp)
 stamp_line roster (Err full) = []
 
 -- the line of the identifier that the command would make at a version

@@ -11,12 +11,12 @@ use Rattle.fed_replica.specs.State.{State, after_answer, after_packet_unless, la
 use Rattle.fed_model.specs.Outcome.{outcome_of_answer}
 use Rattle.fed_replica.specs.Outcome.{adds, outcome_of_packet_unless}
 use Rattle.fed_script.specs.Line.{Line, skips, acts, lists, misuses, ships, plans, own_line_in}
-use Rattle.fed_qstat.specs.Outcome.{answer_line, outcome_text, usage_line}
+use Rattle.fed_qstat.specs.Outcome.{answer_line, line_of_usage, text_of_outcome}
 use Rattle.fed_qstat.specs.Planned.{plan_if_any, plan_or_none}
 use Rattle.fed_qstat.specs.Listed.{listed}
 use Rattle.fed_looks.specs.Look.{Look}
 use Rattle.fed_looks.specs.LookLine.{look_in_line}
-use Rattle.fed_looks.specs.LookText.{look_text}
+use Rattle.fed_looks.specs.LookText.{text_of_look}
 use Rattle.fed_site.specs.declared.complaints.Complaint.{Complaint}
 use Rattle.fed_site.specs.Line.{packet_text}
 use Rattle.fed_site.specs.Packets.{is_foreign, is_forgotten, unread_text, IsPacketText}
@@ -82,7 +82,7 @@ module _ (roster : List (List ℕ × ℕ)) where
   abbrev pub does : State → ℕ → Answer → Done
   does s index answer = record {
     after = after_answer s answer;
-    text = answer_line (outcome_text roster (outcome_of_answer answer));
+    text = answer_line (text_of_outcome roster (outcome_of_answer answer));
     kept = adds answer;
     complaint = refused_at index answer;
   }
@@ -101,7 +101,7 @@ module _ (roster : List (List ℕ × ℕ)) where
   abbrev pub after_receipt : State → PacketValue → Done
   after_receipt s p = record {
     after = after_packet_unless (lacking s p) s p;
-    text = answer_line (outcome_text roster (outcome_of_packet_unless (lacking s p) s p));
+    text = answer_line (text_of_outcome roster (outcome_of_packet_unless (lacking s p) s p));
     kept = is_none (lacking s p);
     complaint = option_map Complaint.Gap (lacking s p);
   }
@@ -124,7 +124,7 @@ module _ (roster : List (List ℕ × ℕ)) where
   after_line s skips = said_of (only s [])
   after_line s (acts site who commands) = said_of (after_commands s who 0 commands)
   after_line s (lists site full jobs) = said_of (only s (listed full roster s.view jobs))
-  after_line s (misuses site fault) = said_of (undone s (usage_line fault) (Complaint.Misused fault))
+  after_line s (misuses site fault) = said_of (undone s (line_of_usage fault) (Complaint.Misused fault))
   after_line s (ships site to) = record { after = s; reply = PacketFor to; kept = false; complaint = None }
   after_line s (plans site moment) = said_of (after_plan s (plan_if_any roster s.view s.site moment))
   after_line s line = unreadable s
@@ -136,7 +136,7 @@ module _ (roster : List (List ℕ × ℕ)) where
   -- a line that asks for a look is answered by it, and one that asks for none says what it says behind the site's name
   abbrev pub after_look : State → List ℕ → Option Look → Said
   after_look s line None = after_told s (own_line_in roster s.site line)
-  after_look s line (Some look) = said_of (only s (look_text roster s look))
+  after_look s line (Some look) = said_of (only s (text_of_look roster s look))
 
   abbrev pub after_text : State → List ℕ → Option (List ℕ) → Said
   after_text s line None = after_look s line (look_in_line roster s.site line)

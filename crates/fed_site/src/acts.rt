@@ -3,7 +3,7 @@ ghost use Rattle.std.specs.Prelude.{◌≡◌, ◌||◌, false, Some, None, IfOk
 ghost use Rattle.std.specs.Cow.{cow_str_bytes};
 ghost use Rattle.fed_board.specs.Board.{board_reads};
 ghost use Rattle.fed_model.specs.declared.outcomes.Outcome.{Outcome};
-ghost use Rattle.fed_qstat.specs.Outcome.{answer_line, outcome_text};
+ghost use Rattle.fed_qstat.specs.Outcome.{answer_line, text_of_outcome};
 ghost use Rattle.fed_site.specs.declared.complaints.Complaint.{Complaint};
 ghost use Rattle.fed_site.specs.Acts.{DoneAs, line_for, next_line};
 ghost use Rattle.fed_replica.specs.State.{state_of};
@@ -85,7 +85,8 @@ fn refused(
     index: usize,
     refusal: &Refusal,
 ) -> Result<Done, AllocError>
-    ensures text { IfOk result (λ d. cow_str_bytes d.text ≡ answer_line (outcome_text roster.now (Outcome.Refused refusal.now))) }
+    ensures text { IfOk result (λ d. cow_str_bytes d.text ≡
+        answer_line (text_of_outcome roster.now (Outcome.Refused refusal.now))) }
     ensures kept { IfOk result (λ d. d.kept ≡ false) }
     ensures complaint { IfOk result (λ d. d.complaint ≡ Some (Complaint.Refused index refusal.now)) }
 {

@@ -15,7 +15,7 @@ use Rattle.fed_model.specs.declared.outcomes.Outcome.{Outcome}
 use Rattle.fed_model.specs.Run.{World, Step, does, step, run_from, outcomes_from, with_operation}
 use Rattle.fed_theory.proofs.RunSteps.{do_here, does_others}
 use Rattle.fed_theory.proofs.Runs.{put_same}
-use Rattle.fed_qstat.specs.Outcome.{answer_line, outcome_text}
+use Rattle.fed_qstat.specs.Outcome.{answer_line, text_of_outcome}
 use Rattle.fed_site.specs.Says.{Done, after_command, after_commands, does as does_at}
 use Rattle.fed_turns.specs.Run.{outcome_lines, state_at}
 use Rattle.fed_turns.proofs.Reached.{Reached, lawful, step_reached}
@@ -32,7 +32,7 @@ pub record IsStepped (roster : List (List ℕ × ℕ)) (i : ℕ) (w : World) (s 
   pub after : done.after ≡ state_at i (s.after.site i)
   pub others : (j : ℕ) → j ≢ i → s.after.site j ≡ w.site j
   pub packets : s.after.packets ≡ w.packets
-  pub text : done.text ≡ answer_line (outcome_text roster s.outcome)
+  pub text : done.text ≡ answer_line (text_of_outcome roster s.outcome)
 
 module _ (n : ℕ) (few : n ≤ 16) (roster : List (List ℕ × ℕ)) (i : ℕ) (small : i < n) (who : Who) where
   does_stepped : (w : World) → Reached n w → (index : ℕ) (command : Command) (a : Answer) → answer (w.site i).set i who command ≡ a → IsStepped roster i w (does w i a) (does_at roster (state_at i (w.site i)) index a)
@@ -65,5 +65,5 @@ module _ (n : ℕ) (few : n ≤ 16) (roster : List (List ℕ × ℕ)) (i : ℕ) 
         after = ap (λ t. (after_commands roster t who (index + 1) commands).after) one.after ∙ rest.after;
         others = λ j apart. rest.others j apart ∙ one.others j apart;
         packets = rest.packets ∙ one.packets;
-        text = (λ k. one.text k ++ (after_commands roster (one.after k) who (index + 1) commands).text) ∙ ap (λ l. answer_line (outcome_text roster s.outcome) ++ l) rest.text;
+        text = (λ k. one.text k ++ (after_commands roster (one.after k) who (index + 1) commands).text) ∙ ap (λ l. answer_line (text_of_outcome roster s.outcome) ++ l) rest.text;
       }

@@ -11,7 +11,7 @@ use Rattle.fed_model.specs.declared.replies.Reply.{Reply}
 use Rattle.fed_model.specs.Run.{World, run, outcomes_from, start, step}
 use Rattle.fed_theory.proofs.Begins.{done_once}
 use Rattle.fed_script.specs.Line.{acts}
-use Rattle.fed_qstat.specs.Outcome.{answer_line, outcome_text}
+use Rattle.fed_qstat.specs.Outcome.{answer_line, text_of_outcome}
 use Rattle.fed_turns.specs.Crash.{Happening, answered, turns_from}
 use Rattle.fed_turns.specs.Home.{course_of}
 use Rattle.fed_turns.specs.Own.{AsksToBegin}
@@ -27,13 +27,13 @@ use Rattle.fed_turns.proofs.Turns.{turn_played, turns_played}
 first_byte : (x y : ℕ) (xs ys : List ℕ) → x ∷ xs ≡ y ∷ ys → x ≡ y
 first_byte x y xs ys e = ap (λ l. slice_index l 0) e
 
-done_replies : (roster : List (List ℕ × ℕ)) (o : Outcome) → outcome_text roster o ≡ codes "done" → (reply : Reply) × (o ≡ Outcome.Replied reply)
+done_replies : (roster : List (List ℕ × ℕ)) (o : Outcome) → text_of_outcome roster o ≡ codes "done" → (reply : Reply) × (o ≡ Outcome.Replied reply)
 done_replies roster (Outcome.Replied reply) e = (reply, refl)
 done_replies roster (Outcome.Refused refusal) e = let b : 114 ≡ 100 = first_byte _ _ _ _ e in absurd (omega (arith, b))
 done_replies roster (Outcome.Packet k) e = let b : 112 ≡ 100 = first_byte _ _ _ _ e in absurd (omega (arith, b))
 done_replies roster (Outcome.Taken taken) e = grew taken.grew e
   where
-    grew : (b : Bool) → outcome_text roster (Outcome.Taken (record { grew = b })) ≡ codes "done" → (reply : Reply) × (Outcome.Taken taken ≡ Outcome.Replied reply)
+    grew : (b : Bool) → text_of_outcome roster (Outcome.Taken (record { grew = b })) ≡ codes "done" → (reply : Reply) × (Outcome.Taken taken ≡ Outcome.Replied reply)
     grew true f = let b : 116 ≡ 100 = first_byte _ _ _ _ f in absurd (omega (arith, b))
     grew false f = let b : 107 ≡ 100 = first_byte _ _ _ _ f in absurd (omega (arith, b))
 done_replies roster (Outcome.Gap site) e = let b : 103 ≡ 100 = first_byte _ _ _ _ e in absurd (omega (arith, b))
@@ -76,9 +76,9 @@ module _ (whole : List (List ℕ × ℕ)) (few : length whole ≤ 16) where
   done_at c w t job asks stands r may e =
       let roster = c.roster t.site in
       let o : Outcome = (step n w (begin roster t job asks)).outcome in
-      let told : t.answer ≡ answer_line (outcome_text roster o) ++ [] =
+      let told : t.answer ≡ answer_line (text_of_outcome roster o) ++ [] =
       subst (λ (d : Deed). IsDeedAnswer roster w t.site d (outcomes_from n w (events_done d)) t.answer) (deed_is c t job asks) (turn_played whole few c w t stands r may).answered in
-      done_replies roster o (append_cancel_right (outcome_text roster o) (codes "done") (10 ∷ []) (sym (append-nil (answer_line (outcome_text roster o))) ∙ sym told ∙ e))
+      done_replies roster o (append_cancel_right (text_of_outcome roster o) (codes "done") (10 ∷ []) (sym (append-nil (answer_line (text_of_outcome roster o))) ∙ sym told ∙ e))
 
   module _ (rosters : ℕ → List (List ℕ × ℕ)) where
     -- after turns that may be, where the next may be too

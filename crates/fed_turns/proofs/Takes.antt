@@ -30,7 +30,7 @@ use Rattle.fed_model.specs.Run.{World, receives, takes}
 use Rattle.fed_theory.proofs.Cuts.{cuts_kin}
 use Rattle.fed_theory.proofs.Runs.{IsSent, put_same}
 use Rattle.fed_theory.proofs.RunSteps.{receives_others}
-use Rattle.fed_qstat.specs.Outcome.{answer_line, outcome_text}
+use Rattle.fed_qstat.specs.Outcome.{answer_line, text_of_outcome}
 use Rattle.fed_site.specs.Packets.{is_foreign, is_forgotten}
 use Rattle.fed_site.specs.Says.{Done, after_reading, after_receipt}
 use Rattle.fed_site.specs.declared.complaints.Complaint.{Complaint}
@@ -126,7 +126,7 @@ module _ (n : ℕ) (few : n ≤ 16) (w : World) (r : Reached n w) (i : ℕ)
     abbrev receipt : Option ℕ → Done
     receipt lacks = record {
       after = after_packet_unless lacks here c;
-      text = answer_line (outcome_text roster (outcome_of_packet_unless lacks here c));
+      text = answer_line (text_of_outcome roster (outcome_of_packet_unless lacks here c));
       kept = is_none lacks;
       complaint = option_map Complaint.Gap lacks;
     }
@@ -146,7 +146,7 @@ module _ (n : ℕ) (few : n ≤ 16) (w : World) (r : Reached n w) (i : ℕ)
               ∙ ap (state_at i) (sym (put_same w.site i (taken (w.site i) p)));
           others = receives_others w i p None;
           packets = refl;
-          text = ap (λ (v : List ℕ). answer_line (outcome_text roster (Outcome.Taken (record { grew = not (is_below v (version_of (w.site i).set)) })))) seen;
+          text = ap (λ (v : List ℕ). answer_line (text_of_outcome roster (Outcome.Taken (record { grew = not (is_below v (version_of (w.site i).set)) })))) seen;
         }
 
     -- the text is taken as the packet

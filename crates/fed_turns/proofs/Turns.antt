@@ -22,11 +22,11 @@ use Rattle.fed_model.specs.Run.{World, Step, run_from, outcomes_from, ships as s
 use Rattle.fed_theory.proofs.RunSteps.{put_other, ship_here, take_here}
 use Rattle.fed_theory.proofs.Runs.{packet_Has, put_same, run-append}
 use Rattle.fed_qstat.specs.Listed.{listed}
-use Rattle.fed_qstat.specs.Outcome.{answer_line, outcome_text, usage_line}
+use Rattle.fed_qstat.specs.Outcome.{answer_line, line_of_usage, text_of_outcome}
 use Rattle.fed_qstat.specs.Planned.{plan_if_any, plan_or_none}
 use Rattle.fed_looks.specs.Look.{Look}
 use Rattle.fed_looks.specs.LookLine.{look_in_line}
-use Rattle.fed_looks.specs.LookText.{look_text}
+use Rattle.fed_looks.specs.LookText.{text_of_look}
 use Rattle.fed_site.specs.Journal.{kept_line}
 use Rattle.fed_site.specs.Line.{packet_text}
 use Rattle.fed_site.specs.Packets.{is_foreign, is_forgotten}
@@ -96,7 +96,7 @@ module _ (n : ℕ) (few : n ≤ 16) (roster next : List (List ℕ × ℕ)) (part
   list_played full jobs e = record { answered = e; stands = quiet (listed full roster here.view jobs); ranged = All-nil IsRangedEvent }
 
   misuse_played : (fault : UsageFault) → Plays (misuses t.site fault)
-  misuse_played fault e = record { answered = e; stands = quiet (usage_line fault); ranged = All-nil IsRangedEvent }
+  misuse_played fault e = record { answered = e; stands = quiet (line_of_usage fault); ranged = All-nil IsRangedEvent }
 
   plan_said : (plan : Option (List ℕ)) → IsReply here (said_of (after_plan here plan)).reply t.answer
       → (t.answer ≡ plan_or_none plan) × StandsFor (after_said c t.site next (said_of (after_plan here plan)) t.answer) w
@@ -148,7 +148,7 @@ module _ (n : ℕ) (few : n ≤ 16) (roster next : List (List ℕ × ℕ)) (part
       let one = subst (λ (s : Step). IsStepped roster t.site w s (after_reading roster here (packet_in text))) (sym does) read in
       let s : Step = step n w (Take t.site (suc k)) in
       record {
-        answered = e ∙ one.text ∙ sym (append-nil (answer_line (outcome_text roster s.outcome)));
+        answered = e ∙ one.text ∙ sym (append-nil (answer_line (text_of_outcome roster s.outcome)));
         stands = record {
           sites = settled c w s.after t.site (after_reading roster here (packet_in text)).after stands one.after one.others;
           shipped = unshipped c w s.after stands one.packets;
@@ -199,7 +199,7 @@ module _ (n : ℕ) (few : n ≤ 16) (roster next : List (List ℕ × ℕ)) (part
   -- a look, or none
   look_played : (o : Option Look) → IsReply here (after_look roster here t.line o).reply t.answer → IsPlayed n roster next c w t (after_look roster here t.line o) (looked roster t o)
   look_played None reply = line_played (own_line_in roster t.site t.line) refl reply
-  look_played (Some look) reply = record { answered = reply; stands = quiet (look_text roster here look); ranged = All-nil IsRangedEvent }
+  look_played (Some look) reply = record { answered = reply; stands = quiet (text_of_look roster here look); ranged = All-nil IsRangedEvent }
 
   text_played : (o : Option (List ℕ)) → ((after_text roster here t.line o).kept ≡ true → IfSome o (WasShipped c.shipped)) → IsReply here (after_text roster here t.line o).reply t.answer
       → IsPlayed n roster next c w t (after_text roster here t.line o) (numbered roster c t o)

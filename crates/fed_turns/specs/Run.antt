@@ -14,11 +14,11 @@ use Rattle.fed_model.specs.declared.outcomes.Outcome.{Outcome}
 use Rattle.fed_world.specs.Kept.{IsTextOf}
 use Rattle.fed_model.specs.Run.{World, run_from, outcomes_from}
 use Rattle.fed_qstat.specs.Listed.{listed}
-use Rattle.fed_qstat.specs.Outcome.{answer_line, outcome_text, usage_line}
-use Rattle.fed_qstat.specs.Planned.{plan_text}
+use Rattle.fed_qstat.specs.Outcome.{answer_line, line_of_usage, text_of_outcome}
+use Rattle.fed_qstat.specs.Planned.{text_of_plan}
 use Rattle.fed_looks.specs.Look.{Look}
 use Rattle.fed_looks.specs.LookLine.{look_in_line}
-use Rattle.fed_looks.specs.LookText.{look_text}
+use Rattle.fed_looks.specs.LookText.{text_of_look}
 use Rattle.fed_site.specs.Line.{packet_text}
 use Rattle.fed_site.specs.Packets.{is_foreign}
 use Rattle.fed_site.specs.Rosters.{next_roster, told_in}
@@ -131,7 +131,7 @@ pub record StandsFor (c : Course) (w : World) : Type 0 where
 -- the texts of outcomes, a line each
 abbrev pub outcome_lines : List (List ℕ × ℕ) → List Outcome → List ℕ
 outcome_lines roster [] = []
-outcome_lines roster (outcome ∷ outcomes) = answer_line (outcome_text roster outcome) ++ outcome_lines roster outcomes
+outcome_lines roster (outcome ∷ outcomes) = answer_line (text_of_outcome roster outcome) ++ outcome_lines roster outcomes
 
 -- the bytes answer a line in a world, where its events have these outcomes
 abbrev pub IsAnswer : List (List ℕ × ℕ) → World → Line → List Outcome → List ℕ → Type 0
@@ -140,8 +140,8 @@ IsAnswer roster w (takes site number) outcomes bytes = bytes ≡ outcome_lines r
 IsAnswer roster w (ships site to) outcomes bytes =
     (outcomes ≡ Outcome.Packet (length w.packets + 1) ∷ []) × IsShipment (shipped site (w.site site) to) bytes
 IsAnswer roster w (lists site full jobs) outcomes bytes = bytes ≡ listed full roster (view (w.site site).set) jobs
-IsAnswer roster w (plans site moment) outcomes bytes = bytes ≡ plan_text roster (view (w.site site).set) site moment
-IsAnswer roster w (misuses site fault) outcomes bytes = bytes ≡ usage_line fault
+IsAnswer roster w (plans site moment) outcomes bytes = bytes ≡ text_of_plan roster (view (w.site site).set) site moment
+IsAnswer roster w (misuses site fault) outcomes bytes = bytes ≡ line_of_usage fault
 IsAnswer roster w skips outcomes bytes = bytes ≡ []
 IsAnswer roster w _ outcomes bytes = bytes ≡ answer_line (codes "cannot be read")
 
@@ -151,7 +151,7 @@ IsToldAnswer roster w (Some line) outcomes bytes = IsAnswer roster w line outcom
 
 -- a look at a site, a text that it declines and a roster that it is told are answered by what the site holds in the world
 abbrev pub IsDeedAnswer : List (List ℕ × ℕ) → World → ℕ → Deed → List Outcome → List ℕ → Type 0
-IsDeedAnswer roster w site (looks look) outcomes bytes = bytes ≡ look_text roster (state_at site (w.site site)) look
+IsDeedAnswer roster w site (looks look) outcomes bytes = bytes ≡ text_of_look roster (state_at site (w.site site)) look
 IsDeedAnswer roster w site (does line) outcomes bytes = IsToldAnswer roster w line outcomes bytes
 IsDeedAnswer roster w site (declines text) outcomes bytes =
     bytes ≡ (after_reading roster (state_at site (w.site site)) (packet_in text)).text

@@ -1,8 +1,8 @@
 use Rattle.std.proofs.Common.{append_assoc}
 use Rattle.std.proofs.lemmas.Result.{IfOk-weaker}
-use Rattle.fed_machine.specs.Chart.{tick_text}
+use Rattle.fed_machine.specs.Chart.{text_of_tick}
 use Rattle.fed_machine.proofs.chart.tick_text.Goals as goal
 
 pub returns : goal.returns
-unfolding tick_text
+unfolding text_of_tick
 returns c = IfOk-weaker c.format.result _ _ (λ s e. rw e (rw (c.in_ok-line.ensures) (simp append_assoc))) c.format.ensures.ok

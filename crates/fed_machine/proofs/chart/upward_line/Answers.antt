@@ -1,8 +1,8 @@
 use Rattle.std.proofs.Common.{append_assoc}
 use Rattle.std.proofs.lemmas.Result.{IfOk-weaker}
-use Rattle.fed_machine.specs.Chart.{upward_line}
+use Rattle.fed_machine.specs.Chart.{upward_line_at}
 use Rattle.fed_machine.proofs.chart.upward_line.Goals as goal
 
 pub returns : goal.returns
-unfolding upward_line
+unfolding upward_line_at
 returns c = IfOk-weaker c.format.result _ _ (λ s e. rw e (simp append_assoc)) c.format.ensures.ok

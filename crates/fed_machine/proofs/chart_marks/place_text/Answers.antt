@@ -1,8 +1,8 @@
 use Rattle.std.proofs.Common.{append_assoc}
 use Rattle.std.proofs.lemmas.Result.{IfOk-weaker}
-use Rattle.fed_machine.specs.ChartMarks.{place_text}
+use Rattle.fed_machine.specs.ChartMarks.{text_of_place}
 use Rattle.fed_machine.proofs.chart_marks.place_text.Goals as goal
 
 pub returns : goal.returns
-unfolding place_text
+unfolding text_of_place
 returns c = IfOk-weaker c.format.result _ _ (λ s e. rw e (rw (c.label_size-size.ensures) (simp append_assoc))) c.format.ensures.ok

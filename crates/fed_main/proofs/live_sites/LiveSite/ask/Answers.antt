@@ -1,6 +1,6 @@
 use Rattle.std.proofs.Common.{ap, refl, ◌∙◌}
 use Rattle.fed_model.specs.Outcome.{outcome_of}
-use Rattle.fed_qstat.specs.Outcome.{answer_line, outcome_text}
+use Rattle.fed_qstat.specs.Outcome.{answer_line, text_of_outcome}
 use Rattle.fed_main.specs.Thread.{Does}
 use Rattle.fed_main.proofs.Threads.{Answers-one}
 use Rattle.fed_main.proofs.live_sites.LiveSite.ask.Goals as goal
@@ -12,6 +12,6 @@ returns g c =
     (record {
       outcome = outcome_of c.in_ok-said.said;
       claim = c.in_ok-said.ensures.ok;
-      told = c.as_str.ensures.value ∙ c.in_ok-answer.ensures ∙ ap (λ o. answer_line (outcome_text roster o)) c.from.ensures;
+      told = c.as_str.ensures.value ∙ c.in_ok-answer.ensures ∙ ap (λ o. answer_line (text_of_outcome roster o)) c.from.ensures;
     })
     refl c.in_ok-add.ensures
