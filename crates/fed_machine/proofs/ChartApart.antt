@@ -16,8 +16,8 @@ use Rattle.fed_machine.specs.declared.chart_bars.Kind.TheVariants.{Head}
 use Rattle.fed_machine.specs.declared.chart_bars.StandingJob.{StandingJob}
 use Rattle.fed_machine.specs.declared.machines.Reserved.{Reserved}
 use Rattle.fed_machine.specs.Chart.{chart_bars, plan_or_empty}
-use Rattle.fed_machine.specs.ChartBars.{LiesBelow, bar_of, bars_in, last_top_in, level_above, meets_bar, raised, said, standing_in, top_if, top_of, with_bar, with_head, with_job, with_kept, with_standing}
-use Rattle.fed_machine.specs.Machine.{kept_in}
+use Rattle.fed_machine.specs.ChartBars.{LiesBelow, bar_of, bars_in, last_top_in, level_above, meets_bar, raised, said, standing_in, top_if, top_of, with_bar, with_head, with_job, with_reserved, with_standing}
+use Rattle.fed_machine.specs.Machine.{reserved_in}
 use Rattle.fed_easy.specs.RosterPlan.{plan_in}
 
 -- ---- levels
@@ -99,9 +99,9 @@ head_apart : (v : View) (moment : ℕ) (head : Option (StampValue × ℕ)) (bars
 head_apart v moment None bars apart = apart
 head_apart v moment (Some head) bars apart = job_apart (v.job head.0) head.0 (head.1 - moment) bars apart
 
-all_kept_apart : (moment : ℕ) (ks : List Reserved) (bars : List Bar) → AllPairs LiesBelow bars → AllPairs LiesBelow (fold (with_kept moment) bars ks)
-all_kept_apart moment [] bars apart = apart
-all_kept_apart moment (k ∷ ks) bars apart = all_kept_apart moment ks (with_kept moment bars k) (apart_more bars _ refl apart)
+all_reserved_apart : (moment : ℕ) (ks : List Reserved) (bars : List Bar) → AllPairs LiesBelow bars → AllPairs LiesBelow (fold (with_reserved moment) bars ks)
+all_reserved_apart moment [] bars apart = apart
+all_reserved_apart moment (k ∷ ks) bars apart = all_reserved_apart moment ks (with_reserved moment bars k) (apart_more bars _ refl apart)
 
 none_apart : AllPairs LiesBelow []
 none_apart i j d before within = absurd (omega (arith, within))
@@ -112,7 +112,7 @@ none_stack = record { apart = none_apart; highest = All-nil (λ b. top_of b ≤ 
 bars_apart : (v : View) (here moment : ℕ) (plan : PlanValue) → AllPairs LiesBelow (bars_in v here moment plan)
 bars_apart v here moment plan =
     let stack : IsStack (fold with_standing [] (standing_in v here moment plan.starts)) = stacks (standing_in v here moment plan.starts) [] none_stack in
-    all_kept_apart moment (kept_in here moment v) _
+    all_reserved_apart moment (reserved_in here moment v) _
     (head_apart v moment plan.head (fold with_standing [] (standing_in v here moment plan.starts)) stack.apart)
 
 pub chart_apart : (roster : List (List ℕ × ℕ)) (v : View) (here moment : ℕ) → AllPairs LiesBelow (chart_bars roster v here moment)

@@ -12,13 +12,13 @@ use Rattle.fed_model.specs.Identifiers.{jobs_in, reservations_in}
 use Rattle.fed_easy.proofs.BoardEntries.{entry_found, ids_read}
 use Rattle.fed_machine.specs.declared.machines.Reserved.{Reserved}
 use Rattle.fed_machine.specs.declared.machines.RunningJob.{RunningJob}
-use Rattle.fed_machine.specs.Machine.{in_order, kept_cmp, kept_from, kept_in, run_cmp, run_from, runs_in}
+use Rattle.fed_machine.specs.Machine.{in_order, reserved_cmp, reserved_from, reserved_in, run_cmp, run_from, runs_in}
 
 abbrev pub runs_of_entries : ℕ → List (StampValue × JobRecordValue) → List RunningJob
 runs_of_entries here es = filter_map (λ e. run_from here e.0 (job_reads e.1)) es
 
-abbrev pub kept_of_entries : ℕ → ℕ → List (StampValue × ReservationView) → List Reserved
-kept_of_entries here moment es = filter_map (λ e. kept_from here moment e.0 e.1) es
+abbrev pub reserved_of_entries : ℕ → ℕ → List (StampValue × ReservationView) → List Reserved
+reserved_of_entries here moment es = filter_map (λ e. reserved_from here moment e.0 e.1) es
 
 pub runs_done : (here : ℕ) (b : BoardValue) → IsStrictlySortedBy stamp_cmp (keys_of b.jobs) → keys_of b.jobs ≡ jobs_in (board_reads b)
     → (sorted : List RunningJob) (rest : List (StampValue × JobRecordValue)) → in_order run_cmp sorted (runs_of_entries here rest) ≡ in_order run_cmp [] (runs_of_entries here b.jobs) → rest ≡ [] → sorted ≡ runs_in here (board_reads b)
@@ -28,10 +28,10 @@ runs_done here b ascending ids sorted rest under none =
     (λ e h. ap (λ (o : Option JobRecordValue). run_from here e.0 (job_reads (unwrap_or o no_operation))) (entry_found b.jobs e ascending h))))
     ∙ ap (λ l. in_order run_cmp [] (filter_map (λ job. run_from here job ((board_reads b).job job)) l)) ids
 
-pub kept_done : (here moment : ℕ) (b : BoardValue) → IsStrictlySortedBy stamp_cmp (keys_of b.reservations) → keys_of b.reservations ≡ reservations_in (board_reads b)
-    → (sorted : List Reserved) (rest : List (StampValue × ReservationView)) → in_order kept_cmp sorted (kept_of_entries here moment rest) ≡ in_order kept_cmp [] (kept_of_entries here moment b.reservations) → rest ≡ [] → sorted ≡ kept_in here moment (board_reads b)
-kept_done here moment b ascending ids sorted rest under none =
-    ap (λ l. in_order kept_cmp sorted (kept_of_entries here moment l)) (sym none) ∙ under
-    ∙ sym (ap (in_order kept_cmp []) (ids_read (λ id. kept_from here moment id ((board_reads b).reservation id)) (λ e. kept_from here moment e.0 e.1) b.reservations
-    (λ e h. ap (λ (o : Option ReservationView). kept_from here moment e.0 (unwrap_or o None)) (entry_found b.reservations e ascending h))))
-    ∙ ap (λ l. in_order kept_cmp [] (filter_map (λ id. kept_from here moment id ((board_reads b).reservation id)) l)) ids
+pub reserved_done : (here moment : ℕ) (b : BoardValue) → IsStrictlySortedBy stamp_cmp (keys_of b.reservations) → keys_of b.reservations ≡ reservations_in (board_reads b)
+    → (sorted : List Reserved) (rest : List (StampValue × ReservationView)) → in_order reserved_cmp sorted (reserved_of_entries here moment rest) ≡ in_order reserved_cmp [] (reserved_of_entries here moment b.reservations) → rest ≡ [] → sorted ≡ reserved_in here moment (board_reads b)
+reserved_done here moment b ascending ids sorted rest under none =
+    ap (λ l. in_order reserved_cmp sorted (reserved_of_entries here moment l)) (sym none) ∙ under
+    ∙ sym (ap (in_order reserved_cmp []) (ids_read (λ id. reserved_from here moment id ((board_reads b).reservation id)) (λ e. reserved_from here moment e.0 e.1) b.reservations
+    (λ e h. ap (λ (o : Option ReservationView). reserved_from here moment e.0 (unwrap_or o None)) (entry_found b.reservations e ascending h))))
+    ∙ ap (λ l. in_order reserved_cmp [] (filter_map (λ id. reserved_from here moment id ((board_reads b).reservation id)) l)) ids

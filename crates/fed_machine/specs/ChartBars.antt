@@ -16,7 +16,7 @@ use Rattle.fed_machine.specs.declared.chart_bars.Kind.TheVariants.{Running, Star
 use Rattle.fed_machine.specs.declared.chart_bars.StandingJob.{StandingJob}
 use Rattle.fed_machine.specs.declared.machines.Reserved.{Reserved}
 use Rattle.fed_machine.specs.declared.machines.RunningJob.{RunningJob}
-use Rattle.fed_machine.specs.Machine.{kept_in, runs_in}
+use Rattle.fed_machine.specs.Machine.{reserved_in, runs_in}
 
 -- ---- the jobs that have nodes from the moment on
 -- by end, then by stamp
@@ -114,16 +114,16 @@ with_head v moment None bars = bars
 with_head v moment (Some head) bars = with_job (v.job head.0) head.0 (head.1 - moment) bars
 
 -- a reservation, of which the seconds before the moment are left out
-abbrev pub with_kept : ℕ → List Bar → Reserved → List Bar
-with_kept moment bars k =
+abbrev pub with_reserved : ℕ → List Bar → Reserved → List Bar
+with_reserved moment bars k =
     with_bar Reservation k.id (k.start - moment) (max (k.end - max k.start moment) 1) k.nodes bars
 
 -- the jobs that run and those that start, of which those that end later lie below, then the head, then the reservations
 -- in the order of their starts
 abbrev pub bars_in : View → ℕ → ℕ → PlanValue → List Bar
-bars_in v here moment plan = fold (with_kept moment)
+bars_in v here moment plan = fold (with_reserved moment)
     (with_head v moment plan.head (fold with_standing [] (standing_in v here moment plan.starts)))
-    (kept_in here moment v)
+    (reserved_in here moment v)
 
 -- the first bar lies below the second one, where they share a second
 abbrev pub LiesBelow : Bar → Bar → Type 0

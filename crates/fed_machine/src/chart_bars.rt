@@ -3,10 +3,10 @@ ghost use Rattle.std.specs.Prelude.{◌≡◌, [], IfOk, OnOk};
 ghost use Rattle.std.specs.List.{fold};
 ghost use Rattle.fed_board.specs.Board.{board_reads};
 ghost use Rattle.fed_easy.specs.Plan.{plan_reads};
-ghost use Rattle.fed_machine.specs.ChartBars.{bar_of, bars_in, end_of, last_top_in, level_above, meets_bar, standing_in, standing_of_run, standing_of_start, top_of, with_bar, with_head, with_kept, with_run, with_standing, with_start};
+ghost use Rattle.fed_machine.specs.ChartBars.{bar_of, bars_in, end_of, last_top_in, level_above, meets_bar, standing_in, standing_of_run, standing_of_start, top_of, with_bar, with_head, with_reserved, with_run, with_standing, with_start};
 ghost use Rattle.fed_machine.specs.Machine.{runs_in};
 
-use crate::machines::{Reserved, RunningJob, kept_at, runs_at};
+use crate::machines::{Reserved, RunningJob, reserved_at, runs_at};
 use fed_board::Board;
 use fed_easy::Plan;
 use fed_lattice::NoMemory;
@@ -281,20 +281,32 @@ fn add_head(
 }
 
 /// Adds a reservation that isn't over at the moment, from there on.
-fn add_kept(bars: &mut Vec<Bar>, moment: u64, kept: Reserved) -> Result<(), NoMemory>
-    ensures { OnOk result (bars.new.items ≡ with_kept moment bars.old.items kept) }
+fn add_reserved(bars: &mut Vec<Bar>, moment: u64, reserved: Reserved) -> Result<(), NoMemory>
+    ensures { OnOk result (bars.new.items ≡ with_reserved moment bars.old.items reserved) }
 {
-    let from = kept.start.saturating_sub(moment);
-    let seconds = kept.end.saturating_sub(kept.start.max(moment)).max(1);
-    add_bar(bars, Kind::Reservation, kept.id, from, seconds, kept.nodes)
+    let from = reserved.start.saturating_sub(moment);
+    let begins = reserved.start.max(moment);
+    let seconds = reserved.end.saturating_sub(begins).max(1);
+    add_bar(
+        bars,
+        Kind::Reservation,
+        reserved.id,
+        from,
+        seconds,
+        reserved.nodes,
+    )
 }
 
 /// Adds the reservations.
-fn add_all_kept(bars: &mut Vec<Bar>, moment: u64, all: &BTreeSet<Reserved>) -> Result<(), NoMemory>
-    ensures { OnOk result (bars.new.items ≡ fold (with_kept moment) bars.old.items all.now.keys) }
+fn add_all_reserved(
+    bars: &mut Vec<Bar>,
+    moment: u64,
+    all: &BTreeSet<Reserved>,
+) -> Result<(), NoMemory>
+    ensures { OnOk result (bars.new.items ≡ fold (with_reserved moment) bars.old.items all.now.keys) }
 {
-    for kept in all {
-        add_kept(bars, moment, *kept)?;
+    for reserved in all {
+        add_reserved(bars, moment, *reserved)?;
     }
     Ok(())
 }
@@ -313,9 +325,9 @@ pub fn bars_at(
     ensures { IfOk result (λ bars. bars.items ≡ bars_in (board_reads board.now) here moment (plan_reads plan.now)) }
 {
     let row = standing_at(alloc, board, here, moment, &plan.starts)?;
-    let kept = kept_at(alloc, board, here, moment)?;
+    let reserved = reserved_at(alloc, board, here, moment)?;
     let mut bars = stacked(alloc, &row)?;
     add_head(&mut bars, board, moment, plan.head)?;
-    add_all_kept(&mut bars, moment, &kept)?;
+    add_all_reserved(&mut bars, moment, &reserved)?;
     Ok(bars)
 }

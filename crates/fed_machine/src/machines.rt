@@ -3,7 +3,7 @@ ghost use Rattle.std.specs.Prelude.{◌≡◌, ◌<◌, ◌-◌, ◌++◌, [], I
 ghost use Rattle.fed_record.specs.JobRecord.{job_reads};
 ghost use Rattle.fed_board.specs.Board.{board_reads};
 ghost use Rattle.fed_easy.specs.SitePlan.{used_in};
-ghost use Rattle.fed_machine.specs.Machine.{kept_from, kept_in, line_of_kept, line_of_nodes, line_of_run, lines_of_machine, run_from, runs_in};
+ghost use Rattle.fed_machine.specs.Machine.{line_of_nodes, line_of_reserved, line_of_run, lines_of_machine, reserved_from, reserved_in, run_from, runs_in};
 
 use fed_board::Board;
 use fed_easy::{nodes_of, reserved_time, running_job, used_nodes};
@@ -51,8 +51,8 @@ fn run_of(here: SiteId, id: JobId, job: &JobRecord) -> Option<RunningJob>
 }
 
 /// The reservation, if it stands, is of the site and is not over at the moment.
-fn kept_of(here: SiteId, moment: u64, id: Stamp, reservation: &Reservation) -> Option<Reserved>
-    ensures { result ≡ kept_from here moment id reservation.now }
+fn reserved_of(here: SiteId, moment: u64, id: Stamp, reservation: &Reservation) -> Option<Reserved>
+    ensures { result ≡ reserved_from here moment id reservation.now }
 {
     let time = reserved_time(reservation, here)?;
     if moment < time.until {
@@ -85,18 +85,18 @@ pub(crate) fn runs_at(
 }
 
 /// The reservations of a site that are not over at the moment, in the order of their starts.
-pub(crate) fn kept_at(
+pub(crate) fn reserved_at(
     alloc: Global,
     board: &Board,
     here: SiteId,
     moment: u64,
 ) -> Result<BTreeSet<Reserved>, NoMemory>
-    ensures { IfOk result (λ kept. kept.keys ≡ kept_in here moment (board_reads board.now)) }
+    ensures { IfOk result (λ reserved. reserved.keys ≡ reserved_in here moment (board_reads board.now)) }
 {
     let mut all = BTreeSet::new(alloc);
     for (id, reservation) in board.reservations() {
-        if let Some(kept) = kept_of(here, moment, *id, reservation) {
-            all.insert(kept)?;
+        if let Some(reserved) = reserved_of(here, moment, *id, reservation) {
+            all.insert(reserved)?;
         }
     }
     Ok(all)
@@ -123,11 +123,11 @@ fn run_line(alloc: Global, roster: &Roster, run: RunningJob) -> Result<String, A
     format!(in alloc; "run {id} {nodes} {end}\n")
 }
 
-fn kept_line(alloc: Global, roster: &Roster, kept: Reserved) -> Result<String, AllocError>
-    ensures { IfOk result (λ text. string_bytes text ≡ line_of_kept roster.now kept) }
+fn reserved_line(alloc: Global, roster: &Roster, reserved: Reserved) -> Result<String, AllocError>
+    ensures { IfOk result (λ text. string_bytes text ≡ line_of_reserved roster.now reserved) }
 {
-    let id = identifier_text(alloc, roster, kept.id)?;
-    let (start, end, nodes) = (kept.start, kept.end, kept.nodes);
+    let id = identifier_text(alloc, roster, reserved.id)?;
+    let (start, end, nodes) = (reserved.start, reserved.end, reserved.nodes);
     format!(in alloc; "reserved {id} {start} {end} {nodes}\n")
 }
 
@@ -146,16 +146,16 @@ fn run_lines(
     Ok(text)
 }
 
-fn kept_lines(
+fn reserved_lines(
     alloc: Global,
     roster: &Roster,
     all: &BTreeSet<Reserved>,
 ) -> Result<String, AllocError>
-    ensures { IfOk result (λ text. string_bytes text ≡ flat_map (line_of_kept roster.now) all.now.keys) }
+    ensures { IfOk result (λ text. string_bytes text ≡ flat_map (line_of_reserved roster.now) all.now.keys) }
 {
     let mut text = String::new(alloc);
-    for kept in all {
-        let line = kept_line(alloc, roster, *kept)?;
+    for reserved in all {
+        let line = reserved_line(alloc, roster, *reserved)?;
         text.push_str(line.as_str())?;
     }
     Ok(text)
@@ -178,12 +178,12 @@ pub fn machine_lines(
     let second = moment.get();
     let nodes = nodes_of(roster, here);
     let runs = runs_at(alloc, board, here)?;
-    let kept = kept_at(alloc, board, here, second)?;
+    let reserved = reserved_at(alloc, board, here, second)?;
     let free = free_nodes(board, here, second, nodes);
     let mut text = nodes_line(alloc, nodes, free)?;
     let running = run_lines(alloc, roster, &runs)?;
     text.push_str(running.as_str())?;
-    let reserved = kept_lines(alloc, roster, &kept)?;
-    text.push_str(reserved.as_str())?;
+    let windows = reserved_lines(alloc, roster, &reserved)?;
+    text.push_str(windows.as_str())?;
     Ok(text)
 }
