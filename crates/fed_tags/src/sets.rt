@@ -51,6 +51,16 @@ impl<T: Exact> TagSet<T> {
         }
     }
 
+    // The empty set, with room for so many elements.
+    fn with_room(alloc: Global, elements: usize) -> Result<Self, NoMemory>
+        ensures { IfOk result (λ r. r ≡ []) }
+    {
+        Ok(TagSet {
+            alloc,
+            groups: Vec::with_capacity(alloc, elements)?,
+        })
+    }
+
     /// Whether the pair is live.
     pub fn contains(&self, element: &T, stamp: Stamp) -> bool
         ensures { IsTrue result ↔ Has self.now (element.now, stamp) }
@@ -182,7 +192,8 @@ impl<T: Exact> TagSet<T> {
         requires { IsStrictlySortedBy (pair_cmp T.cmp) pairs.now }
         ensures { IfOk result (λ r. r ≡ pairs.now) }
     {
-        let mut set = TagSet::new(alloc);
+        // most elements have one tag
+        let mut set = TagSet::with_room(alloc, pairs.len())?;
         for (element, stamp) in pairs {
             set.insert(*element, *stamp)?;
         }
