@@ -7,11 +7,11 @@ ghost use Rattle.fed_wire.specs.Members.{AreMembers};
 ghost use Rattle.fed_wire.specs.Reading.{least_above, body_in, format_in, packet_of};
 
 use crate::faults::{Part, Place, WireFault};
-use crate::jobs::jobs;
+use crate::jobs::read_jobs;
 use crate::members::{PacketMembers, packet_members};
 use crate::packets::Packet;
 use crate::readings::{sender, version};
-use crate::reservations::reservations;
+use crate::reservations::read_reservations;
 use fed_delta::Delta;
 use fed_job_json::Format;
 use fed_stamp::{SiteId, Version};
@@ -49,8 +49,8 @@ pub(crate) fn body(
             },
         });
     }
-    let jobs = jobs(alloc, members.jobs, format, &reached)?;
-    let reservations = reservations(alloc, members.reservations, &reached)?;
+    let jobs = read_jobs(alloc, members.jobs, format, &reached)?;
+    let reservations = read_reservations(alloc, members.reservations, &reached)?;
     let delta = Delta::from_parts(need, reached, jobs, reservations);
     Ok(Packet::new(sender, delta))
 }

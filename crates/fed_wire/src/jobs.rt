@@ -50,7 +50,7 @@ fn all_jobs(
 }
 
 /// The jobs of a packet that reaches the version.
-pub(crate) fn jobs(
+pub(crate) fn read_jobs(
     alloc: Global,
     value: &Value,
     format: Format,

@@ -22,7 +22,7 @@ use fed_stamp::{MAX_NODES, Stamp, Version};
 use serde_json::Value;
 use std::alloc::Global;
 
-fn times(value: &Value) -> Result<Window, Flaw>
+fn read_times(value: &Value) -> Result<Window, Flaw>
     ensures { result ≡ times_of (view value.now) }
 {
     match elements(value)? {
@@ -44,36 +44,36 @@ fn times(value: &Value) -> Result<Window, Flaw>
     }
 }
 
-fn window(value: &Value) -> Result<Option<Window>, Flaw>
+fn read_window(value: &Value) -> Result<Option<Window>, Flaw>
     ensures { result ≡ window_of (view value.now) }
 {
     if value.is_null() {
         return Ok(None);
     }
-    Ok(Some(times(value)?))
+    Ok(Some(read_times(value)?))
 }
 
-fn window_field(value: &Value) -> Result<(Stamp, Option<Window>), Flaw>
+fn read_window_field(value: &Value) -> Result<(Stamp, Option<Window>), Flaw>
     ensures { mapped (λ f. Some f) result ≡ field_of window_of (view value.now) }
 {
     match elements(value)? {
         [times, at] => {
-            let (window, stamp) = both(window(times), read_stamp(at))?;
+            let (window, stamp) = both(read_window(times), read_stamp(at))?;
             Ok((stamp, window))
         }
         _ => Err(Flaw::Shape),
     }
 }
 
-fn latest(value: &Value) -> Result<Reservation, Flaw>
+fn read_latest(value: &Value) -> Result<Reservation, Flaw>
     ensures { result ≡ field_of window_of (view value.now) }
 {
-    let (stamp, window) = window_field(value)?;
+    let (stamp, window) = read_window_field(value)?;
     Ok(Reservation::from_parts(stamp, window))
 }
 
 /// The identifier of the reservation, and what is read of it.
-pub fn reservation(value: &Value) -> Result<(Stamp, Reservation), Flaw>
+pub fn read_reservation(value: &Value) -> Result<(Stamp, Reservation), Flaw>
     ensures { result ≡ reservation_of (view value.now) }
 {
     // Until a member is read, the object itself stands at its index.
@@ -81,7 +81,7 @@ pub fn reservation(value: &Value) -> Result<(Stamp, Reservation), Flaw>
     if !read_members(value, &["id", "window"], &mut members) {
         return Err(Flaw::Shape);
     }
-    both(read_stamp(members[0]), latest(members[1]))
+    both(read_stamp(members[0]), read_latest(members[1]))
 }
 
 // Whether the version covers the identifier and the greatest stamp.
@@ -106,7 +106,7 @@ fn all_reservations(
             part: Part::Reservations,
             index,
         };
-        match reservation(value) {
+        match read_reservation(value) {
             Ok(entry) => {
                 let (id, reservation) = entry;
                 if !ids.admit(MAX_RESERVATIONS, id) || !is_covered(reached, id, &reservation) {
@@ -122,7 +122,7 @@ fn all_reservations(
 }
 
 /// The reservations of a packet that reaches the version.
-pub(crate) fn reservations(
+pub(crate) fn read_reservations(
     alloc: Global,
     value: &Value,
     reached: &Version,

@@ -15,7 +15,7 @@ use fed_stamp::Stamp;
 use serde_json::{Map, Value, json, put};
 use std::alloc::{AllocError, Global};
 
-fn window(alloc: Global, window: Option<Window>) -> Result<Value, AllocError>
+fn write_window(alloc: Global, window: Option<Window>) -> Result<Value, AllocError>
     ensures { IfOk result (λ v. view v ≡ window_value window) }
 {
     match window {
@@ -26,11 +26,11 @@ fn window(alloc: Global, window: Option<Window>) -> Result<Value, AllocError>
     }
 }
 
-fn reservation(alloc: Global, id: Stamp, reserved: &Reservation) -> Result<Value, AllocError>
+fn write_reservation(alloc: Global, id: Stamp, reserved: &Reservation) -> Result<Value, AllocError>
     requires { IsSome reserved.now }
     ensures { IfOk result (λ v. view v ≡ reservation_value (id, reserved.now)) }
 {
-    let window = window(alloc, reserved.window())?;
+    let window = write_window(alloc, reserved.window())?;
     let latest = json!(in alloc; [window, write_stamp(alloc, reserved.stamp())?])?;
     json!(in alloc; {
         "id": write_stamp(alloc, id)?,
@@ -38,12 +38,12 @@ fn reservation(alloc: Global, id: Stamp, reserved: &Reservation) -> Result<Value
     })
 }
 
-fn reservations(alloc: Global, delta: &Delta) -> Result<Value, AllocError>
+fn write_reservations(alloc: Global, delta: &Delta) -> Result<Value, AllocError>
     ensures { IfOk result (λ v. view v ≡ list_value (map reservation_value delta.now.changes.reservations)) }
 {
     let mut values = Vec::new(alloc);
     for (id, reserved) in delta.reservations() {
-        values.push(reservation(alloc, *id, reserved)?)?;
+        values.push(write_reservation(alloc, *id, reserved)?)?;
     }
     Ok(Value::Array(values))
 }
@@ -72,7 +72,7 @@ pub(crate) fn frame_value(alloc: Global, packet: &Packet) -> Result<Value, Alloc
         &mut members,
         alloc,
         "reservations",
-        reservations(alloc, delta)?,
+        write_reservations(alloc, delta)?,
     )?;
     put(
         &mut members,

@@ -2,7 +2,7 @@ use Rattle.std.proofs.Common.{◌≡◌, ◌++◌, map, All, IsSome}
 use Rattle.std.specs.Map.{values_of}
 use Rattle.serde_json.specs.View.{view}
 use Rattle.fed_wire.specs.Reservations.{reservation_value}
-use Rattle.fed_wire.proofs.writing.reservations.Given as goal
+use Rattle.fed_wire.proofs.writing.write_reservations.Given as goal
 
 abbrev pub invariant-loop-id : goal.invariant-loop-id
 invariant-loop-id l = record {
