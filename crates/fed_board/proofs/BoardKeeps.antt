@@ -26,7 +26,7 @@ use Rattle.fed_record.specs.Operation.{body_of}
 use Rattle.fed_model.specs.Reservation.{ReservationView}
 use Rattle.fed_theory.specs.ValueOrders.{option_window_cmp}
 use Rattle.fed_board.specs.Board.{BoardValue, IsBoard, IsKnownJob, IsKnownReservation, HasJob, HasNamed, no_operation, merged, changed_job, changed_reservation}
-use Rattle.fed_board.specs.CoveredJob.{IsCoveredRegister, IsCoveredJob}
+use Rattle.fed_record.specs.CoveredJob.{covers_register, IsCoveredJob}
 use Rattle.fed_board.proofs.CoveredJobs.{covered_added, covered_joined, covered_nothing, later_covered, own_register, register_covered}
 use Rattle.fed_board.proofs.SubmittedJobs.{set_left, set_right, submitted_added, submitted_by, submitted_left, submitted_right}
 use Rattle.fed_theory.proofs.VersionGrowth.{below_raised, covers_raised, raised_below, zeros_below, joined_below}
@@ -90,8 +90,8 @@ later_reservation v at id r k = record {
 }
 
 -- the greatest stamp is covered, also where the reservation is absent
-covered_reservation : (v : List ℕ) (id : StampValue) (a : Option ReservationView) → IfSome a (IsKnownReservation v id) → IsCoveredRegister v (unwrap_or a None)
-covered_reservation v id None p = tt
+covered_reservation : (v : List ℕ) (id : StampValue) (a : Option ReservationView) → IfSome a (IsKnownReservation v id) → covers_register v (unwrap_or a None) ≡ true
+covered_reservation v id None p = refl
 covered_reservation v id (Some r) p = p.stamp
 
 present_reservation : (v : List ℕ) (id : StampValue) (a : Option ReservationView) → IfSome a (IsKnownReservation v id) → IsSome a → IsKnownReservation v id (unwrap_or a None)
@@ -141,10 +141,10 @@ module _ (b : BoardValue) (at id : StampValue) (op : Operation) (i : IsBoard b) 
   abbrev now : Option ReservationView
   now = lookup (is_at (stamp_cmp id)) b.reservations
 
-  before : IsCoveredRegister (raised b.version at) (unwrap_or now None)
+  before : covers_register (raised b.version at) (unwrap_or now None) ≡ true
   before = later_covered latest_stamp b.version (raised b.version at) (λ s. covers_raised b.version at s) (unwrap_or now None) (covered_reservation b.version id now (i.reservations id))
 
-  stamp_now : (window : Option (Option Window)) → IsCoveredRegister (raised b.version at) (joined_registers option_window_cmp (unwrap_or now None) (with_stamp at window))
+  stamp_now : (window : Option (Option Window)) → covers_register (raised b.version at) (joined_registers option_window_cmp (unwrap_or now None) (with_stamp at window)) ≡ true
   stamp_now window = register_covered (raised b.version at) option_window_cmp (unwrap_or now None) (with_stamp at window) before (own_register at (raised b.version at) seen window)
 
   changed_known_reservation : (body : Body) → reservation_of at body ≡ Some id → HasNamed b body → IsKnownReservation (raised b.version at) id (joined_registers option_window_cmp (unwrap_or now None) (with_stamp at (window_in body)))
@@ -220,7 +220,7 @@ module _ (join : JobRecordValue → List ℕ → JobRecordValue → List ℕ →
       let right = later_covered latest_stamp w (joined v w) (λ t. covers_more w (joined v w) t (below_joined_right v w)) (unwrap_or y None) (covered_reservation w id y q) in
       either x y p q e (register_covered (joined v w) option_window_cmp (unwrap_or x None) (unwrap_or y None) left right) where
         either : (x y : Option ReservationView) → IfSome x (IsKnownReservation v id) → IfSome y (IsKnownReservation w id) → (is_some x || is_some y) ≡ true
-            → IsCoveredRegister (joined v w) (joined_registers option_window_cmp (unwrap_or x None) (unwrap_or y None))
+            → covers_register (joined v w) (joined_registers option_window_cmp (unwrap_or x None) (unwrap_or y None)) ≡ true
             → IsKnownReservation (joined v w) id (joined_registers option_window_cmp (unwrap_or x None) (unwrap_or y None))
         either None None p q e stamp = cc
         either None (Some s) p q e stamp = record {

@@ -30,10 +30,10 @@ same_records r s p q e =
     let holds = same_sets (pair_cmp kind_cmp) hold_order hold_exact r.holds s.holds p.0 q.0 (λ k. ap (λ (j : JobView). j.holds k.0 k.1) e) in
     let sites = same_sets (pair_cmp nat_cmp) site_order site_exact r.sites s.sites p.1 q.1 (λ k. ap (λ (j : JobView). j.sites k.0 k.1) e) in
     λ i. record {
-      fields = record { owner = (e i).owner; name = (e i).name; priority = (e i).priority; nodes = (e i).nodes; limit = (e i).limit; account = (e i).account };
+      fields = (e i).fields;
       holds = holds i;
       sites = sites i;
-      stages = record { deleted = (e i).deleted; grant = (e i).grant; begun = (e i).begun; finished = (e i).finished };
+      stages = (e i).stages;
       touched = (e i).touched;
     }
 

@@ -1,9 +1,8 @@
 -- Every stamp that is read of a job stays covered after a change and in a join.
 use Rattle.std.specs.Option.{option_cmp}
-use Rattle.std.specs.Ordering.{ord_max, is_lt, nat_cmp, int_cmp}
+use Rattle.std.specs.Ordering.{ord_max, is_lt}
 use Rattle.std.proofs.Common.{◌≡◌, ℕ, ◌<◌, max, List, length, length-set, Bool, true, false, cond, Option, Some, None, Ordering, refl, subst, ◌∙◌, inl, inr, arith}
-use Rattle.std.proofs.lemmas.Bool.{and_parts}
-use Rattle.std.proofs.lemmas.Option.{IfSome_then}
+use Rattle.std.proofs.lemmas.Bool.{and_parts, and_from}
 use Rattle.fed_stamp.specs.Stamp.{StampValue, same_stamp}
 use Rattle.fed_stamp.specs.Version.{covers, joined, raised}
 use Rattle.fed_stamp.proofs.VersionLaws.{covers_more, below_joined_left, below_joined_right, length-joined}
@@ -11,71 +10,91 @@ use Rattle.fed_lattice.specs.Register.{stamped_cmp, joined_registers}
 use Rattle.fed_lattice.specs.Stamped.{with_stamp}
 use Rattle.fed_model.specs.Body.{Body, Body.Submit, Body.Set, Body.Hold, Body.Release, Body.Delete, Body.Grant, Body.HandBack, Body.Begin, Body.Finish, Body.Reserve, Body.Cancel}
 use Rattle.fed_record.proofs.CoveredLaws.{either_side, old_or_new}
-use Rattle.fed_model.specs.Field.{owner_in, name_in, priority_in, nodes_in, limit_in, account_in, begin_in, finish_in}
+use Rattle.fed_model.specs.Field.{begin_in, finish_in}
 use Rattle.fed_model.specs.Grant.{grant_cmp, grant_in, stamp_of}
 use Rattle.fed_record.specs.JobRecord.{job_reads}
-use Rattle.fed_theory.specs.JobSteps.{add_to_job, join_jobs, add_live}
-use Rattle.fed_model.specs.JobView.{JobView}
+use Rattle.fed_theory.specs.JobSteps.{add_to_job, join_jobs, add_live, set_register, raise_stage, fields_in, stages_in, changed_stages, joined_stages}
+use Rattle.fed_theory.proofs.FieldTests.{fields_changed, fields_joined}
+use Rattle.fed_model.specs.JobView.{JobStages, JobView}
+use Rattle.fed_model.specs.declared.grants.GrantStage.{GrantStage}
+use Rattle.fed_lattice.specs.Both.{applied_option}
 use Rattle.fed_model.specs.Pairs.{adds_site, removes_site, adds_hold, removes_hold, adds_pair}
 use Rattle.fed_lattice.specs.Stays.{stays}
-use Rattle.fed_theory.specs.ValueOrders.{name_cmp, account_cmp, beginning_cmp, ending_cmp}
+use Rattle.fed_theory.specs.ValueOrders.{beginning_cmp, ending_cmp}
 use Rattle.fed_lattice.specs.ExactLaws.{same_stamp_is}
 use Rattle.fed_board.specs.Board.{no_operation}
-use Rattle.fed_board.specs.CoveredJob.{IsCoveredAt, IsCoveredRegister, AreCoveredPairs, IsCoveredJob}
+use Rattle.fed_record.specs.CoveredJob.{covers_at, covers_register, covers_fields, covers_stages, AreCoveredPairs, IsCoveredJob}
 use Rattle.fed_theory.proofs.VersionGrowth.{covers_raised, own_raised}
 
 module _ {T : Type 0} (stamp : T → StampValue) (v : List ℕ) where
-  one_of_two : (b : Bool) (p q : T) → covers v (stamp p) ≡ true → covers v (stamp q) ≡ true → IsCoveredAt stamp v (cond b (Some p) (Some q))
+  one_of_two : (b : Bool) (p q : T) → covers v (stamp p) ≡ true → covers v (stamp q) ≡ true → covers_at stamp v (cond b (Some p) (Some q)) ≡ true
   one_of_two true p q i j = i
   one_of_two false p q i j = j
 
   -- the greater of two values has the stamp of one of them
-  greater_covered : (cmp : T → T → Ordering) (x y : Option T) → IsCoveredAt stamp v x → IsCoveredAt stamp v y → IsCoveredAt stamp v (ord_max (option_cmp cmp) x y)
-  greater_covered cmp None None i j = tt
+  greater_covered : (cmp : T → T → Ordering) (x y : Option T) → covers_at stamp v x ≡ true → covers_at stamp v y ≡ true → covers_at stamp v (ord_max (option_cmp cmp) x y) ≡ true
+  greater_covered cmp None None i j = refl
   greater_covered cmp None (Some q) i j = j
   greater_covered cmp (Some p) None i j = i
   greater_covered cmp (Some p) (Some q) i j = one_of_two (is_lt (option_cmp cmp (Some q) (Some p))) p q i j
 
-  pub later_covered : (w : List ℕ) → ((s : StampValue) → covers v s ≡ true → covers w s ≡ true) → (x : Option T) → IsCoveredAt stamp v x → IsCoveredAt stamp w x
-  later_covered w more x i = IfSome_then x i (λ p. more (stamp p))
+  pub later_covered : (w : List ℕ) → ((s : StampValue) → covers v s ≡ true → covers w s ≡ true) → (x : Option T) → covers_at stamp v x ≡ true → covers_at stamp w x ≡ true
+  later_covered w more None i = refl
+  later_covered w more (Some p) i = more (stamp p) i
 
-pub register_covered : {T : Type 0} (v : List ℕ) (cmp : T → T → Ordering) (x y : Option (StampValue × T)) → IsCoveredRegister v x → IsCoveredRegister v y → IsCoveredRegister v (joined_registers cmp x y)
+pub later_register : {T : Type 0} (v w : List ℕ) → ((s : StampValue) → covers v s ≡ true → covers w s ≡ true) → (x : Option (StampValue × T)) → covers_register v x ≡ true → covers_register w x ≡ true
+later_register {T} v w more x i = later_covered (λ (p : StampValue × T). p.0) v w more x i
+
+pub register_covered : {T : Type 0} (v : List ℕ) (cmp : T → T → Ordering) (x y : Option (StampValue × T)) → covers_register v x ≡ true → covers_register v y ≡ true → covers_register v (joined_registers cmp x y) ≡ true
 register_covered {T} v cmp x y i j = greater_covered (λ (p : StampValue × T). p.0) v (stamped_cmp cmp) x y i j
+
+stages_parts : (v : List ℕ) (s : JobStages) → covers_stages v s ≡ true → (covers_at stamp_of v s.grant ≡ true) × (covers_register v s.begun ≡ true) × (covers_register v s.finished ≡ true)
+stages_parts v s e =
+    let grant = and_parts (covers_at stamp_of v s.grant) _ e in
+    let others = and_parts (covers_register v s.begun) (covers_register v s.finished) grant.1 in
+    (grant.0, others.0, others.1)
+
+stages_from : (v : List ℕ) (s : JobStages) → covers_at stamp_of v s.grant ≡ true → covers_register v s.begun ≡ true → covers_register v s.finished ≡ true → covers_stages v s ≡ true
+stages_from v s grant begun finished = and_from _ _ grant (and_from _ _ begun finished)
 
 -- ---- an operation
 module _ (t : StampValue) (v : List ℕ) (own : covers v t ≡ true) where
-  pub own_register : {T : Type 0} (o : Option T) → IsCoveredRegister v (with_stamp t o)
-  own_register None = tt
+  pub own_register : {T : Type 0} (o : Option T) → covers_register v (with_stamp t o) ≡ true
+  own_register None = refl
   own_register (Some x) = own
 
-  own_grant : (b : Body) → IsCoveredAt stamp_of v (grant_in (t, b))
-  own_grant (Submit owner values held) = tt
-  own_grant (Set job changes removed) = tt
-  own_grant (Hold job kinds) = tt
-  own_grant (Release job removed) = tt
-  own_grant (Delete job) = tt
+  own_grant : (b : Body) → covers_at stamp_of v (grant_in (t, b)) ≡ true
+  own_grant (Submit owner values held) = refl
+  own_grant (Set job changes removed) = refl
+  own_grant (Hold job kinds) = refl
+  own_grant (Release job removed) = refl
+  own_grant (Delete job) = refl
   own_grant (Grant job site term) = own
   own_grant (HandBack job term) = own
-  own_grant (Begin job beginning) = tt
-  own_grant (Finish job ending) = tt
-  own_grant (Reserve window) = tt
-  own_grant (Cancel reservation) = tt
+  own_grant (Begin job beginning) = refl
+  own_grant (Finish job ending) = refl
+  own_grant (Reserve window) = refl
+  own_grant (Cancel reservation) = refl
 
   own_pair : {E : Type 0} (adds : Body → E → Bool) (removes : Body → E → StampValue → Bool) (b : Body) (element : E) (tag : StampValue) → adds_pair adds removes element tag (t, b) ≡ true → covers v tag ≡ true
   own_pair adds removes b element tag e = subst (λ s. covers v s ≡ true) (same_stamp_is t tag (and_parts (same_stamp t tag) (adds b element) e).0) own
 
 module _ (t : StampValue) (b : Body) (j : JobView) (small : t.site < 16) (k : IsCoveredJob j) where
-  now : List ℕ
-  now = raised j.touched t
-
   own : covers (raised j.touched t) t ≡ true
   own = own_raised j.touched t (let n = k.counters in omega arith)
 
   more : (s : StampValue) → covers j.touched s ≡ true → covers (raised j.touched t) s ≡ true
   more s = covers_raised j.touched t s
 
-  added_register : {T : Type 0} (cmp : T → T → Ordering) (r : Option (StampValue × T)) (o : Option T) → IsCoveredRegister j.touched r → IsCoveredRegister (raised j.touched t) (joined_registers cmp r (with_stamp t o))
-  added_register {T} cmp r o i = register_covered (raised j.touched t) cmp r (with_stamp t o) (later_covered (λ (p : StampValue × T). p.0) j.touched (raised j.touched t) more r i) (own_register t (raised j.touched t) own o)
+  set_covered : {T : Type 0} (cmp : T → T → Ordering) (x : Option (StampValue × T)) (o : Option T) → covers_register j.touched x ≡ true
+      → covers_register (raised j.touched t) (applied_option (set_register cmp) x t o) ≡ true
+  set_covered cmp x None i = later_register j.touched (raised j.touched t) more x i
+  set_covered cmp x (Some c) i = register_covered (raised j.touched t) cmp x (Some (t, c)) (later_register j.touched (raised j.touched t) more x i) own
+
+  raised_covered : (x o : Option GrantStage) → covers_at stamp_of j.touched x ≡ true → covers_at stamp_of (raised j.touched t) o ≡ true
+      → covers_at stamp_of (raised j.touched t) (applied_option (raise_stage grant_cmp) x t o) ≡ true
+  raised_covered x None i k = later_covered stamp_of j.touched (raised j.touched t) more x i
+  raised_covered x (Some g) i k = greater_covered stamp_of (raised j.touched t) grant_cmp x (Some g) (later_covered stamp_of j.touched (raised j.touched t) more x i) k
 
   added_pairs : {E : Type 0} (adds : Body → E → Bool) (removes : Body → E → StampValue → Bool) (is_live : E → StampValue → Bool) → AreCoveredPairs j.touched is_live
       → AreCoveredPairs (raised j.touched t) (λ element tag. add_live (is_live element tag) (adds_pair adds removes element tag (t, b)) (removes b element tag))
@@ -86,20 +105,19 @@ module _ (t : StampValue) (b : Body) (j : JobView) (small : t.site < 16) (k : Is
 
   pub covered_added : IsCoveredJob (add_to_job t b j)
   unfolding add_to_job
-  covered_added = record {
-    counters = length-set j.touched t.site _ ∙ k.counters;
-    owner = added_register name_cmp j.owner (owner_in b) k.owner;
-    name = added_register name_cmp j.name (name_in b) k.name;
-    priority = added_register int_cmp j.priority (priority_in b) k.priority;
-    nodes = added_register nat_cmp j.nodes (nodes_in b) k.nodes;
-    limit = added_register nat_cmp j.limit (limit_in b) k.limit;
-    account = added_register account_cmp j.account (account_in b) k.account;
-    sites = added_pairs adds_site removes_site j.sites k.sites;
-    holds = added_pairs adds_hold removes_hold j.holds k.holds;
-    grant = greater_covered stamp_of (raised j.touched t) grant_cmp j.grant (grant_in (t, b)) (later_covered stamp_of j.touched (raised j.touched t) more j.grant k.grant) (own_grant t (raised j.touched t) own b);
-    begun = added_register beginning_cmp j.begun (begin_in b) k.begun;
-    finished = added_register ending_cmp j.finished (finish_in b) k.finished;
-  }
+  covered_added =
+      let stamps = and_parts (covers_fields j.touched j.fields) (covers_stages j.touched j.stages) k.stamps in
+      let s = stages_parts j.touched j.stages stamps.1 in
+      record {
+        counters = length-set j.touched t.site _ ∙ k.counters;
+        stamps = and_from _ _
+            (fields_changed (λ _. covers_register j.touched) (λ _. covers_register (raised j.touched t)) t (λ _ cmp x o i. set_covered cmp x o i) j.fields (fields_in b) stamps.0)
+            (stages_from (raised j.touched t) (changed_stages j.stages t (stages_in (t, b)))
+            (raised_covered j.stages.grant (grant_in (t, b)) s.0 (own_grant t (raised j.touched t) own b))
+            (set_covered beginning_cmp j.stages.begun (begin_in b) s.1) (set_covered ending_cmp j.stages.finished (finish_in b) s.2));
+        sites = added_pairs adds_site removes_site j.sites k.sites;
+        holds = added_pairs adds_hold removes_hold j.holds k.holds;
+      }
 
 -- ---- two jobs joined
 module _ (v w : List ℕ) (x y : JobView) (i : IsCoveredJob x) (k : IsCoveredJob y) where
@@ -109,10 +127,10 @@ module _ (v w : List ℕ) (x y : JobView) (i : IsCoveredJob x) (k : IsCoveredJob
   right : (s : StampValue) → covers y.touched s ≡ true → covers (joined x.touched y.touched) s ≡ true
   right s = covers_more y.touched (joined x.touched y.touched) s (below_joined_right x.touched y.touched)
 
-  both_registers : {T : Type 0} (cmp : T → T → Ordering) (p q : Option (StampValue × T)) → IsCoveredRegister x.touched p → IsCoveredRegister y.touched q → IsCoveredRegister (joined x.touched y.touched) (joined_registers cmp p q)
-  both_registers {T} cmp p q a b = register_covered (joined x.touched y.touched) cmp p q
-      (later_covered (λ (r : StampValue × T). r.0) x.touched (joined x.touched y.touched) left p a)
-      (later_covered (λ (r : StampValue × T). r.0) y.touched (joined x.touched y.touched) right q b)
+  both_registers : {T : Type 0} (cmp : T → T → Ordering) (p q : Option (StampValue × T)) → covers_register x.touched p ≡ true → covers_register y.touched q ≡ true
+      → covers_register (joined x.touched y.touched) (joined_registers cmp p q) ≡ true
+  both_registers cmp p q a b = register_covered (joined x.touched y.touched) cmp p q
+      (later_register x.touched (joined x.touched y.touched) left p a) (later_register y.touched (joined x.touched y.touched) right q b)
 
   both_pairs : {E : Type 0} (here there : E → StampValue → Bool) → AreCoveredPairs x.touched here → AreCoveredPairs y.touched there
       → AreCoveredPairs (joined x.touched y.touched) (λ element tag. stays (here element tag) (covers v tag) (there element tag) (covers w tag))
@@ -123,34 +141,23 @@ module _ (v w : List ℕ) (x y : JobView) (i : IsCoveredJob x) (k : IsCoveredJob
 
   pub covered_joined : IsCoveredJob (join_jobs v x w y)
   unfolding join_jobs
-  covered_joined = record {
-    counters = let n = i.counters in let m = k.counters in let l : length (joined x.touched y.touched) ≡ max (length x.touched) (length y.touched) = length-joined x.touched y.touched in omega arith;
-    owner = both_registers name_cmp x.owner y.owner i.owner k.owner;
-    name = both_registers name_cmp x.name y.name i.name k.name;
-    priority = both_registers int_cmp x.priority y.priority i.priority k.priority;
-    nodes = both_registers nat_cmp x.nodes y.nodes i.nodes k.nodes;
-    limit = both_registers nat_cmp x.limit y.limit i.limit k.limit;
-    account = both_registers account_cmp x.account y.account i.account k.account;
-    sites = both_pairs x.sites y.sites i.sites k.sites;
-    holds = both_pairs x.holds y.holds i.holds k.holds;
-    grant = greater_covered stamp_of (joined x.touched y.touched) grant_cmp x.grant y.grant (later_covered stamp_of x.touched (joined x.touched y.touched) left x.grant i.grant) (later_covered stamp_of y.touched (joined x.touched y.touched) right y.grant k.grant);
-    begun = both_registers beginning_cmp x.begun y.begun i.begun k.begun;
-    finished = both_registers ending_cmp x.finished y.finished i.finished k.finished;
-  }
+  covered_joined =
+      let here = and_parts (covers_fields x.touched x.fields) (covers_stages x.touched x.stages) i.stamps in
+      let there = and_parts (covers_fields y.touched y.fields) (covers_stages y.touched y.stages) k.stamps in
+      let s = stages_parts x.touched x.stages here.1 in
+      let t = stages_parts y.touched y.stages there.1 in
+      record {
+        counters = let n = i.counters in let m = k.counters in let l : length (joined x.touched y.touched) ≡ max (length x.touched) (length y.touched) = length-joined x.touched y.touched in omega arith;
+        stamps = and_from _ _
+            (fields_joined (λ _. covers_register x.touched) (λ _. covers_register y.touched) (λ _. covers_register (joined x.touched y.touched)) (λ _ cmp p q a b. both_registers cmp p q a b) x.fields y.fields here.0 there.0)
+            (stages_from (joined x.touched y.touched) (joined_stages x.stages y.stages)
+            (greater_covered stamp_of (joined x.touched y.touched) grant_cmp x.stages.grant y.stages.grant
+            (later_covered stamp_of x.touched (joined x.touched y.touched) left x.stages.grant s.0) (later_covered stamp_of y.touched (joined x.touched y.touched) right y.stages.grant t.0))
+            (both_registers beginning_cmp x.stages.begun y.stages.begun s.1 t.1) (both_registers ending_cmp x.stages.finished y.stages.finished s.2 t.2));
+        sites = both_pairs x.sites y.sites i.sites k.sites;
+        holds = both_pairs x.holds y.holds i.holds k.holds;
+      }
 
 -- a job without operations has no stamp
 pub covered_nothing : IsCoveredJob (job_reads no_operation)
-covered_nothing = record {
-  counters = refl;
-  owner = tt;
-  name = tt;
-  priority = tt;
-  nodes = tt;
-  limit = tt;
-  account = tt;
-  sites = λ site tag e. cc;
-  holds = λ kind tag e. cc;
-  grant = tt;
-  begun = tt;
-  finished = tt;
-}
+covered_nothing = record { counters = refl; stamps = refl; sites = λ site tag e. cc; holds = λ kind tag e. cc }

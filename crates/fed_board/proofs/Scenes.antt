@@ -69,10 +69,10 @@ not_exchanged = refl
 abbrev prioritised : ℕ → ℕ → StampValue × Body
 prioritised site priority = (at 2 site, Set job (record nothing { priority = Some (pos priority) }) (has_site_pair []))
 
-second_wins : ((view (here ++ prioritised 1 7 ∷ prioritised 0 9 ∷ [])).job job).priority ≡ Some (at 2 1, pos 7)
+second_wins : ((view (here ++ prioritised 1 7 ∷ prioritised 0 9 ∷ [])).job job).fields.priority ≡ Some (at 2 1, pos 7)
 second_wins = refl
 
-second_wins_joined : ((join_views (view (here ++ prioritised 1 7 ∷ [])) (view (here ++ prioritised 0 9 ∷ []))).job job).priority ≡ Some (at 2 1, pos 7)
+second_wins_joined : ((join_views (view (here ++ prioritised 1 7 ∷ [])) (view (here ++ prioritised 0 9 ∷ []))).job job).fields.priority ≡ Some (at 2 1, pos 7)
 unfolding joined join_jobs join_views
 second_wins_joined = refl
 
@@ -132,10 +132,10 @@ granted_letter : letter ((view granted).job job) ≡ Some Granted
 unfolding any_below
 granted_letter = refl
 
-granted_stage : ((view granted).job job).grant ≡ Some (Open 1 (at 2 0) 1)
+granted_stage : ((view granted).job job).stages.grant ≡ Some (Open 1 (at 2 0) 1)
 granted_stage = refl
 
-returned_stage : ((view returned).job job).grant ≡ Some (Returned 1 (at 3 1))
+returned_stage : ((view returned).job job).stages.grant ≡ Some (Returned 1 (at 3 1))
 returned_stage = refl
 
 returned_letter : letter ((view returned).job job) ≡ Some Queued
@@ -143,12 +143,12 @@ unfolding any_below
 returned_letter = refl
 
 -- a set that has only the grant doesn't undo the return
-returned_stays : ((join_views (view granted) (view returned)).job job).grant ≡ Some (Returned 1 (at 3 1))
+returned_stays : ((join_views (view granted) (view returned)).job job).stages.grant ≡ Some (Returned 1 (at 3 1))
 unfolding joined join_jobs join_views
 returned_stays = refl
 
 -- a new term is above a return
-anew_stage : ((join_views (view returned) (view granted_anew)).job job).grant ≡ Some (Open 2 (at 4 0) 0)
+anew_stage : ((join_views (view returned) (view granted_anew)).job job).stages.grant ≡ Some (Open 2 (at 4 0) 0)
 unfolding joined join_jobs join_views
 anew_stage = refl
 

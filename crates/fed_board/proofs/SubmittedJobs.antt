@@ -1,18 +1,16 @@
 -- Jobs that are submitted stay so.
 use Rattle.std.specs.Option.{option_cmp}
-use Rattle.std.specs.Ordering.{is_lt, nat_cmp, int_cmp}
+use Rattle.std.specs.Ordering.{is_lt}
 use Rattle.std.proofs.Common.{◌≡◌, ℕ, List, Bool, true, false, cond, Option, Some, None, is_some, Ordering, refl}
-use Rattle.std.proofs.lemmas.Bool.{and_parts, and_from}
 use Rattle.fed_stamp.specs.Stamp.{StampValue}
 use Rattle.fed_lattice.specs.Register.{stamped_cmp, joined_registers}
-use Rattle.fed_lattice.specs.Stamped.{with_stamp}
+use Rattle.fed_lattice.specs.Both.{applied_option}
 use Rattle.fed_model.specs.declared.values.JobValues.{JobValues}
 use Rattle.fed_model.specs.Body.{Body, Body.Submit}
-use Rattle.fed_model.specs.Field.{owner_in, name_in, priority_in, nodes_in, limit_in, account_in}
-use Rattle.fed_theory.specs.JobSteps.{add_to_job, join_jobs}
-use Rattle.fed_model.specs.JobView.{JobView}
+use Rattle.fed_theory.specs.JobSteps.{add_to_job, join_jobs, set_register, fields_in, empty_fields, changed_fields}
+use Rattle.fed_theory.proofs.FieldTests.{fields_changed, fields_joined}
+use Rattle.fed_model.specs.JobView.{JobFields, JobView}
 use Rattle.fed_model.specs.Letter.{is_submitted}
-use Rattle.fed_theory.specs.ValueOrders.{name_cmp, account_cmp}
 
 some_of_two : {T : Type 0} (b : Bool) (x y : T) → is_some (cond b (Some x) (Some y)) ≡ true
 some_of_two true x y = refl
@@ -30,75 +28,26 @@ module _ {T : Type 0} (cmp : T → T → Ordering) where
   set_right None (Some q) e = refl
   set_right (Some p) (Some q) e = some_of_two (is_lt (option_cmp (stamped_cmp cmp) (Some q) (Some p))) p q
 
--- the six fields of a job that is submitted
-record Fields (j : JobView) : Type 0 where
-  owner : is_some j.owner ≡ true
-  name : is_some j.name ≡ true
-  priority : is_some j.priority ≡ true
-  nodes : is_some j.nodes ≡ true
-  limit : is_some j.limit ≡ true
-  account : is_some j.account ≡ true
-
-fields_of : (j : JobView) → is_submitted j ≡ true → Fields j
-fields_of j e =
-    let a = and_parts (is_some j.owner) _ e in
-    let b = and_parts (is_some j.name) _ a.1 in
-    let c = and_parts (is_some j.priority) _ b.1 in
-    let d = and_parts (is_some j.nodes) _ c.1 in
-    let f = and_parts (is_some j.limit) (is_some j.account) d.1 in
-    record { owner = a.0; name = b.0; priority = c.0; nodes = d.0; limit = f.0; account = f.1 }
-
-from_fields : (j : JobView) → Fields j → is_submitted j ≡ true
-from_fields j f = and_from _ _ f.owner (and_from _ _ f.name (and_from _ _ f.priority (and_from _ _ f.nodes (and_from _ _ f.limit f.account))))
+  pub set_more : (x : Option (StampValue × T)) (s : StampValue) (o : Option T) → is_some x ≡ true → is_some (applied_option (set_register cmp) x s o) ≡ true
+  set_more x s None e = e
+  set_more x s (Some c) e = set_left x (Some (s, c)) e
 
 pub submitted_added : (s : StampValue) (b : Body) (j : JobView) → is_submitted j ≡ true → is_submitted (add_to_job s b j) ≡ true
 unfolding add_to_job
-submitted_added s b j e =
-    let f = fields_of j e in
-    from_fields (add_to_job s b j) (record {
-      owner = set_left name_cmp j.owner (with_stamp s (owner_in b)) f.owner;
-      name = set_left name_cmp j.name (with_stamp s (name_in b)) f.name;
-      priority = set_left int_cmp j.priority (with_stamp s (priority_in b)) f.priority;
-      nodes = set_left nat_cmp j.nodes (with_stamp s (nodes_in b)) f.nodes;
-      limit = set_left nat_cmp j.limit (with_stamp s (limit_in b)) f.limit;
-      account = set_left account_cmp j.account (with_stamp s (account_in b)) f.account;
-    })
+submitted_added s b j e = fields_changed (λ _. is_some) (λ _. is_some) s (λ _ cmp x o i. set_more cmp x s o i) j.fields (fields_in b) e
 
 -- a Submit sets all fields
 pub submitted_by : (s : StampValue) (owner : List ℕ) (values : JobValues) (held : Bool) (j : JobView) → is_submitted (add_to_job s (Submit owner values held) j) ≡ true
 unfolding add_to_job
-submitted_by s owner values held j = from_fields (add_to_job s (Submit owner values held) j) (record {
-  owner = set_right name_cmp j.owner (Some (s, owner)) refl;
-  name = set_right name_cmp j.name (Some (s, values.name)) refl;
-  priority = set_right int_cmp j.priority (Some (s, values.priority)) refl;
-  nodes = set_right nat_cmp j.nodes (Some (s, values.nodes)) refl;
-  limit = set_right nat_cmp j.limit (Some (s, values.limit)) refl;
-  account = set_right account_cmp j.account (Some (s, values.account)) refl;
-})
+submitted_by s owner values held j =
+    let set : JobFields = changed_fields empty_fields s (fields_in (Submit owner values held)) in
+    fields_joined (λ _ _. true) (λ _. is_some) (λ _. is_some) (λ _ cmp x y _ e. set_right cmp x y e) j.fields set refl refl
 
 module _ (v w : List ℕ) (j k : JobView) where
   pub submitted_left : is_submitted j ≡ true → is_submitted (join_jobs v j w k) ≡ true
   unfolding join_jobs
-  submitted_left e =
-      let f = fields_of j e in
-      from_fields (join_jobs v j w k) (record {
-        owner = set_left name_cmp j.owner k.owner f.owner;
-        name = set_left name_cmp j.name k.name f.name;
-        priority = set_left int_cmp j.priority k.priority f.priority;
-        nodes = set_left nat_cmp j.nodes k.nodes f.nodes;
-        limit = set_left nat_cmp j.limit k.limit f.limit;
-        account = set_left account_cmp j.account k.account f.account;
-      })
+  submitted_left e = fields_joined (λ _. is_some) (λ _ _. true) (λ _. is_some) (λ _ cmp x y i _. set_left cmp x y i) j.fields k.fields e refl
 
   pub submitted_right : is_submitted k ≡ true → is_submitted (join_jobs v j w k) ≡ true
   unfolding join_jobs
-  submitted_right e =
-      let f = fields_of k e in
-      from_fields (join_jobs v j w k) (record {
-        owner = set_right name_cmp j.owner k.owner f.owner;
-        name = set_right name_cmp j.name k.name f.name;
-        priority = set_right int_cmp j.priority k.priority f.priority;
-        nodes = set_right nat_cmp j.nodes k.nodes f.nodes;
-        limit = set_right nat_cmp j.limit k.limit f.limit;
-        account = set_right account_cmp j.account k.account f.account;
-      })
+  submitted_right e = fields_joined (λ _ _. true) (λ _. is_some) (λ _. is_some) (λ _ cmp x y _ i. set_right cmp x y i) j.fields k.fields refl e

@@ -17,7 +17,8 @@ use Rattle.fed_model.specs.Letter.{is_submitted}
 use Rattle.fed_model.specs.Reservation.{ReservationView}
 use Rattle.fed_record.specs.Reservation.{window_change}
 use Rattle.fed_theory.specs.ValueOrders.{option_window_cmp}
-use Rattle.fed_board.specs.CoveredJob.{IsCoveredRegister, IsCoveredJob}
+use Rattle.fed_record.specs.JobRecordSteps.{empty_record}
+use Rattle.fed_record.specs.CoveredJob.{covers_register, IsCoveredJob}
 use Rattle.fed_model.specs.View.{View}
 
 -- a version, the records of jobs by the stamps of their Submits, and the reservations by the stamps of their Reserves
@@ -28,13 +29,7 @@ pub record BoardValue : Type 0 where
 
 -- the record of a job that has no operation
 abbrev pub no_operation : JobRecordValue
-no_operation = record {
-  fields = record { owner = None; name = None; priority = None; nodes = None; limit = None; account = None };
-  holds = [];
-  sites = [];
-  stages = record { deleted = false; grant = None; begun = None; finished = None };
-  touched = replicate SITES 0;
-}
+no_operation = empty_record
 
 -- a board stands for a set of operations where it reads as the set's view. A job that is not on the board reads as
 -- one without operations, and so does a reservation
@@ -60,7 +55,7 @@ pub record IsKnownReservation (version : List ℕ) (id : StampValue) (r : Reserv
   pub placed : id.site < SITES
   pub named : covers version id ≡ true
   pub made : IsSome r
-  pub stamp : IsCoveredRegister version r
+  pub stamp : covers_register version r ≡ true
 
 -- what holds of every board
 pub record IsBoard (b : BoardValue) : Type 0 where

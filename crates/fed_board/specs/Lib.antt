@@ -1,5 +1,4 @@
 -- What the contracts of this crate cite.
-pub mod CoveredJob
 pub mod Board
 pub mod Counts
 pub mod BoardLaws

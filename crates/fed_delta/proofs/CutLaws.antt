@@ -1,6 +1,7 @@
 -- A cut of what a kin set tells, joined to what a set tells that has seen all that the cut needs, is the whole.
 use Rattle.std.proofs.Common.{◌≡◌, ℕ, List, [], ◌++◌, Bool, true, false, cond, not, replicate, Some, None, IfSome, refl, sym, ap, ◌∙◌}
 use Rattle.std.proofs.lemmas.Bool.{not-false}
+use Rattle.std.proofs.lemmas.Option.{IfSome_then}
 use Rattle.fed_stamp.specs.Stamp.{StampValue}
 use Rattle.fed_stamp.specs.Version.{covers, joined, is_below}
 use Rattle.fed_stamp.proofs.VersionLaws.{covers_more, below_trans}
@@ -16,7 +17,6 @@ use Rattle.fed_theory.specs.ValueOrders.{option_window_cmp}
 use Rattle.fed_model.specs.Lawful.{AreKin}
 use Rattle.fed_model.specs.View.{View, view}
 use Rattle.fed_theory.specs.ViewSteps.{join_views, join_records}
-use Rattle.fed_board.proofs.CoveredJobs.{later_covered}
 use Rattle.fed_theory.proofs.KnownLaws.{untouched_job, covered_reservation}
 use Rattle.fed_theory.proofs.SubmitLaws.{unknown_view}
 use Rattle.fed_theory.proofs.VersionGrowth.{zeros_below}
@@ -73,7 +73,7 @@ module _ (ops others : History Body) (kin : AreKin ops others) (need : List ℕ)
   reservation_joined id true e = sym (union_reservation id)
   reservation_joined id false e =
       joined_none ((view ops).reservation id)
-      ∙ sym (covered_reservation ops others kin id (later_covered (λ latest. latest.0) need (version_of ops) (λ s. covers_more need (version_of ops) s below) ((view others).reservation id) (covered need ((view others).reservation id) e)))
+      ∙ sym (covered_reservation ops others kin id (IfSome_then ((view others).reservation id) (covered need ((view others).reservation id) e) (λ latest. covers_more need (version_of ops) latest.0 below)))
 
   cut_joins : join_records (view ops) (cut (view others) need) ≡ view (ops ++ others)
   unfolding join_records cut

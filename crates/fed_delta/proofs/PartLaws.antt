@@ -25,8 +25,7 @@ use Rattle.fed_record.specs.Record.{AreCovered}
 use Rattle.fed_record.specs.JobRecord.{JobRecordValue, job_reads}
 use Rattle.fed_model.specs.Letter.{is_submitted}
 use Rattle.fed_board.specs.Board.{IsKnownJob}
-use Rattle.fed_board.specs.CoveredJob.{AreCoveredPairs, IsCoveredAt}
-use Rattle.fed_delta.specs.Parts.{covers_at, covers_fields, covers_stages}
+use Rattle.fed_record.specs.CoveredJob.{AreCoveredPairs, covers_stamps}
 
 -- ---- what stands at each identifier, entry by entry
 module _ {X : Type 0} (P : StampValue → X → Type 0) where
@@ -70,68 +69,21 @@ module _ {X : Type 0} (P : StampValue → X → Type 0) where
   left_none all it before none = (subst (IsLeft all) none before).0 tt
 
 -- ---- a job
-and_parts : (a b : Bool) → (a && b) ≡ true → (a ≡ true) × (b ≡ true)
-and_parts true b e = (refl, e)
-and_parts false b e = cc
-
-and_from : (a b : Bool) → a ≡ true → b ≡ true → (a && b) ≡ true
-and_from true b e f = f
-and_from false b e f = cc
-
-covered_at : {T : Type 0} (stamp : T → StampValue) (v : List ℕ) (o : Option T) → covers_at stamp v o ≡ true → IsCoveredAt stamp v o
-covered_at stamp v None e = tt
-covered_at stamp v (Some x) e = e
-
-covers_it : {T : Type 0} (stamp : T → StampValue) (v : List ℕ) (o : Option T) → IsCoveredAt stamp v o → covers_at stamp v o ≡ true
-covers_it stamp v None h = refl
-covers_it stamp v (Some x) h = h
-
 live_pairs : {E : Type 0} (cmp : E → E → Ordering) → IsTotalOrder cmp → CmpEqualImpliesEq cmp → (v : List ℕ) (ps : List (E × StampValue)) → AreCovered v ps
     → AreCoveredPairs v (λ element tag. has (pair_cmp cmp) ps (element, tag))
 live_pairs cmp o exact v ps covered element tag live = (covered (element, tag) (member (pair_cmp cmp) (pair_total cmp o) (exact_pair cmp exact) (element, tag) ps live)).1
 
-module _ (version t : List ℕ) (id : StampValue) (r : JobRecordValue) (same : t ≡ r.touched) where
-  abbrev covered_fields : List ℕ → Bool
-  covered_fields v = covers_fields v (job_reads r)
-
-  abbrev covered_stages : List ℕ → Bool
-  covered_stages v = covers_stages v (job_reads r)
-
-  pub known_job : id.site < 16 → covers version id ≡ true → is_below t version ≡ true → is_submitted (job_reads r) ≡ true → IsVersion t → AreCovered r.touched r.holds → AreCovered r.touched r.sites
-      → covered_fields t ≡ true → covered_stages t ≡ true → IsKnownJob version id r
-  known_job placed named below submitted lawful holds sites fields stages =
-      let f = subst (λ v. covered_fields v ≡ true) same fields in
-      let g = subst (λ v. covered_stages v ≡ true) same stages in
-      let f5 = and_parts _ _ f in
-      let f4 = and_parts _ _ f5.0 in
-      let f3 = and_parts _ _ f4.0 in
-      let f2 = and_parts _ _ f3.0 in
-      let f1 = and_parts _ _ f2.0 in
-      let s2 = and_parts _ _ g in
-      let s1 = and_parts _ _ s2.0 in
-      record {
-        placed = placed;
-        named = named;
-        submitted = submitted;
-        touched = subst (λ v. is_below v version ≡ true) same below;
-        stamps = record {
-          counters = (subst IsVersion same lawful).0;
-          owner = covered_at _ r.touched r.fields.owner f1.0;
-          name = covered_at _ r.touched r.fields.name f1.1;
-          priority = covered_at _ r.touched r.fields.priority f2.1;
-          nodes = covered_at _ r.touched r.fields.nodes f3.1;
-          limit = covered_at _ r.touched r.fields.limit f4.1;
-          account = covered_at _ r.touched r.fields.account f5.1;
-          sites = live_pairs nat_cmp nat_cmp_total exact_unsigned r.touched r.sites sites;
-          holds = live_pairs kind_cmp kind_total exact_kind r.touched r.holds holds;
-          grant = covered_at _ r.touched r.stages.grant s1.0;
-          begun = covered_at _ r.touched r.stages.begun s1.1;
-          finished = covered_at _ r.touched r.stages.finished s2.1;
-        };
-      }
-
-  pub stages_known : IsKnownJob version id r → covered_stages t ≡ true
-  stages_known known =
-      let k = known.stamps in
-      subst (λ v. covered_stages v ≡ true) (sym same)
-      (and_from _ _ (and_from _ _ (covers_it _ r.touched r.stages.grant k.grant) (covers_it _ r.touched r.stages.begun k.begun)) (covers_it _ r.touched r.stages.finished k.finished))
+pub known_job : (version t : List ℕ) (id : StampValue) (r : JobRecordValue) → t ≡ r.touched → id.site < 16 → covers version id ≡ true → is_below t version ≡ true
+    → is_submitted (job_reads r) ≡ true → IsVersion t → AreCovered r.touched r.holds → AreCovered r.touched r.sites → covers_stamps (job_reads r) ≡ true → IsKnownJob version id r
+known_job version t id r same placed named below submitted lawful holds sites stamps = record {
+  placed = placed;
+  named = named;
+  submitted = submitted;
+  touched = subst (λ v. is_below v version ≡ true) same below;
+  stamps = record {
+    counters = (subst IsVersion same lawful).0;
+    stamps = stamps;
+    sites = live_pairs nat_cmp nat_cmp_total exact_unsigned r.touched r.sites sites;
+    holds = live_pairs kind_cmp kind_total exact_kind r.touched r.holds holds;
+  };
+}

@@ -1,48 +1,12 @@
 //! Whether records may be those of a delta.
-ghost use Rattle.std.specs.Prelude.{◌≡◌, ◌↔◌, IsTrue};
+ghost use Rattle.std.specs.Prelude.{◌↔◌, IsTrue};
 ghost use Rattle.fed_lattice.specs.Latest.{stamp_cmp};
 ghost use Rattle.fed_lattice.specs.Table.{IsAtEach};
-ghost use Rattle.fed_record.specs.JobRecord.{job_reads};
-ghost use Rattle.fed_model.specs.Letter.{is_submitted};
 ghost use Rattle.fed_board.specs.Board.{IsBoard, IsKnownJob, IsKnownReservation};
-ghost use Rattle.fed_delta.specs.Parts.{covers_fields as are_fields_covered, covers_stages as are_stages_covered};
 
 use fed_lattice::Table;
 use fed_record::{JobRecord, Reservation, tags_are_covered};
 use fed_stamp::{JobId, Stamp, Version, site_is_in_range, version_is_in_range};
-
-/// Whether the version covers the stamp of each field.
-fn covers_fields(version: &Version, job: &JobRecord) -> bool
-    requires { IsTrue (is_submitted (job_reads job.now)) }
-    ensures { result ≡ are_fields_covered version.now (job_reads job.now) }
-{
-    version.covers(job.owner().0)
-        && version.covers(job.name().0)
-        && version.covers(job.priority().0)
-        && version.covers(job.nodes().0)
-        && version.covers(job.limit().0)
-        && version.covers(job.account().0)
-}
-
-/// Whether the version covers the stamps of the grant, the Begin and the Finish.
-fn covers_stages(version: &Version, job: &JobRecord) -> bool
-    ensures { result ≡ are_stages_covered version.now (job_reads job.now) }
-{
-    let progress = job.progress();
-    let grant = match job.grant() {
-        Some(grant) => version.covers(grant.stamp()),
-        None => true,
-    };
-    let begun = match progress.begun {
-        Some((stamp, _)) => version.covers(stamp),
-        None => true,
-    };
-    let finished = match progress.finished {
-        Some((stamp, _)) => version.covers(stamp),
-        None => true,
-    };
-    grant && begun && finished
-}
 
 /// Whether a board of the version may have the job with this identifier.
 fn is_known_job(version: &Version, id: JobId, job: &JobRecord) -> bool
@@ -55,10 +19,10 @@ fn is_known_job(version: &Version, id: JobId, job: &JobRecord) -> bool
     if !version.covers(id) || !touched.le(version) {
         return false;
     }
-    if !job.is_submitted() || !covers_fields(&touched, job) {
+    if !job.is_submitted() {
         return false;
     }
-    covers_stages(&touched, job)
+    job.has_covered_stamps()
 }
 
 /// Whether a board of the version may have the reservation with this identifier.

@@ -110,8 +110,8 @@ with_id capacity id granted (Some p) (Some n) None q e = absurd cc
 pub queued_id : (site capacity : ℕ) (id : StampValue) (j : JobView) (q : QueuedJob) → queued site capacity id j ≡ Some q → id ≡ q.id
 queued_id site capacity id j q e = go (is_waiting site j) e
   where
-    go : (t : Bool) → cond t (queued_with capacity id (is_granted_to j site) j.priority j.nodes j.limit) None ≡ Some q → id ≡ q.id
-    go true e = with_id capacity id (is_granted_to j site) j.priority j.nodes j.limit q e
+    go : (t : Bool) → cond t (queued_with capacity id (is_granted_to j site) j.fields.priority j.fields.nodes j.fields.limit) None ≡ Some q → id ≡ q.id
+    go true e = with_id capacity id (is_granted_to j site) j.fields.priority j.fields.nodes j.fields.limit q e
     go false e = absurd cc
 
 -- ---- the queue of a site

@@ -54,7 +54,7 @@ entry_of site (Some begun) =
 
 -- the entry of a job, if the site has begun it and it is not finished
 abbrev pub running_of : ℕ → JobView → Option Running
-running_of site j = if is_some j.finished then None else entry_of site j.begun
+running_of site j = if is_some j.stages.finished then None else entry_of site j.stages.begun
 
 -- the entries of the jobs that the site has begun and that are not finished, in the order of their stamps
 abbrev pub running_in : ℕ → View → List Running

@@ -12,7 +12,7 @@ use Rattle.fed_easy.specs.QueueOrder.{queue_cmp}
 
 -- submitted and not gone, begun or held, granted to none or to the site, and the site is among its sites
 abbrev pub is_waiting : ℕ → JobView → Bool
-is_waiting site j = is_submitted j && not (is_gone j) && is_none j.begun && not (is_held j)
+is_waiting site j = is_submitted j && not (is_gone j) && is_none j.stages.begun && not (is_held j)
     && (not (is_granted j) || is_granted_to j site) && has_site j site
 
 -- the job with what is read of it, if it needs at most the machine's nodes
@@ -26,7 +26,7 @@ queued_with capacity id granted _ _ _ = None
 -- the job as it stands in the queue, if it does
 abbrev pub queued : ℕ → ℕ → StampValue → JobView → Option QueuedJob
 queued site capacity id j =
-    if is_waiting site j then queued_with capacity id (is_granted_to j site) j.priority j.nodes j.limit else None
+    if is_waiting site j then queued_with capacity id (is_granted_to j site) j.fields.priority j.fields.nodes j.fields.limit else None
 
 -- the jobs that wait at a site of so many nodes
 abbrev pub waiting_in : ℕ → ℕ → View → List QueuedJob

@@ -9,7 +9,8 @@ use Rattle.fed_stamp.specs.declared.rosters.TheConstants.{MAX_NODES}
 use Rattle.fed_model.specs.declared.limits.TheConstants.{MAX_LIMIT}
 use Rattle.fed_model.specs.declared.holds.HoldKind.{HoldKind}
 use Rattle.fed_model.specs.Hold.{kind_cmp}
-use Rattle.fed_record.specs.JobRecord.{FieldsValue, StagesValue, job_reads}
+use Rattle.fed_model.specs.JobView.{JobFields, JobStages}
+use Rattle.fed_record.specs.JobRecord.{job_reads}
 use Rattle.fed_json.specs.declared.flaws.Flaw.TheVariants.{Shape}
 use Rattle.fed_json.specs.Reading.{◌>>=◌, where_true}
 use Rattle.fed_json.specs.Numbers.{natural_value, integer_value}
@@ -89,7 +90,7 @@ account_in_part : (format : Format) → IsPartForm (account_of format) (λ x. (a
 account_in_part One = mapped_part (member_of (codes "id") stamp_of) (λ s. (codes "id", stamp_value s) ∷ []) IsStamp (λ s. Some (s, None)) (λ x. (codes "id", id_value x) ∷ []) (IsAccountHere One) id_part (λ s h. (refl, h)) account_back
 account_in_part Two = account_part
 
-abbrev fields_named : Format → FieldsValue → Named
+abbrev fields_named : Format → JobFields → Named
 fields_named format f =
     (codes "owner", field_value string f.owner) ∷
     (codes "name", field_value string f.name) ∷
@@ -98,7 +99,7 @@ fields_named format f =
     (codes "limit", field_value natural_value f.limit) ∷
     (account_name format, account_named format f.account) ∷ []
 
-abbrev pub AreFields : Format → FieldsValue → Type 0
+abbrev pub AreFields : Format → JobFields → Type 0
 AreFields format f = (IsField IsName f.owner × IsField IsName f.name) × (IsField IsPriority f.priority ×
     ((IsField (IsFrom 1 MAX_NODES) f.nodes × IsField (IsFrom 1 MAX_LIMIT) f.limit) × IsAccountHere format f.account))
 
@@ -125,13 +126,13 @@ pairs_part : IsPartForm pairs_of pairs_named AreBothPairs
 unfolding pairs_of
 pairs_part = both_part _ _ _ _ _ _ (member_part (codes "holds") holds_of holds_value _ holds_form) (member_part (codes "sites") sites_of sites_value _ sites_form)
 
-abbrev stages_named : Format → StagesValue → Named
+abbrev stages_named : Format → JobStages → Named
 stages_named format s =
     (codes "deleted", boolean s.deleted) ∷
     (codes "grant", grant_value format s.grant) ∷
     (codes "progress", progress_value (s.begun, s.finished)) ∷ []
 
-abbrev pub AreStages : Format → StagesValue → Type 0
+abbrev pub AreStages : Format → JobStages → Type 0
 AreStages format s = Unit {0} × (IsGrant format s.grant × IsProgress (s.begun, s.finished))
 
 stages_part : (format : Format) → IsPartForm (stages_of format) (stages_named format) (AreStages format)
@@ -172,10 +173,10 @@ one_from_parts : (d : Data) (j : Job) → HasMembers (parts_named One j) d → H
 unfolding job_members
 one_from_parts d (id, r) h = (h.1.1.1.1.1.1.1.1.1.0, (h.1.1.1.1.1.1.1.1.1.1.0, (h.1.1.1.1.1.1.1.0, (h.0, (h.1.1.1.1.1.0, (h.1.1.0, (h.1.1.1.1.0, (h.1.0, (h.1.1.1.0, (h.1.1.1.1.1.1.1.1.1.1.1.0, (h.1.1.1.1.1.1.1.1.0, (h.1.1.1.1.1.1.1.1.1.1.1.1.0, tt))))))))))))
 
-one_to_parts : (d : Data) (j : Job) → stamp_value j.0 ≡ id_value (job_reads j.1).account → HasMembers (job_members One j) d → HasMembers (parts_named One j) d
+one_to_parts : (d : Data) (j : Job) → stamp_value j.0 ≡ id_value (job_reads j.1).fields.account → HasMembers (job_members One j) d → HasMembers (parts_named One j) d
 unfolding job_members
 one_to_parts d (id, r) e h =
-    let same : ◌≡◌ {A = Option Data} (Some (stamp_value id)) (Some (id_value (job_reads r).account)) = ap (λ (d : Data). Some d) e in
+    let same : ◌≡◌ {A = Option Data} (Some (stamp_value id)) (Some (id_value (job_reads r).fields.account)) = ap (λ (d : Data). Some d) e in
     (h.1.1.1.0, (h.1.1.1.1.1.1.1.0, (h.1.1.1.1.1.0, (h.1.1.1.1.1.1.1.1.0, (h.1.1.1.1.1.1.0, (h.1.1.1.1.0, ((h.1.1.1.0 ∙ same), (h.1.1.0, (h.1.1.1.1.1.1.1.1.1.1.0, (h.0, (h.1.0, (h.1.1.1.1.1.1.1.1.1.0, (h.1.1.1.1.1.1.1.1.1.1.1.0, tt)))))))))))))
 
 same_stamp : (s t : StampValue) → IsStamp s → IsStamp t → stamp_value s ≡ stamp_value t → s ≡ t
@@ -190,7 +191,7 @@ account_is id (Some (s, None)) h i e = ap (λ (s : StampValue). Some (s, None)) 
 account_is id (Some (s, Some name)) h i e = absurd i
 
 -- what the two ranges say of each other
-in_range : (format : Format) (j : Job) → AreParts format j → IsAccountIn format j.0 (job_reads j.1).account → covers_job j ≡ true → IsJob format j
+in_range : (format : Format) (j : Job) → AreParts format j → IsAccountIn format j.0 (job_reads j.1).fields.account → covers_job j ≡ true → IsJob format j
 in_range format (id, r) h account covered = record {
   id = h.0;
   owner = h.1.0.0.0;
@@ -207,7 +208,7 @@ in_range format (id, r) h account covered = record {
   covered = covered;
 }
 
-parts_in_range : (format : Format) (j : Job) → IsJob format j → IsAccountHere format (job_reads j.1).account → AreParts format j
+parts_in_range : (format : Format) (j : Job) → IsJob format j → IsAccountHere format (job_reads j.1).fields.account → AreParts format j
 parts_in_range format (id, r) h account = (h.id, (((h.owner, h.name), (h.priority, ((h.nodes, h.limit), account))), ((h.holds, h.sites), ((tt, (h.grant, h.progress)), h.touched))))
 
 distinct : (format : Format) (j : Job) → are_distinct (names_in (job_members format j)) ≡ true
@@ -220,9 +221,9 @@ unfolding job_members
 names_are One (id, r) = refl
 names_are Two (id, r) = refl
 
-taken : (format : Format) (d : Data) (j : Job) → HasMembers (parts_named format j) d → AreParts format j → HasMembers (job_members format j) d × IsAccountIn format j.0 (job_reads j.1).account
+taken : (format : Format) (d : Data) (j : Job) → HasMembers (parts_named format j) d → AreParts format j → HasMembers (job_members format j) d × IsAccountIn format j.0 (job_reads j.1).fields.account
 taken One d (id, r) h i =
-    (one_from_parts d (id, r) h, account_is id (job_reads r).account i.0 i.1.0.1.1.1 (same_data (get (codes "id") d) (stamp_value id) (id_value (job_reads r).account) h.0 h.1.1.1.1.1.1.0))
+    (one_from_parts d (id, r) h, account_is id (job_reads r).fields.account i.0 i.1.0.1.1.1 (same_data (get (codes "id") d) (stamp_value id) (id_value (job_reads r).fields.account) h.0 h.1.1.1.1.1.1.0))
 taken Two d (id, r) h i = (two_from_parts d (id, r) h, i.1.0.1.1.1)
 
 job_takes : (format : Format) (d : Data) (j : Job) → job_of format d ≡ Ok j → (d ≡ job_value format j) × IsJob format j
@@ -242,7 +243,7 @@ here : (format : Format) (id : StampValue) (account : AccountField) → IsStamp 
 here One id account h i = subst (λ (a : AccountField). IsAccountHere One a) (sym i) h
 here Two id account h i = i
 
-put_back : (format : Format) (d : Data) (j : Job) → IsAccountIn format j.0 (job_reads j.1).account → HasMembers (job_members format j) d → HasMembers (parts_named format j) d
+put_back : (format : Format) (d : Data) (j : Job) → IsAccountIn format j.0 (job_reads j.1).fields.account → HasMembers (job_members format j) d → HasMembers (parts_named format j) d
 put_back One d (id, r) i h = one_to_parts d (id, r) (sym (ap id_value i)) h
 put_back Two d (id, r) i h = two_to_parts d (id, r) h
 
@@ -251,7 +252,7 @@ unfolding job_of
 job_again format j h =
     let named : has_names (job_names format) (job_value format j) ≡ true = rw (← names_are format j) (object_named (job_members format j)) in
     let members = put_back format (job_value format j) j h.account (object_has (job_members format j) (distinct format j)) in
-    let read = (parts_part format).again (job_value format j) j members (parts_in_range format j h (here format j.0 (job_reads j.1).account h.id h.account)) in
+    let read = (parts_part format).again (job_value format j) j members (parts_in_range format j h (here format j.0 (job_reads j.1).fields.account h.id h.account)) in
     rw (named, read, h.covered) refl
 
 -- just the values of jobs in range are read

@@ -18,7 +18,7 @@ use Rattle.fed_job_json.specs.declared.formats.Format.{Format}
 use Rattle.fed_model.specs.Ranges.{IsStamp}
 use Rattle.fed_job_json.specs.Stamps.{stamp_of}
 use Rattle.fed_job_json.specs.Pairs.{ascends, pairs_of}
-use Rattle.fed_job_json.specs.Covers.{covers_pairs, covers_job}
+use Rattle.fed_job_json.specs.Covers.{covers_pairs, covers_tags, covers_job}
 use Rattle.fed_job_json.specs.Job.{Job, job_names, parts_of, job_of}
 use Rattle.fed_job_json.proofs.PairLaws.{ascending_where_sorted, sorted_where_ascending}
 
@@ -51,17 +51,11 @@ pairs_covered P v (q ∷ ps) h e p (inr has) =
     pairs_covered P v ps h.1 t.1 p has
 
 -- what is covered in a job
-pub holds_covered : (j : Job) → covers_job j ≡ true → covers_pairs j.1.touched j.1.holds ≡ true
-holds_covered j e =
-    let t = and_parts _ _ e in
-    let u = and_parts _ _ t.0 in
-    (and_parts (covers_pairs j.1.touched j.1.holds) (covers_pairs j.1.touched j.1.sites) u.1).0
+pub holds_covered : (j : Job) → covers_tags j ≡ true → covers_pairs j.1.touched j.1.holds ≡ true
+holds_covered j e = (and_parts (covers_pairs j.1.touched j.1.holds) _ (and_parts (covers j.1.touched j.0) _ e).1).0
 
-pub sites_covered : (j : Job) → covers_job j ≡ true → covers_pairs j.1.touched j.1.sites ≡ true
-sites_covered j e =
-    let t = and_parts _ _ e in
-    let u = and_parts _ _ t.0 in
-    (and_parts (covers_pairs j.1.touched j.1.holds) (covers_pairs j.1.touched j.1.sites) u.1).1
+pub sites_covered : (j : Job) → covers_tags j ≡ true → covers_pairs j.1.touched j.1.sites ≡ true
+sites_covered j e = (and_parts (covers_pairs j.1.touched j.1.holds) _ (and_parts (covers j.1.touched j.0) _ e).1).1
 
 -- ---- jobs
 

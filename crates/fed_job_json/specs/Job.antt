@@ -4,7 +4,8 @@ use Rattle.std.specs.Ordering.{nat_cmp}
 use Rattle.serde_json.specs.Data.{Data, boolean, string}
 use Rattle.fed_stamp.specs.Stamp.{StampValue}
 use Rattle.fed_model.specs.Hold.{kind_cmp}
-use Rattle.fed_record.specs.JobRecord.{JobRecordValue, FieldsValue, StagesValue, job_reads}
+use Rattle.fed_model.specs.JobView.{JobFields, JobStages}
+use Rattle.fed_record.specs.JobRecord.{JobRecordValue, job_reads}
 use Rattle.fed_json.specs.declared.flaws.Flaw.TheVariants.{Shape}
 use Rattle.fed_json.specs.Reading.{Reading, ◌>>=◌, mapped, both, where_true}
 use Rattle.fed_json.specs.Numbers.{natural_value, integer_value}
@@ -35,22 +36,22 @@ account_members Two account = (codes "account", field_value account_value accoun
 
 abbrev pub other_members : Format → Job → Named
 other_members format (id, r) =
-    (codes "deleted", boolean (job_reads r).deleted) ∷
-    (codes "grant", grant_value format (job_reads r).grant) ∷
+    (codes "deleted", boolean (job_reads r).stages.deleted) ∷
+    (codes "grant", grant_value format (job_reads r).stages.grant) ∷
     (codes "holds", holds_value r.holds) ∷
     (codes "id", stamp_value id) ∷
-    (codes "limit", field_value natural_value (job_reads r).limit) ∷
-    (codes "name", field_value string (job_reads r).name) ∷
-    (codes "nodes", field_value natural_value (job_reads r).nodes) ∷
-    (codes "owner", field_value string (job_reads r).owner) ∷
-    (codes "priority", field_value integer_value (job_reads r).priority) ∷
-    (codes "progress", progress_value ((job_reads r).begun, (job_reads r).finished)) ∷
+    (codes "limit", field_value natural_value (job_reads r).fields.limit) ∷
+    (codes "name", field_value string (job_reads r).fields.name) ∷
+    (codes "nodes", field_value natural_value (job_reads r).fields.nodes) ∷
+    (codes "owner", field_value string (job_reads r).fields.owner) ∷
+    (codes "priority", field_value integer_value (job_reads r).fields.priority) ∷
+    (codes "progress", progress_value ((job_reads r).stages.begun, (job_reads r).stages.finished)) ∷
     (codes "sites", sites_value r.sites) ∷
     (codes "touched", version_value (job_reads r).touched) ∷
     []
 
 unfoldable pub job_members : Format → Job → Named
-job_members format j = account_members format (job_reads j.1).account ++ other_members format j
+job_members format j = account_members format (job_reads j.1).fields.account ++ other_members format j
 
 abbrev pub job_value : Format → Job → Data
 job_value format j = object_value (job_members format j)
@@ -64,16 +65,16 @@ IsAccountIn Two id account = IsField IsAccount account
 
 pub record IsJobIn (format : Format) (stamp : StampValue) (r : JobRecordValue) : Type 0 where
   pub id : IsStamp stamp
-  pub owner : IsField IsName (job_reads r).owner
-  pub name : IsField IsName (job_reads r).name
-  pub priority : IsField IsPriority (job_reads r).priority
-  pub nodes : IsField (IsFrom 1 MAX_NODES) (job_reads r).nodes
-  pub limit : IsField (IsFrom 1 MAX_LIMIT) (job_reads r).limit
-  pub account : IsAccountIn format stamp (job_reads r).account
+  pub owner : IsField IsName (job_reads r).fields.owner
+  pub name : IsField IsName (job_reads r).fields.name
+  pub priority : IsField IsPriority (job_reads r).fields.priority
+  pub nodes : IsField (IsFrom 1 MAX_NODES) (job_reads r).fields.nodes
+  pub limit : IsField (IsFrom 1 MAX_LIMIT) (job_reads r).fields.limit
+  pub account : IsAccountIn format stamp (job_reads r).fields.account
   pub holds : ArePairs (λ _. Unit {0}) kind_cmp r.holds
   pub sites : ArePairs IsSite nat_cmp r.sites
-  pub grant : IsGrant format (job_reads r).grant
-  pub progress : IsProgress ((job_reads r).begun, (job_reads r).finished)
+  pub grant : IsGrant format (job_reads r).stages.grant
+  pub progress : IsProgress ((job_reads r).stages.begun, (job_reads r).stages.finished)
   pub touched : IsVersion (job_reads r).touched
   pub covered : covers_job (stamp, r) ≡ true
 
@@ -98,7 +99,7 @@ Numbers = Option (StampValue × ℕ) × Option (StampValue × ℕ)
 abbrev pub numbers_of : Data → Reading Numbers
 numbers_of d = both (member_of (codes "nodes") (field_of nodes_of) d) (member_of (codes "limit") (field_of limit_of) d)
 
-unfoldable pub fields_of : Format → Data → Reading FieldsValue
+unfoldable pub fields_of : Format → Data → Reading JobFields
 fields_of format d = mapped (λ p. record {
   owner = p.0.0;
   name = p.0.1;
@@ -112,7 +113,7 @@ fields_of format d = mapped (λ p. record {
 unfoldable pub pairs_of : Data → Reading (List (HoldKind × StampValue) × List (ℕ × StampValue))
 pairs_of d = both (member_of (codes "holds") holds_of d) (member_of (codes "sites") sites_of d)
 
-unfoldable pub stages_of : Format → Data → Reading StagesValue
+unfoldable pub stages_of : Format → Data → Reading JobStages
 stages_of format d = mapped (λ p. record {
   deleted = p.0;
   grant = p.1.0;

@@ -5,14 +5,15 @@ ghost use Rattle.fed_json.specs.Reading.{mapped};
 ghost use Rattle.fed_job_json.specs.Fields.{field_of, name_of, priority_of, nodes_of, limit_of, account_in};
 ghost use Rattle.fed_job_json.specs.Job.{account_of, fields_of};
 ghost use Rattle.fed_job_json.specs.Members.{members_value};
-ghost use Rattle.fed_job_json.specs.Parts.{fields_value};
+ghost use Rattle.fed_record.specs.JobParts.{fields_set};
 
 use crate::formats::Format;
 use crate::members::JobMembers;
-use crate::parts::FieldParts;
 use crate::stamps::read_stamp;
 use fed_json::{Flaw, both, elements, integer, natural, text};
-use fed_record::{Account, Limit, MAX_LIMIT, MAX_PRIORITY, MIN_PRIORITY, Nodes, Priority};
+use fed_record::{
+    Account, FieldParts, Fields, Limit, MAX_LIMIT, MAX_PRIORITY, MIN_PRIORITY, Nodes, Priority,
+};
 use fed_stamp::{MAX_NODES, Stamp, Word};
 use serde_json::Value;
 
@@ -125,7 +126,7 @@ fn account_member(members: &JobMembers<'_>, format: Format) -> Result<(Stamp, Ac
 /// The fields, each beside its stamp; `Shape` where one has another form or the account of format 2 is missing, else
 /// `Range` where a value is out of its range.
 pub fn fields(members: &JobMembers<'_>, format: Format) -> Result<FieldParts, Flaw>
-    ensures { mapped fields_value result ≡ fields_of format (members_value members.now) }
+    ensures { mapped fields_set result ≡ fields_of format (members_value members.now) }
 {
     let names = both(name_field(members.owner), name_field(members.name));
     let numbers = both(nodes_field(members.nodes), limit_field(members.limit));
@@ -133,7 +134,7 @@ pub fn fields(members: &JobMembers<'_>, format: Format) -> Result<FieldParts, Fl
     match both(names, both(priority_field(members.priority), others)) {
         Ok(read) => {
             let (names, (priority, (numbers, account))) = read;
-            Ok(FieldParts {
+            Ok(Fields {
                 owner: names.0,
                 name: names.1,
                 priority,

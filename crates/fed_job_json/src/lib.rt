@@ -20,5 +20,5 @@ pub mod stamps;
 
 pub use formats::Format;
 pub use members::{JobMembers, job_members};
-pub use parts::{FieldParts, ReadJob, StageParts};
+pub use parts::ReadJob;
 pub use stamps::{read_site, read_stamp, read_version};

@@ -6,12 +6,12 @@ ghost use Rattle.fed_model.specs.Hold.{kind_cmp};
 ghost use Rattle.fed_model.specs.Ranges.{IsSite};
 ghost use Rattle.fed_json.specs.Reading.{mapped};
 ghost use Rattle.fed_job_json.specs.Pairs.{ArePairs};
-ghost use Rattle.fed_job_json.specs.Covers.{covers_job};
+ghost use Rattle.fed_job_json.specs.Covers.{covers_tags};
 ghost use Rattle.fed_job_json.specs.Job.{parts_of, job_of};
 ghost use Rattle.fed_job_json.specs.Members.{members_value};
 ghost use Rattle.fed_job_json.specs.Parts.{job_from};
 
-use crate::covers::is_covered;
+use crate::covers::has_covered_tags;
 use crate::stages::stages;
 use fed_job_json::fields::fields;
 use fed_job_json::live_pairs::{holds, sites};
@@ -54,25 +54,16 @@ fn parts(
 fn record(alloc: Global, job: &ReadJob) -> Result<JobRecord, NoMemory>
     requires holds { ArePairs (λ _. Unit {0}) kind_cmp job.now.holds.items }
     requires sites { ArePairs IsSite nat_cmp job.now.sites.items }
-    requires covered { covers_job (job_from job.now) ≡ true }
+    requires covered { covers_tags (job_from job.now) ≡ true }
     ensures { IfOk result (λ r. r ≡ (job_from job.now).1) }
 {
-    let fields = &job.fields;
-    let stages = &job.stages;
     JobRecord::from_parts(
         alloc,
         &JobParts {
-            owner: fields.owner,
-            name: fields.name,
-            priority: fields.priority,
-            nodes: fields.nodes,
-            limit: fields.limit,
-            account: fields.account,
+            fields: job.fields,
             hold_tags: &job.holds,
             site_tags: &job.sites,
-            deleted: stages.deleted,
-            grant: stages.grant,
-            progress: stages.progress,
+            stages: job.stages,
             touched: job.touched,
         },
     )
@@ -93,8 +84,12 @@ pub fn read_job(
         Ok(read) => read,
         Err(flaw) => return Ok(Err(flaw)),
     };
-    if !is_covered(&read) {
+    if !has_covered_tags(&read) {
         return Ok(Err(Flaw::Range));
     }
-    Ok(Ok((read.id, record(alloc, &read)?)))
+    let record = record(alloc, &read)?;
+    if !record.has_covered_stamps() {
+        return Ok(Err(Flaw::Range));
+    }
+    Ok(Ok((read.id, record)))
 }

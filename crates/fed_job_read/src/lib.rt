@@ -1,7 +1,7 @@
 //! Jobs read from JSON values.
 #![tactic(auto)]
 
-/// Whether the version of a job's operations covers every stamp in the job.
+/// Whether the version of a job's operations covers the job's identifier and the tags of its pairs.
 pub mod covers;
 /// Jobs.
 pub mod jobs;

@@ -10,10 +10,10 @@ use Rattle.fed_job_json.specs.Progress.{progress_value}
 use Rattle.fed_job_json.specs.Pairs.{holds_value, sites_value}
 
 unfoldable pub sites_to_owner : JobRecordValue → Members → Members
-sites_to_owner r ms = put (codes "owner") (field_value string (job_reads r).owner) (put (codes "priority") (field_value integer_value (job_reads r).priority) (put (codes "progress") (progress_value ((job_reads r).begun, (job_reads r).finished)) (put (codes "sites") (sites_value r.sites) ms)))
+sites_to_owner r ms = put (codes "owner") (field_value string (job_reads r).fields.owner) (put (codes "priority") (field_value integer_value (job_reads r).fields.priority) (put (codes "progress") (progress_value ((job_reads r).stages.begun, (job_reads r).stages.finished)) (put (codes "sites") (sites_value r.sites) ms)))
 
 unfoldable pub nodes_to_limit : JobRecordValue → Members → Members
-nodes_to_limit r ms = put (codes "limit") (field_value natural_value (job_reads r).limit) (put (codes "name") (field_value string (job_reads r).name) (put (codes "nodes") (field_value natural_value (job_reads r).nodes) ms))
+nodes_to_limit r ms = put (codes "limit") (field_value natural_value (job_reads r).fields.limit) (put (codes "name") (field_value string (job_reads r).fields.name) (put (codes "nodes") (field_value natural_value (job_reads r).fields.nodes) ms))
 
 unfoldable pub holds_to_account : JobRecordValue → Members → Members
-holds_to_account r ms = put (codes "account") (field_value account_value (job_reads r).account) (put (codes "deleted") (boolean (job_reads r).deleted) (put (codes "grant") (grant_value Two (job_reads r).grant) (put (codes "holds") (holds_value r.holds) ms)))
+holds_to_account r ms = put (codes "account") (field_value account_value (job_reads r).fields.account) (put (codes "deleted") (boolean (job_reads r).stages.deleted) (put (codes "grant") (grant_value Two (job_reads r).stages.grant) (put (codes "holds") (holds_value r.holds) ms)))

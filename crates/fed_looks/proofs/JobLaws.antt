@@ -80,15 +80,15 @@ sites_plain roster (site ∷ sites) = sites_plain roster sites
 job_plain : (roster : List (List ℕ × ℕ)) (id : StampValue) (j : JobView) → has_float (job_data roster id j) ≡ false
 unfolding job_members
 job_plain roster id j = members_plain (job_members roster id j) (
-  field_plain _ (λ x. refl) j.account,
+  field_plain _ (λ x. refl) j.fields.account,
   (
-    begun_plain roster j.begun,
+    begun_plain roster j.stages.begun,
     (
       refl,
       (
-        finished_plain j.finished,
+        finished_plain j.stages.finished,
         (
-          grant_plain roster j.grant,
+          grant_plain roster j.stages.grant,
           (
             kinds_plain _ _ _,
             (
@@ -96,15 +96,15 @@ job_plain roster id j = members_plain (job_members roster id j) (
               (
                 letter_plain (letter j),
                 (
-                  field_plain _ (λ x. refl) j.limit,
+                  field_plain _ (λ x. refl) j.fields.limit,
                   (
-                    field_plain _ (λ x. refl) j.name,
+                    field_plain _ (λ x. refl) j.fields.name,
                     (
-                      field_plain _ (λ x. refl) j.nodes,
+                      field_plain _ (λ x. refl) j.fields.nodes,
                       (
-                        field_plain _ (λ x. refl) j.owner,
+                        field_plain _ (λ x. refl) j.fields.owner,
                         (
-                          field_plain _ integer_plain j.priority,
+                          field_plain _ integer_plain j.fields.priority,
                           (sites_plain roster (sites_of j), tt),
                         ),
                       ),

@@ -87,24 +87,24 @@ narrow_from capacity id granted (Some p) None l e = absurd cc
 narrow_from capacity id granted (Some p) (Some n) None e = absurd cc
 
 record Fields (j : JobView) : Type 0 where
-  priority : is_some j.priority ≡ true
-  nodes : is_some j.nodes ≡ true
-  limit : is_some j.limit ≡ true
+  priority : is_some j.fields.priority ≡ true
+  nodes : is_some j.fields.nodes ≡ true
+  limit : is_some j.fields.limit ≡ true
 
 fields_of : (j : JobView) → is_submitted j ≡ true → Fields j
 fields_of j e =
-    let a = and_parts (is_some j.owner) (is_some j.name && (is_some j.priority && (is_some j.nodes && (is_some j.limit && is_some j.account)))) e in
-    let b = and_parts (is_some j.name) (is_some j.priority && (is_some j.nodes && (is_some j.limit && is_some j.account))) a.1 in
-    let c = and_parts (is_some j.priority) (is_some j.nodes && (is_some j.limit && is_some j.account)) b.1 in
-    let d = and_parts (is_some j.nodes) (is_some j.limit && is_some j.account) c.1 in
-    let f = and_parts (is_some j.limit) (is_some j.account) d.1 in
+    let a = and_parts (is_some j.fields.owner) (is_some j.fields.name && (is_some j.fields.priority && (is_some j.fields.nodes && (is_some j.fields.limit && is_some j.fields.account)))) e in
+    let b = and_parts (is_some j.fields.name) (is_some j.fields.priority && (is_some j.fields.nodes && (is_some j.fields.limit && is_some j.fields.account))) a.1 in
+    let c = and_parts (is_some j.fields.priority) (is_some j.fields.nodes && (is_some j.fields.limit && is_some j.fields.account)) b.1 in
+    let d = and_parts (is_some j.fields.nodes) (is_some j.fields.limit && is_some j.fields.account) c.1 in
+    let f = and_parts (is_some j.fields.limit) (is_some j.fields.account) d.1 in
     record { priority = c.0; nodes = d.0; limit = f.0 }
 
 -- ---- jobs that wait
 record Waits (site : ℕ) (j : JobView) : Type 0 where
   submitted : is_submitted j ≡ true
   here : not (is_gone j) ≡ true
-  not_begun : is_none j.begun ≡ true
+  not_begun : is_none j.stages.begun ≡ true
   free : not (is_held j) ≡ true
   opened : (not (is_granted j) || is_granted_to j site) ≡ true
   named : has_site j site ≡ true
@@ -115,10 +115,10 @@ waits_from site j w = rw (w.submitted, w.here, w.not_begun, w.free, w.opened, w.
 waits_parts : (site : ℕ) (j : JobView) → is_waiting site j ≡ true → Waits site j
 waits_parts site j e =
     let opened : Bool = not (is_granted j) || is_granted_to j site in
-    let a = and_parts (is_submitted j && not (is_gone j) && is_none j.begun && not (is_held j) && opened) (has_site j site) e in
-    let b = and_parts (is_submitted j && not (is_gone j) && is_none j.begun && not (is_held j)) opened a.0 in
-    let c = and_parts (is_submitted j && not (is_gone j) && is_none j.begun) (not (is_held j)) b.0 in
-    let d = and_parts (is_submitted j && not (is_gone j)) (is_none j.begun) c.0 in
+    let a = and_parts (is_submitted j && not (is_gone j) && is_none j.stages.begun && not (is_held j) && opened) (has_site j site) e in
+    let b = and_parts (is_submitted j && not (is_gone j) && is_none j.stages.begun && not (is_held j)) opened a.0 in
+    let c = and_parts (is_submitted j && not (is_gone j) && is_none j.stages.begun) (not (is_held j)) b.0 in
+    let d = and_parts (is_submitted j && not (is_gone j)) (is_none j.stages.begun) c.0 in
     let f = and_parts (is_submitted j) (not (is_gone j)) d.0 in
     record { submitted = f.0; here = f.1; not_begun = d.1; free = c.1; opened = b.1; named = a.1 }
 
@@ -127,10 +127,10 @@ module _ (roster : List (List ℕ × ℕ)) (site : ℕ) (id : StampValue) (j : J
   capacity = nodes_at roster site
 
   abbrev Free : Type 0
-  Free = Parts (is_held j) (is_granted j && not (is_granted_to j site)) (has_site j site) (is_narrow capacity j.nodes)
+  Free = Parts (is_held j) (is_granted j && not (is_granted_to j site)) (has_site j site) (is_narrow capacity j.fields.nodes)
 
   free_parts : obstacle_of roster site j ≡ None → Free
-  free_parts e = none_of (is_held j) (is_granted j && not (is_granted_to j site)) (has_site j site) (is_narrow capacity j.nodes) _ _ _ _ e
+  free_parts e = none_of (is_held j) (is_granted j && not (is_granted_to j site)) (has_site j site) (is_narrow capacity j.fields.nodes) _ _ _ _ e
 
   placed_waits : is_submitted j ≡ true → HasPlace roster site j → Waits site j
   placed_waits submitted p =
@@ -148,7 +148,7 @@ module _ (roster : List (List ℕ × ℕ)) (site : ℕ) (id : StampValue) (j : J
   placed_queued submitted p =
       let waits = waits_from site j (placed_waits submitted p) in
       let fields = fields_of j submitted in
-      rw waits (with_fields capacity id (is_granted_to j site) j.priority j.nodes j.limit fields.priority fields.nodes fields.limit (free_parts p.free).narrow)
+      rw waits (with_fields capacity id (is_granted_to j site) j.fields.priority j.fields.nodes j.fields.limit fields.priority fields.nodes fields.limit (free_parts p.free).narrow)
 
   both_of : {X : Type 0} (t : Bool) (o : Option X) → is_some (cond t o None) ≡ true → (t ≡ true) × (is_some o ≡ true)
   both_of true o e = (refl, e)
@@ -165,23 +165,23 @@ module _ (roster : List (List ℕ × ℕ)) (site : ℕ) (id : StampValue) (j : J
 
   pub queued_placed : is_some (queued site capacity id j) ≡ true → (is_submitted j ≡ true) × HasPlace roster site j
   queued_placed e =
-      let both = both_of (is_waiting site j) (queued_with capacity id (is_granted_to j site) j.priority j.nodes j.limit) e in
+      let both = both_of (is_waiting site j) (queued_with capacity id (is_granted_to j site) j.fields.priority j.fields.nodes j.fields.limit) e in
       let w = waits_parts site j both.0 in
-      let begun = no_value j.begun w.not_begun in
-      let gone : not (is_some j.finished || (j.deleted && true)) ≡ true = subst (λ b. not (is_some j.finished || (j.deleted && b)) ≡ true) w.not_begun w.here in
-      let left = not_gone (is_some j.finished) j.deleted gone in
+      let begun = no_value j.stages.begun w.not_begun in
+      let gone : not (is_some j.stages.finished || (j.stages.deleted && true)) ≡ true = subst (λ b. not (is_some j.stages.finished || (j.stages.deleted && b)) ≡ true) w.not_begun w.here in
+      let left = not_gone (is_some j.stages.finished) j.stages.deleted gone in
       let parts : Free = record {
         held = from_not (is_held j) w.free;
         elsewhere = from_open (is_granted j) (is_granted_to j site) w.opened;
         named = w.named;
-        narrow = narrow_from capacity id (is_granted_to j site) j.priority j.nodes j.limit both.1;
+        narrow = narrow_from capacity id (is_granted_to j site) j.fields.priority j.fields.nodes j.fields.limit both.1;
       } in (
         w.submitted,
         record {
           not_deleted = left.1;
-          unfinished = no_finish j.finished left.0;
+          unfinished = no_finish j.stages.finished left.0;
           not_begun = begun;
-          free = of_none (is_held j) (is_granted j && not (is_granted_to j site)) (has_site j site) (is_narrow capacity j.nodes) _ _ _ _ parts;
+          free = of_none (is_held j) (is_granted j && not (is_granted_to j site)) (has_site j site) (is_narrow capacity j.fields.nodes) _ _ _ _ parts;
         },
       )
 

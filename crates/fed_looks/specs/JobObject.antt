@@ -75,19 +75,19 @@ sites_data roster j = list_value (map (site_data roster) (sites_of j))
 
 unfoldable pub job_members : List (List ℕ × ℕ) → StampValue → JobView → Named
 job_members roster id j =
-    (codes "account", field_data (λ account. string (text_of account)) j.account) ∷
-    (codes "begun", begun_data roster j.begun) ∷
-    (codes "deleted", boolean j.deleted) ∷
-    (codes "finished", finished_data j.finished) ∷
-    (codes "grant", grant_data roster j.grant) ∷
+    (codes "account", field_data (λ account. string (text_of account)) j.fields.account) ∷
+    (codes "begun", begun_data roster j.stages.begun) ∷
+    (codes "deleted", boolean j.stages.deleted) ∷
+    (codes "finished", finished_data j.stages.finished) ∷
+    (codes "grant", grant_data roster j.stages.grant) ∷
     (codes "holds", kinds_data (has_hold j User) (has_hold j Operator) (has_hold j System)) ∷
     (codes "id", string (text_of_identifier roster id)) ∷
     (codes "letter", letter_data (letter j)) ∷
-    (codes "limit", field_data natural_value j.limit) ∷
-    (codes "name", field_data string j.name) ∷
-    (codes "nodes", field_data natural_value j.nodes) ∷
-    (codes "owner", field_data string j.owner) ∷
-    (codes "priority", field_data integer_value j.priority) ∷
+    (codes "limit", field_data natural_value j.fields.limit) ∷
+    (codes "name", field_data string j.fields.name) ∷
+    (codes "nodes", field_data natural_value j.fields.nodes) ∷
+    (codes "owner", field_data string j.fields.owner) ∷
+    (codes "priority", field_data integer_value j.fields.priority) ∷
     (codes "sites", sites_data roster j) ∷
     []
 

@@ -47,8 +47,8 @@ obstacle_of roster here j =
     if is_held j then Some (codes "held " ++ text_of_holds j)
     else if is_granted j && not (is_granted_to j here) then Some (codes "granted to " ++ text_of_holder roster (holder j))
     else if not (has_site j here) then Some (codes "not for " ++ text_of_site roster here)
-    else if is_narrow (nodes_at roster here) j.nodes then None
-    else Some (codes "needs " ++ field_text decimal j.nodes ++ codes " of " ++ decimal (nodes_at roster here) ++ codes " nodes")
+    else if is_narrow (nodes_at roster here) j.fields.nodes then None
+    else Some (codes "needs " ++ field_text decimal j.fields.nodes ++ codes " of " ++ decimal (nodes_at roster here) ++ codes " nodes")
 
 -- how far a job has come; one that has not begun waits
 abbrev pub progress_text : List (List ℕ × ℕ) → Option (StampValue × Ending) → Option (StampValue × Beginning) → List ℕ → List ℕ
@@ -58,14 +58,14 @@ progress_text roster None None waiting = waiting
 
 -- of a job that is known, beside the plan of the site
 abbrev pub text_of_job : List (List ℕ × ℕ) → ℕ → StampValue → JobView → Option PlanValue → List ℕ
-text_of_job roster here job j plan = if j.deleted then codes "deleted"
-    else progress_text roster j.finished j.begun (unwrap_or (obstacle_of roster here j) (text_of_place roster job plan))
+text_of_job roster here job j plan = if j.stages.deleted then codes "deleted"
+    else progress_text roster j.stages.finished j.stages.begun (unwrap_or (obstacle_of roster here j) (text_of_place roster job plan))
 
 -- what is told of the job is its place in the plan
 pub record HasPlace (roster : List (List ℕ × ℕ)) (here : ℕ) (j : JobView) : Type 0 where
-  pub not_deleted : j.deleted ≡ false
-  pub unfinished : j.finished ≡ None
-  pub not_begun : j.begun ≡ None
+  pub not_deleted : j.stages.deleted ≡ false
+  pub unfinished : j.stages.finished ≡ None
+  pub not_begun : j.stages.begun ≡ None
   pub free : obstacle_of roster here j ≡ None
 
 -- the job is in the queue of a site of so many nodes

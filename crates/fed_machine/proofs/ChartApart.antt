@@ -89,7 +89,7 @@ stacks (s ∷ ss) bars stack = stacks ss (with_standing bars s) (stack_more bars
 -- ---- the others
 job_apart : (j : JobView) (job : StampValue) (from : ℕ) (bars : List Bar) → AllPairs LiesBelow bars → AllPairs LiesBelow (with_job j job from bars)
 job_apart j job from bars apart =
-    let whole : List Bar = with_bar Head job from (said j.limit) (said j.nodes) bars in
+    let whole : List Bar = with_bar Head job from (said j.fields.limit) (said j.fields.nodes) bars in
     elim (is_submitted j) as (λ v. AllPairs LiesBelow (if v then whole else bars)) [
       | true ↦ apart_more bars _ refl apart
       | false ↦ apart

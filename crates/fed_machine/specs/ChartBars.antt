@@ -36,7 +36,7 @@ said (Some latest) = latest.1
 -- a job that starts has its nodes until its limit
 abbrev pub standing_of_start : StampValue → JobView → Option StandingJob
 standing_of_start job j = if is_submitted j
-    then Some (record { seconds = said j.limit; id = job; nodes = said j.nodes; starts = true }) else None
+    then Some (record { seconds = said j.fields.limit; id = job; nodes = said j.fields.nodes; starts = true }) else None
 
 abbrev pub with_some : List StandingJob → Option StandingJob → List StandingJob
 with_some sorted None = sorted
@@ -106,7 +106,7 @@ with_bar kind id from seconds nodes bars = bars ++ record {
 } ∷ []
 
 abbrev pub with_job : JobView → StampValue → ℕ → List Bar → List Bar
-with_job j job from bars = if is_submitted j then with_bar Head job from (said j.limit) (said j.nodes) bars else bars
+with_job j job from bars = if is_submitted j then with_bar Head job from (said j.fields.limit) (said j.fields.nodes) bars else bars
 
 -- the head of a plan from its second on
 abbrev pub with_head : View → ℕ → Option (StampValue × ℕ) → List Bar → List Bar

@@ -46,7 +46,7 @@ value_in field = option_map_or (λ (latest : StampValue × ℕ). latest.1) field
 
 -- a job that begins at the moment does so on the nodes that it has now, and ends by its limit now
 abbrev pub beginning : JobView → ℕ → Beginning
-beginning j moment = record { moment = moment; nodes = value_in j.nodes; end = moment + value_in j.limit }
+beginning j moment = record { moment = moment; nodes = value_in j.fields.nodes; end = moment + value_in j.fields.limit }
 
 -- the greatest term of the job's grants, or 0 where it has none
 abbrev pub term_in : Option GrantStage → ℕ
@@ -61,8 +61,8 @@ effect v who (Command.Release job kinds) =
     if has_hold_among (v.job job) kinds then Some (Body.Release job (released_holds (v.job job) kinds)) else None
 effect v who (Command.Delete job) = Some (Body.Delete job)
 effect v who (Command.Grant job asker) =
-    if is_granted_to (v.job job) asker then None else Some (Body.Grant job asker (term_in (v.job job).grant + 1))
-effect v who (Command.HandBack job) = Some (Body.HandBack job (term_in (v.job job).grant))
+    if is_granted_to (v.job job) asker then None else Some (Body.Grant job asker (term_in (v.job job).stages.grant + 1))
+effect v who (Command.HandBack job) = Some (Body.HandBack job (term_in (v.job job).stages.grant))
 effect v who (Command.Begin job moment) = Some (Body.Begin job (beginning (v.job job) moment))
 effect v who (Command.Finish job moment status) = Some (Body.Finish job (record { moment = moment; status = status }))
 effect v who (Command.Reserve window) = Some (Body.Reserve window)

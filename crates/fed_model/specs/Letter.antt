@@ -10,7 +10,7 @@ use Rattle.fed_model.specs.declared.holds.HoldKind.TheVariants.{User, Operator, 
 use Rattle.fed_model.specs.declared.letters.Letter.{Letter}
 use Rattle.fed_model.specs.declared.letters.Letter.TheVariants.{Exiting, Running, Held, Granted, Queued}
 use Rattle.fed_model.specs.Grant.{holder_of}
-use Rattle.fed_model.specs.JobView.{JobView}
+use Rattle.fed_model.specs.JobView.{JobFields, JobView}
 
 -- whether a number below n passes the test
 unfoldable pub any_below : ℕ → (ℕ → Bool) → Bool
@@ -32,10 +32,14 @@ has_hold j kind = any_covered j.touched (j.holds kind)
 abbrev pub is_held : JobView → Bool
 is_held j = has_hold j User || (has_hold j Operator || has_hold j System)
 
+-- whether each field passes the test
+abbrev pub all_fields : ((T : Type 0) → Option (StampValue × T) → Bool) → JobFields → Bool
+all_fields test f = test _ f.owner &&
+    (test _ f.name && (test _ f.priority && (test _ f.nodes && (test _ f.limit && test _ f.account))))
+
 -- a job is there once it is submitted, which sets all its fields
 abbrev pub is_submitted : JobView → Bool
-is_submitted j = is_some j.owner &&
-    (is_some j.name && (is_some j.priority && (is_some j.nodes && (is_some j.limit && is_some j.account))))
+is_submitted j = all_fields (λ _. is_some) j.fields
 
 -- the site that a grant is to that is not handed back
 abbrev pub holder_in : Option GrantStage → Option ℕ
@@ -43,7 +47,7 @@ holder_in None = None
 holder_in (Some g) = holder_of g
 
 abbrev pub holder : JobView → Option ℕ
-holder j = holder_in j.grant
+holder j = holder_in j.stages.grant
 
 abbrev pub is_granted : JobView → Bool
 is_granted j = is_some (holder j)
@@ -53,14 +57,14 @@ is_granted_to j site = option_eq nat_eq (holder j) (Some site)
 
 -- finished, or deleted before it began
 abbrev pub is_gone : JobView → Bool
-is_gone j = is_some j.finished || (j.deleted && is_none j.begun)
+is_gone j = is_some j.stages.finished || (j.stages.deleted && is_none j.stages.begun)
 
 -- a job that is gone has none
 abbrev pub letter : JobView → Option Letter
 letter j =
     if is_gone j then None
-    else if is_some j.begun && j.deleted then Some Exiting
-    else if is_some j.begun then Some Running
+    else if is_some j.stages.begun && j.stages.deleted then Some Exiting
+    else if is_some j.stages.begun then Some Running
     else if is_held j then Some Held
     else if is_granted j then Some Granted
     else Some Queued

@@ -4,6 +4,8 @@ pub mod Account
 pub mod Hold
 pub mod Body
 -- What is read of a set of operations.
+pub mod Fields
+pub mod Stages
 pub mod Field
 pub mod Pairs
 pub mod Grant
@@ -31,6 +33,9 @@ pub mod Ranges
 pub mod RangedEvents
 pub mod Limits
 -- Lemmas that impls cite; nothing here has to be believed.
+pub mod NamedPartLaws
+pub mod FieldsLaws
+pub mod StagesLaws
 pub mod GrantLaws
 pub mod HoldLaws
 pub mod ValueLaws

@@ -28,7 +28,7 @@ is_owner user (Some owner) = bytes_eq owner.1 user
 
 -- the owner of a job, an operator and an administrator may alter and delete it
 abbrev pub may_alter : Who → JobView → Bool
-may_alter who j = is_owner who.user j.owner || is_operator who.role
+may_alter who j = is_owner who.user j.fields.owner || is_operator who.role
 
 -- whether somebody may set and release holds of the kind
 abbrev pub may_hold : Who → JobView → HoldKind → Bool

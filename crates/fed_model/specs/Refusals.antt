@@ -10,6 +10,7 @@ use Rattle.fed_model.specs.declared.moments.TheConstants.{MAX_MOMENT}
 use Rattle.fed_model.specs.declared.refusals.Refusal.{Refusal}
 use Rattle.fed_model.specs.declared.terms.TheConstants.{MAX_TERM}
 use Rattle.fed_model.specs.declared.windows.Window.{Window}
+use Rattle.fed_model.specs.JobView.{JobView}
 use Rattle.fed_model.specs.Letter.{is_granted, is_held, is_submitted, is_gone, is_granted_to}
 use Rattle.fed_model.specs.Reservation.{ReservationView}
 use Rattle.fed_model.specs.View.{View}
@@ -32,52 +33,32 @@ abbrev pub is_last_term : Option GrantStage → Bool
 is_last_term (Some (Returned term stamp)) = nat_le MAX_TERM term
 is_last_term _ = false
 
+-- what is looked for first where somebody would change a job: whether the site knows it, they may, and it is not gone
+abbrev pub of_job : JobView → Bool → List Case → List Case
+of_job j permitted others =
+    (not (is_submitted j), Refusal.UnknownJob) ∷ (not permitted, Refusal.NotPermitted) ∷ (is_gone j, Refusal.Gone) ∷ others
+
 -- what is looked for at each command, in this order
 abbrev pub refusals : View → ℕ → Who → Command → List Case
 refusals v here who (Command.Submit values held) = (nat_le MAX_JOBS (jobs_of v here), Refusal.SiteFull) ∷ []
 refusals v here who (Command.Alter job changes) =
-    (not (is_submitted (v.job job)), Refusal.UnknownJob)
-    ∷ (not (may_alter who (v.job job)), Refusal.NotPermitted)
-    ∷ (is_gone (v.job job), Refusal.Gone)
-    ∷ (is_granted (v.job job), Refusal.Granted)
-    ∷ []
+    of_job (v.job job) (may_alter who (v.job job)) ((is_granted (v.job job), Refusal.Granted) ∷ [])
 refusals v here who (Command.Hold job kinds) =
-    (not (is_submitted (v.job job)), Refusal.UnknownJob)
-    ∷ (not (may_hold_all who (v.job job) kinds), Refusal.NotPermitted)
-    ∷ (is_gone (v.job job), Refusal.Gone)
-    ∷ (is_granted (v.job job), Refusal.Granted)
-    ∷ []
-refusals v here who (Command.Release job kinds) =
-    (not (is_submitted (v.job job)), Refusal.UnknownJob)
-    ∷ (not (may_hold_all who (v.job job) kinds), Refusal.NotPermitted)
-    ∷ (is_gone (v.job job), Refusal.Gone)
-    ∷ []
-refusals v here who (Command.Delete job) =
-    (not (is_submitted (v.job job)), Refusal.UnknownJob)
-    ∷ (not (may_alter who (v.job job)), Refusal.NotPermitted)
-    ∷ (is_gone (v.job job), Refusal.Gone)
-    ∷ []
+    of_job (v.job job) (may_hold_all who (v.job job) kinds) ((is_granted (v.job job), Refusal.Granted) ∷ [])
+refusals v here who (Command.Release job kinds) = of_job (v.job job) (may_hold_all who (v.job job) kinds) []
+refusals v here who (Command.Delete job) = of_job (v.job job) (may_alter who (v.job job)) []
 refusals v here who (Command.Grant job asker) =
-    grant_refusals v here job asker ++ (is_last_term (v.job job).grant, Refusal.ClockFull) ∷ []
+    grant_refusals v here job asker ++ (is_last_term (v.job job).stages.grant, Refusal.ClockFull) ∷ []
 refusals v here who (Command.HandBack job) =
-    (not (is_submitted (v.job job)), Refusal.UnknownJob)
-    ∷ (is_gone (v.job job), Refusal.Gone)
-    ∷ (not (is_granted_to (v.job job) here), Refusal.NotGranted)
-    ∷ (is_some (v.job job).begun, Refusal.Begun)
-    ∷ []
+    (not (is_submitted (v.job job)), Refusal.UnknownJob) ∷ (is_gone (v.job job), Refusal.Gone)
+    ∷ (not (is_granted_to (v.job job) here), Refusal.NotGranted) ∷ (is_some (v.job job).stages.begun, Refusal.Begun) ∷ []
 refusals v here who (Command.Begin job moment) =
-    (not (is_submitted (v.job job)), Refusal.UnknownJob)
-    ∷ (is_gone (v.job job), Refusal.Gone)
-    ∷ (is_held (v.job job) && is_none (v.job job).begun, Refusal.Held)
-    ∷ (not (is_granted_to (v.job job) here), Refusal.NotGranted)
-    ∷ (is_some (v.job job).begun, Refusal.Begun)
-    ∷ []
+    (not (is_submitted (v.job job)), Refusal.UnknownJob) ∷ (is_gone (v.job job), Refusal.Gone)
+    ∷ (is_held (v.job job) && is_none (v.job job).stages.begun, Refusal.Held)
+    ∷ (not (is_granted_to (v.job job) here), Refusal.NotGranted) ∷ (is_some (v.job job).stages.begun, Refusal.Begun) ∷ []
 refusals v here who (Command.Finish job moment status) =
-    (not (is_submitted (v.job job)), Refusal.UnknownJob)
-    ∷ (is_gone (v.job job), Refusal.Gone)
-    ∷ (not (is_granted_to (v.job job) here), Refusal.NotGranted)
-    ∷ (is_none (v.job job).begun, Refusal.NotBegun)
-    ∷ []
+    (not (is_submitted (v.job job)), Refusal.UnknownJob) ∷ (is_gone (v.job job), Refusal.Gone)
+    ∷ (not (is_granted_to (v.job job) here), Refusal.NotGranted) ∷ (is_none (v.job job).stages.begun, Refusal.NotBegun) ∷ []
 refusals v here who (Command.Reserve window) =
     (not (is_operator who.role), Refusal.NotPermitted)
     ∷ (is_bad_window window, Refusal.BadWindow)

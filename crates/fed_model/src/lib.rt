@@ -21,10 +21,14 @@ pub mod events;
 pub mod exacts;
 /// Facts that the types keep.
 pub mod facts;
+/// Something of each field of a job, side by side.
+pub mod fields;
 /// How far a job's grants have come.
 pub mod grants;
 /// Kinds of holds, and sets of them.
 pub mod holds;
+/// Values that are never refused memory.
+pub mod inlines;
 /// The states of jobs.
 pub mod letters;
 /// Time limits.
@@ -41,6 +45,8 @@ pub mod priorities;
 pub mod refusals;
 /// What a site replies to commands.
 pub mod replies;
+/// Something of each stage of a job, side by side.
+pub mod stages;
 /// That a packet was taken.
 pub mod taken;
 /// The terms of grants.
@@ -58,8 +64,10 @@ pub use commands::Command;
 pub use decisions::Decision;
 pub use events::Event;
 pub use facts::{commands_are_ranged, limit_is_ranged};
+pub use fields::Fields;
 pub use grants::GrantStage;
 pub use holds::{HoldKind, HoldKinds};
+pub use inlines::{Inline, apply_inline, copy_inline, join_inline};
 pub use letters::Letter;
 pub use limits::{Limit, MAX_LIMIT};
 pub use moments::{MAX_END, MAX_MOMENT, Moment};
@@ -68,6 +76,7 @@ pub use outcomes::Outcome;
 pub use priorities::{MAX_PRIORITY, MIN_PRIORITY, Priority};
 pub use refusals::Refusal;
 pub use replies::Reply;
+pub use stages::Stages;
 pub use taken::Taken;
 pub use terms::{MAX_TERM, Term};
 pub use values::{Changes, JobValues};

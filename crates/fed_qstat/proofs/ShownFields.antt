@@ -14,7 +14,7 @@ use Rattle.fed_qstat.proofs.Columns.{join-parts}
 
 module _ (roster : List (List ℕ × ℕ)) (id : StampValue) (j : JobView) where
   pub short_line-is : (name owner : StampValue × List ℕ) (l : Letter) (priority : StampValue × ℤ) (nodes limit : StampValue × ℕ)
-      → j.name ≡ Some name → j.owner ≡ Some owner → letter j ≡ Some l → j.priority ≡ Some priority → j.nodes ≡ Some nodes → j.limit ≡ Some limit
+      → j.fields.name ≡ Some name → j.fields.owner ≡ Some owner → letter j ≡ Some l → j.fields.priority ≡ Some priority → j.fields.nodes ≡ Some nodes → j.fields.limit ≡ Some limit
       → join_with_byte 32 (left_in 18 (text_of_identifier roster id) ∷ left_in 16 name.1 ∷ left_in 16 owner.1 ∷ sign_of_letter l
       ∷ right_in 6 (signed_decimal priority.1) ∷ right_in 8 (decimal nodes.1) ∷ right_in 9 (decimal limit.1) ∷ text_of_holder roster (holder j) ∷ []) ++ 10 ∷ []
       ≡ line_in_short roster id j
@@ -24,7 +24,7 @@ module _ (roster : List (List ℕ × ℕ)) (id : StampValue) (j : JobView) where
 
   -- the line behind a text, as it is written part by part
   pub short_line-behind : (old : List ℕ) (name owner : StampValue × List ℕ) (l : Letter) (priority : StampValue × ℤ) (nodes limit : StampValue × ℕ)
-      → j.name ≡ Some name → j.owner ≡ Some owner → letter j ≡ Some l → j.priority ≡ Some priority → j.nodes ≡ Some nodes → j.limit ≡ Some limit
+      → j.fields.name ≡ Some name → j.fields.owner ≡ Some owner → letter j ≡ Some l → j.fields.priority ≡ Some priority → j.fields.nodes ≡ Some nodes → j.fields.limit ≡ Some limit
       → old ++ (join_with_byte 32 (left_in 18 (text_of_identifier roster id) ∷ left_in 16 name.1 ∷ left_in 16 owner.1 ∷ sign_of_letter l ∷ [])
       ++ ((32 ∷ (join_with_byte 32 (right_in 6 (signed_decimal priority.1) ∷ right_in 8 (decimal nodes.1) ∷ right_in 9 (decimal limit.1) ∷ []) ++ 32 ∷ []))
       ++ (text_of_holder roster (holder j) ++ 10 ∷ [])))

@@ -20,29 +20,29 @@ attribute label value = codes "    " ++ label ++ codes " = " ++ value ++ 10 ∷ 
 abbrev pub naming : List (List ℕ × ℕ) → StampValue → JobView → List ℕ
 naming roster id j =
     head_line (text_of_identifier roster id)
-    ++ attribute (codes "Job_Name") (field_text (λ name. name) j.name)
-    ++ attribute (codes "Job_Owner") (field_text (λ owner. owner) j.owner)
-    ++ attribute (codes "Account_Name") (text_or_dash (field_text text_of j.account))
+    ++ attribute (codes "Job_Name") (field_text (λ name. name) j.fields.name)
+    ++ attribute (codes "Job_Owner") (field_text (λ owner. owner) j.fields.owner)
+    ++ attribute (codes "Account_Name") (text_or_dash (field_text text_of j.fields.account))
 
 -- where it stands in the queue
 abbrev pub standing : JobView → List ℕ
 standing j =
     attribute (codes "job_state") (letter_text (letter j))
-    ++ attribute (codes "Priority") (field_text signed_decimal j.priority)
+    ++ attribute (codes "Priority") (field_text signed_decimal j.fields.priority)
     ++ attribute (codes "Hold_Types") (text_of_holds j)
 
 -- what it asks for
 abbrev pub resources : List (List ℕ × ℕ) → JobView → List ℕ
 resources roster j =
-    attribute (codes "Resource_List.nodes") (field_text decimal j.nodes)
-    ++ attribute (codes "Resource_List.walltime") (field_text decimal j.limit)
+    attribute (codes "Resource_List.nodes") (field_text decimal j.fields.nodes)
+    ++ attribute (codes "Resource_List.walltime") (field_text decimal j.fields.limit)
     ++ attribute (codes "Resource_List.sites") (text_of_sites roster j)
 
 -- where and when it runs
 abbrev pub running : List (List ℕ × ℕ) → JobView → List ℕ
 running roster j =
     attribute (codes "granted") (text_of_holder roster (holder j))
-    ++ attribute (codes "begun") (text_of_begun j.begun)
+    ++ attribute (codes "begun") (text_of_begun j.stages.begun)
 
 abbrev pub lines_in_full : List (List ℕ × ℕ) → StampValue → JobView → List ℕ
 lines_in_full roster id j = naming roster id j ++ standing j ++ resources roster j ++ running roster j

@@ -12,12 +12,12 @@ use Rattle.fed_qstat.specs.JobText.{field_text, letter_text, text_of_holder}
 abbrev pub columns : List (List ℕ × ℕ) → StampValue → JobView → List (List ℕ)
 columns roster id j =
     left_in 18 (text_of_identifier roster id)
-    ∷ left_in 16 (field_text (λ name. name) j.name)
-    ∷ left_in 16 (field_text (λ owner. owner) j.owner)
+    ∷ left_in 16 (field_text (λ name. name) j.fields.name)
+    ∷ left_in 16 (field_text (λ owner. owner) j.fields.owner)
     ∷ letter_text (letter j)
-    ∷ right_in 6 (field_text signed_decimal j.priority)
-    ∷ right_in 8 (field_text decimal j.nodes)
-    ∷ right_in 9 (field_text decimal j.limit)
+    ∷ right_in 6 (field_text signed_decimal j.fields.priority)
+    ∷ right_in 8 (field_text decimal j.fields.nodes)
+    ∷ right_in 9 (field_text decimal j.fields.limit)
     ∷ text_of_holder roster (holder j)
     ∷ []
 

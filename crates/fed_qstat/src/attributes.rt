@@ -55,7 +55,7 @@ pub fn holder_text(alloc: Global, roster: &Roster, job: &JobRecord) -> Result<St
 
 /// The moment of the Begin, or `-` where the job has not begun.
 pub(crate) fn begun_text(alloc: Global, job: &JobRecord) -> Result<String, AllocError>
-    ensures { IfOk result (λ text. string_bytes text ≡ text_of_begun (job_reads job.now).begun) }
+    ensures { IfOk result (λ text. string_bytes text ≡ text_of_begun (job_reads job.now).stages.begun) }
 {
     match job.progress().begun {
         Some((_, beginning)) => format!(in alloc; "{}", beginning.moment.get()),

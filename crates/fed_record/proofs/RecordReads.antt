@@ -1,22 +1,18 @@
 -- What the parts of a record read as after a change.
-use Rattle.std.specs.Option.{option_cmp}
-use Rattle.std.specs.Ordering.{ord_max, nat_cmp, is_eq, eq_by_cmp}
+use Rattle.std.specs.Ordering.{nat_cmp, is_eq, eq_by_cmp}
 use Rattle.std.specs.List.{list_any, range_with_len}
 use Rattle.std.specs.Cmp.{IsTotalOrder, nat_cmp_total, both_ways}
-use Rattle.std.proofs.Common.{◌≡◌, ℕ, zero, suc, ◌+◌, ◌<◌, List, [], ◌∷◌, Bool, true, false, not, ◌&&◌, ◌||◌, Option, Some, None, is_some, Ordering, filter, nat_eq, nat_lt, refl, sym, ap, ap₂, subst, ◌∙◌, inl, inr, arith}
+use Rattle.std.proofs.Common.{◌≡◌, ℕ, zero, suc, ◌+◌, ◌<◌, List, [], ◌∷◌, Bool, true, not, ◌&&◌, ◌||◌, Option, Some, None, Ordering, filter, nat_eq, nat_lt, refl, sym, ap, ap₂, subst, ◌∙◌, inl, inr, arith}
 use Rattle.std.proofs.lemmas.Bool.{and_parts, ltb-true, and_from}
 use Rattle.std.proofs.lemmas.Cmp.{tied_itself}
 use Rattle.std.proofs.lemmas.Map.Lookups.{CmpEqualImpliesEq, exact_unsigned}
 use Rattle.std.proofs.lemmas.Map.Views.{tells_apart}
 use Rattle.fed_stamp.specs.Stamp.{StampValue, same_stamp}
-use Rattle.fed_lattice.specs.Both.{applied_option}
 use Rattle.fed_lattice.specs.Exact.{TellsApart}
 use Rattle.fed_lattice.specs.ExactLaws.{tells_numbers, same_stamp_is, same_stamp_itself}
 use Rattle.fed_lattice.proofs.FilterLaws.{Has-filter, filter-Has}
 use Rattle.fed_lattice.specs.FlagLaws.{or_comm}
-use Rattle.fed_lattice.specs.Register.{stamped_cmp, joined_registers}
 use Rattle.fed_lattice.specs.Sets.{Has}
-use Rattle.fed_lattice.specs.Stamped.{with_stamp}
 use Rattle.fed_tags.specs.Tags.{pair_cmp, has, stamped, applied_tags}
 use Rattle.fed_tags.specs.TagLaws.{pair_total, exact_pair, has_member, member, has_applied, stamped_at}
 use Rattle.fed_model.specs.declared.holds.HoldKind.{HoldKind}
@@ -29,27 +25,6 @@ use Rattle.fed_model.specs.HoldLaws.{kind_total, exact_kind}
 use Rattle.fed_record.specs.Operation.{body_of}
 use Rattle.fed_model.specs.Pairs.{adds_pair, adds_site, removes_site, adds_hold, removes_hold, is_site_named}
 use Rattle.fed_theory.specs.JobSteps.{add_live}
-
--- ---- registers, stages and marks, of which an operation may say nothing
-pub max_none : {T : Type 0} (cmp : T → T → Ordering) (x : Option T) → ord_max (option_cmp cmp) x None ≡ x
-max_none cmp None = refl
-max_none cmp (Some a) = refl
-
-pub applied_register : {T : Type 0} (cmp : T → T → Ordering) (x : Option (StampValue × T)) (s : StampValue) (o : Option T)
-    → applied_option (λ y t c. joined_registers cmp y (Some (t, c))) x s o ≡ joined_registers cmp x (with_stamp s o)
-applied_register cmp x s None = sym (max_none (stamped_cmp cmp) x)
-applied_register cmp x s (Some c) = refl
-
-pub applied_stage : {T : Type 0} (cmp : T → T → Ordering) (x : Option T) (s : StampValue) (o : Option T)
-    → applied_option (λ y t c. ord_max (option_cmp cmp) y (Some c)) x s o ≡ ord_max (option_cmp cmp) x o
-applied_stage cmp x s None = sym (max_none cmp x)
-applied_stage cmp x s (Some c) = refl
-
-pub applied_flag : (x : Bool) (s : StampValue) (o : Option (Unit {0})) → applied_option (λ y t c. true) x s o ≡ (x || is_some o)
-applied_flag true s None = refl
-applied_flag true s (Some u) = refl
-applied_flag false s None = refl
-applied_flag false s (Some u) = refl
 
 -- ---- live pairs
 module _ {E : Type 0} (cmp : E → E → Ordering) (o : IsTotalOrder cmp) (exact : CmpEqualImpliesEq cmp) (same : E → E → Bool) (tells : TellsApart same) where

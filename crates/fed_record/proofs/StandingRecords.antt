@@ -23,8 +23,8 @@ use Rattle.fed_record.specs.declared.operations.Operation.{Operation}
 use Rattle.fed_model.specs.Body.{Body}
 use Rattle.fed_record.specs.Changes.{always, field_changes_of, stage_changes_of, hold_change, site_change, removed_holds, removed_sites, field_changes, stage_changes}
 use Rattle.fed_model.specs.Hold.{all_kinds, kind_cmp}
-use Rattle.fed_record.specs.Fields.{owner_change, name_change, priority_change, nodes_change, limit_change, account_change}
-use Rattle.fed_record.specs.Stages.{deleted_change, grant_change, begun_change, finished_change}
+use Rattle.fed_model.specs.Fields.{owner_part, name_part, priority_part, nodes_part, limit_part, account_part}
+use Rattle.fed_model.specs.Stages.{deleted_part, grant_part, begun_part, finished_part}
 use Rattle.fed_model.specs.Field.{owner_in, name_in, priority_in, nodes_in, limit_in, account_in, deletion_in, begin_in, finish_in, field}
 use Rattle.fed_model.specs.Grant.{grant_cmp, grant_in, grant_stage}
 use Rattle.fed_model.specs.GrantLaws.{grant_total, exact_grant}
@@ -84,32 +84,32 @@ module _ (h : History Operation) where
   said : {T : Type 0} (says : Body → Option T) → part (λ c. says (body_of c)) h ≡ part says (bodies h)
   said says = sym (part-bodies says h)
 
-  pub owner_said : part owner_change (field_changes h) ≡ part owner_in (bodies h)
-  owner_said = said_by owner_change field_changes_of (λ c. owner_in (body_of c)) h _ (λ c. refl) (said owner_in)
+  pub owner_said : part owner_part (field_changes h) ≡ part owner_in (bodies h)
+  owner_said = said_by owner_part field_changes_of (λ c. owner_in (body_of c)) h _ (λ c. refl) (said owner_in)
 
-  pub name_said : part name_change (field_changes h) ≡ part name_in (bodies h)
-  name_said = said_by name_change field_changes_of (λ c. name_in (body_of c)) h _ (λ c. refl) (said name_in)
+  pub name_said : part name_part (field_changes h) ≡ part name_in (bodies h)
+  name_said = said_by name_part field_changes_of (λ c. name_in (body_of c)) h _ (λ c. refl) (said name_in)
 
-  pub priority_said : part priority_change (field_changes h) ≡ part priority_in (bodies h)
-  priority_said = said_by priority_change field_changes_of (λ c. priority_in (body_of c)) h _ (λ c. refl) (said priority_in)
+  pub priority_said : part priority_part (field_changes h) ≡ part priority_in (bodies h)
+  priority_said = said_by priority_part field_changes_of (λ c. priority_in (body_of c)) h _ (λ c. refl) (said priority_in)
 
-  pub nodes_said : part nodes_change (field_changes h) ≡ part nodes_in (bodies h)
-  nodes_said = said_by nodes_change field_changes_of (λ c. nodes_in (body_of c)) h _ (λ c. refl) (said nodes_in)
+  pub nodes_said : part nodes_part (field_changes h) ≡ part nodes_in (bodies h)
+  nodes_said = said_by nodes_part field_changes_of (λ c. nodes_in (body_of c)) h _ (λ c. refl) (said nodes_in)
 
-  pub limit_said : part limit_change (field_changes h) ≡ part limit_in (bodies h)
-  limit_said = said_by limit_change field_changes_of (λ c. limit_in (body_of c)) h _ (λ c. refl) (said limit_in)
+  pub limit_said : part limit_part (field_changes h) ≡ part limit_in (bodies h)
+  limit_said = said_by limit_part field_changes_of (λ c. limit_in (body_of c)) h _ (λ c. refl) (said limit_in)
 
-  pub account_said : part account_change (field_changes h) ≡ part account_in (bodies h)
-  account_said = said_by account_change field_changes_of (λ c. account_in (body_of c)) h _ (λ c. refl) (said account_in)
+  pub account_said : part account_part (field_changes h) ≡ part account_in (bodies h)
+  account_said = said_by account_part field_changes_of (λ c. account_in (body_of c)) h _ (λ c. refl) (said account_in)
 
-  pub deletion_said : part deleted_change (stage_changes h) ≡ part deletion_in (bodies h)
-  deletion_said = said_by deleted_change stage_changes_of (λ (e : StampValue × Operation). deletion_in (body_of e.1)) (stamped h) _ (λ e. refl) (part-stamped (λ c. deletion_in (body_of c)) h ∙ said deletion_in)
+  pub deletion_said : part deleted_part (stage_changes h) ≡ part deletion_in (bodies h)
+  deletion_said = said_by deleted_part stage_changes_of (λ (e : StampValue × Operation). deletion_in (body_of e.1)) (stamped h) _ (λ e. refl) (part-stamped (λ c. deletion_in (body_of c)) h ∙ said deletion_in)
 
-  pub grant_said : part grant_change (stage_changes h) ≡ part grant_in (stamped (bodies h))
-  grant_said = said_by grant_change stage_changes_of (λ (e : StampValue × Operation). grant_in (e.0, body_of e.1)) (stamped h) _ (λ e. refl) (sym (part-stamped_bodies grant_in h))
+  pub grant_said : part grant_part (stage_changes h) ≡ part grant_in (stamped (bodies h))
+  grant_said = said_by grant_part stage_changes_of (λ (e : StampValue × Operation). grant_in (e.0, body_of e.1)) (stamped h) _ (λ e. refl) (sym (part-stamped_bodies grant_in h))
 
-  pub begin_said : part begun_change (stage_changes h) ≡ part begin_in (bodies h)
-  begin_said = said_by begun_change stage_changes_of (λ (e : StampValue × Operation). begin_in (body_of e.1)) (stamped h) _ (λ e. refl) (part-stamped (λ c. begin_in (body_of c)) h ∙ said begin_in)
+  pub begin_said : part begun_part (stage_changes h) ≡ part begin_in (bodies h)
+  begin_said = said_by begun_part stage_changes_of (λ (e : StampValue × Operation). begin_in (body_of e.1)) (stamped h) _ (λ e. refl) (part-stamped (λ c. begin_in (body_of c)) h ∙ said begin_in)
 
-  pub finish_said : part finished_change (stage_changes h) ≡ part finish_in (bodies h)
-  finish_said = said_by finished_change stage_changes_of (λ (e : StampValue × Operation). finish_in (body_of e.1)) (stamped h) _ (λ e. refl) (part-stamped (λ c. finish_in (body_of c)) h ∙ said finish_in)
+  pub finish_said : part finished_part (stage_changes h) ≡ part finish_in (bodies h)
+  finish_said = said_by finished_part stage_changes_of (λ (e : StampValue × Operation). finish_in (body_of e.1)) (stamped h) _ (λ e. refl) (part-stamped (λ c. finish_in (body_of c)) h ∙ said finish_in)

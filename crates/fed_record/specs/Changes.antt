@@ -1,48 +1,24 @@
 -- What an operation changes in each part of a job's record.
-use Rattle.std.specs.Prelude.{ℕ, ℤ, List, [], Option, Some, filter}
+use Rattle.std.specs.Prelude.{ℕ, List, [], Option, Some, filter}
 use Rattle.std.specs.List.{range_with_len}
 use Rattle.fed_stamp.specs.declared.sites.TheConstants.{SITES}
 use Rattle.fed_stamp.specs.Stamp.{StampValue}
 use Rattle.fed_lattice.specs.History.{History}
 use Rattle.fed_lattice.specs.Part.{part}
 use Rattle.fed_lattice.specs.Stamped.{stamped}
-use Rattle.fed_record.specs.declared.fields.FieldChanges.{FieldChanges}
-use Rattle.fed_model.specs.declared.grants.GrantStage.{GrantStage}
 use Rattle.fed_model.specs.declared.holds.HoldKind.{HoldKind}
-use Rattle.fed_model.specs.declared.beginnings.Beginning.{Beginning}
-use Rattle.fed_model.specs.declared.beginnings.Ending.{Ending}
-use Rattle.fed_record.specs.declared.stages.StageChanges.{StageChanges}
 use Rattle.fed_record.specs.declared.operations.Operation.{Operation}
-use Rattle.fed_model.specs.Field.{owner_in, name_in, priority_in, nodes_in, limit_in, account_in, deletion_in, begin_in, finish_in}
-use Rattle.fed_model.specs.Grant.{grant_in}
 use Rattle.fed_model.specs.Hold.{all_kinds}
 use Rattle.fed_record.specs.Operation.{body_of}
 use Rattle.fed_model.specs.Pairs.{adds_site, adds_hold}
-
-abbrev pub JobFieldChanges : Type 0
-JobFieldChanges = FieldChanges (List ℕ) (List ℕ) ℤ ℕ ℕ (Option (List ℕ))
+use Rattle.fed_theory.specs.JobSteps.{JobFieldChanges, JobStageChanges, fields_in, stages_in}
 
 abbrev pub field_changes_of : Operation → JobFieldChanges
-field_changes_of c = record {
-  owner = owner_in (body_of c);
-  name = name_in (body_of c);
-  priority = priority_in (body_of c);
-  nodes = nodes_in (body_of c);
-  limit = limit_in (body_of c);
-  account = account_in (body_of c);
-}
-
-abbrev pub JobStageChanges : Type 0
-JobStageChanges = StageChanges (Unit {0}) GrantStage Beginning Ending
+field_changes_of c = fields_in (body_of c)
 
 -- of an operation with its stamp
 abbrev pub stage_changes_of : StampValue × Operation → JobStageChanges
-stage_changes_of e = record {
-  deleted = deletion_in (body_of e.1);
-  grant = grant_in (e.0, body_of e.1);
-  begun = begin_in (body_of e.1);
-  finished = finish_in (body_of e.1);
-}
+stage_changes_of e = stages_in (e.0, body_of e.1)
 
 -- the pairs of holds that an operation removes, and those of sites
 abbrev pub removed_holds : Operation → List (HoldKind × StampValue)

@@ -17,12 +17,13 @@ use Rattle.fed_lattice.specs.Register.{stamped_cmp, joined_registers, register_s
 use Rattle.fed_lattice.specs.RegisterLaws.{stamped_total, exact_stamped, register_applied_stands, register_joined_stands, register_stands_same}
 use Rattle.fed_lattice.specs.Stage.{stage_stands_for}
 use Rattle.fed_lattice.specs.StageLaws.{stage_applied_stands, stage_joined_stands, stage_stands_same}
-use Rattle.fed_record.specs.Fields.{owner_change, name_change, priority_change, nodes_change, limit_change, account_change}
+use Rattle.fed_model.specs.Fields.{owner_part, name_part, priority_part, nodes_part, limit_part, account_part}
 use Rattle.fed_model.specs.Grant.{grant_cmp}
 use Rattle.fed_model.specs.GrantLaws.{grant_total, exact_grant}
-use Rattle.fed_record.specs.JobRecordSteps.{always_holds, set_register, raise_stage, AreFields, empty_fields, changed_fields, joined_fields, IsFieldHistory, fields_stand_for, AreStages, empty_stages, changed_stages, joined_stages, IsStageHistory, stages_stand_for}
-use Rattle.fed_record.specs.NamedPartLaws.{part_adds_change, part_joins_histories, part_stands_for_sets}
-use Rattle.fed_record.specs.Stages.{deleted_change, grant_change, begun_change, finished_change}
+use Rattle.fed_record.specs.JobRecordSteps.{always_holds, AreFields, join_fields, IsFieldHistory, fields_stand_for, AreStages, join_stages, IsStageHistory, stages_stand_for}
+use Rattle.fed_theory.specs.JobSteps.{set_register, raise_stage, empty_fields, changed_fields, empty_stages, changed_stages}
+use Rattle.fed_model.specs.NamedPartLaws.{part_adds_change, part_joins_histories, part_stands_for_sets}
+use Rattle.fed_model.specs.Stages.{deleted_part, grant_part, begun_part, finished_part}
 use Rattle.fed_model.specs.ValueLaws.{exact_account, exact_beginning, exact_ending}
 use Rattle.fed_theory.specs.ValueOrderLaws.{name_total, priority_total, number_total, account_total, beginning_total, ending_total}
 use Rattle.fed_theory.specs.ValueOrders.{name_cmp, account_cmp, beginning_cmp, ending_cmp}
@@ -56,10 +57,10 @@ register_sets : {T C : Type 0} (change : C → Option T) → StandsForSets {X = 
 register_sets change = part_stands_for_sets change register_stands_for register_stands_same
 
 -- ---- fields
-pub joined_are_fields : JoinsWellFormed AreFields joined_fields
+pub joined_are_fields : JoinsWellFormed AreFields join_fields
 joined_are_fields _ _ _ _ p _ = p
 
-pub fields_assoc : IsAssociative AreFields joined_fields
+pub fields_assoc : IsAssociative AreFields join_fields
 fields_assoc x y z _ _ _ _ _ _ = λ i. record {
   owner = registers_assoc name_cmp name_total exact_word x.owner y.owner z.owner i;
   name = registers_assoc name_cmp name_total exact_word x.name y.name z.name i;
@@ -69,7 +70,7 @@ fields_assoc x y z _ _ _ _ _ _ = λ i. record {
   account = registers_assoc account_cmp account_total exact_account x.account y.account z.account i;
 }
 
-pub fields_comm : IsCommutative AreFields joined_fields
+pub fields_comm : IsCommutative AreFields join_fields
 fields_comm x y _ _ _ _ = λ i. record {
   owner = registers_comm name_cmp name_total exact_word x.owner y.owner i;
   name = registers_comm name_cmp name_total exact_word x.name y.name i;
@@ -79,7 +80,7 @@ fields_comm x y _ _ _ _ = λ i. record {
   account = registers_comm account_cmp account_total exact_account x.account y.account i;
 }
 
-pub fields_itself : IsIdempotent AreFields joined_fields
+pub fields_itself : IsIdempotent AreFields join_fields
 fields_itself x _ _ = λ i. record {
   owner = registers_itself name_cmp x.owner i;
   name = registers_itself name_cmp x.name i;
@@ -89,44 +90,44 @@ fields_itself x _ _ = λ i. record {
   account = registers_itself account_cmp x.account i;
 }
 
-pub empty_fields_join : BottomsJoin empty_fields joined_fields
+pub empty_fields_join : BottomsJoin empty_fields join_fields
 empty_fields_join _ _ = refl
 
 pub fields_add_change : AddsChange AreFields IsFieldHistory fields_stand_for changed_fields
 fields_add_change x h s c _ r _ f _ = (
-  register_adds name_cmp name_total exact_word owner_change x.owner h s c r.0 f,
-  register_adds name_cmp name_total exact_word name_change x.name h s c r.1 f,
-  register_adds int_cmp priority_total exact_signed priority_change x.priority h s c r.2 f,
-  register_adds nat_cmp number_total exact_unsigned nodes_change x.nodes h s c r.3 f,
-  register_adds nat_cmp number_total exact_unsigned limit_change x.limit h s c r.4 f,
-  register_adds account_cmp account_total exact_account account_change x.account h s c r.5 f,
+  register_adds name_cmp name_total exact_word owner_part x.owner h s c r.0 f,
+  register_adds name_cmp name_total exact_word name_part x.name h s c r.1 f,
+  register_adds int_cmp priority_total exact_signed priority_part x.priority h s c r.2 f,
+  register_adds nat_cmp number_total exact_unsigned nodes_part x.nodes h s c r.3 f,
+  register_adds nat_cmp number_total exact_unsigned limit_part x.limit h s c r.4 f,
+  register_adds account_cmp account_total exact_account account_part x.account h s c r.5 f,
 )
 
-pub fields_join_histories : JoinsHistories AreFields IsFieldHistory fields_stand_for joined_fields
+pub fields_join_histories : JoinsHistories AreFields IsFieldHistory fields_stand_for join_fields
 fields_join_histories x y v w g h _ _ p q a _ _ = (
-  register_joins name_cmp name_total exact_word owner_change x.owner y.owner v w g h p.0 q.0 a,
-  register_joins name_cmp name_total exact_word name_change x.name y.name v w g h p.1 q.1 a,
-  register_joins int_cmp priority_total exact_signed priority_change x.priority y.priority v w g h p.2 q.2 a,
-  register_joins nat_cmp number_total exact_unsigned nodes_change x.nodes y.nodes v w g h p.3 q.3 a,
-  register_joins nat_cmp number_total exact_unsigned limit_change x.limit y.limit v w g h p.4 q.4 a,
-  register_joins account_cmp account_total exact_account account_change x.account y.account v w g h p.5 q.5 a,
+  register_joins name_cmp name_total exact_word owner_part x.owner y.owner v w g h p.0 q.0 a,
+  register_joins name_cmp name_total exact_word name_part x.name y.name v w g h p.1 q.1 a,
+  register_joins int_cmp priority_total exact_signed priority_part x.priority y.priority v w g h p.2 q.2 a,
+  register_joins nat_cmp number_total exact_unsigned nodes_part x.nodes y.nodes v w g h p.3 q.3 a,
+  register_joins nat_cmp number_total exact_unsigned limit_part x.limit y.limit v w g h p.4 q.4 a,
+  register_joins account_cmp account_total exact_account account_part x.account y.account v w g h p.5 q.5 a,
 )
 
 pub fields_stand_for_sets : StandsForSets fields_stand_for
 fields_stand_for_sets x g h e p = (
-  register_sets owner_change x.owner g h e p.0,
-  register_sets name_change x.name g h e p.1,
-  register_sets priority_change x.priority g h e p.2,
-  register_sets nodes_change x.nodes g h e p.3,
-  register_sets limit_change x.limit g h e p.4,
-  register_sets account_change x.account g h e p.5,
+  register_sets owner_part x.owner g h e p.0,
+  register_sets name_part x.name g h e p.1,
+  register_sets priority_part x.priority g h e p.2,
+  register_sets nodes_part x.nodes g h e p.3,
+  register_sets limit_part x.limit g h e p.4,
+  register_sets account_part x.account g h e p.5,
 )
 
 -- ---- stages
-pub joined_are_stages : JoinsWellFormed AreStages joined_stages
+pub joined_are_stages : JoinsWellFormed AreStages join_stages
 joined_are_stages _ _ _ _ p _ = p
 
-pub stages_assoc : IsAssociative AreStages joined_stages
+pub stages_assoc : IsAssociative AreStages join_stages
 stages_assoc x y z _ _ _ _ _ _ = λ i. record {
   deleted = or_assoc x.deleted y.deleted z.deleted i;
   grant = option_max_assoc grant_cmp grant_total exact_grant x.grant y.grant z.grant i;
@@ -134,7 +135,7 @@ stages_assoc x y z _ _ _ _ _ _ = λ i. record {
   finished = registers_assoc ending_cmp ending_total exact_ending x.finished y.finished z.finished i;
 }
 
-pub stages_comm : IsCommutative AreStages joined_stages
+pub stages_comm : IsCommutative AreStages join_stages
 stages_comm x y _ _ _ _ = λ i. record {
   deleted = or_comm x.deleted y.deleted i;
   grant = option_max_comm grant_cmp grant_total exact_grant x.grant y.grant i;
@@ -142,7 +143,7 @@ stages_comm x y _ _ _ _ = λ i. record {
   finished = registers_comm ending_cmp ending_total exact_ending x.finished y.finished i;
 }
 
-pub stages_itself : IsIdempotent AreStages joined_stages
+pub stages_itself : IsIdempotent AreStages join_stages
 stages_itself x _ _ = λ i. record {
   deleted = or_itself x.deleted i;
   grant = option_max_itself grant_cmp x.grant i;
@@ -150,32 +151,32 @@ stages_itself x _ _ = λ i. record {
   finished = registers_itself ending_cmp x.finished i;
 }
 
-pub empty_stages_join : BottomsJoin empty_stages joined_stages
+pub empty_stages_join : BottomsJoin empty_stages join_stages
 empty_stages_join _ _ = refl
 
 pub stages_add_change : AddsChange AreStages IsStageHistory stages_stand_for changed_stages
 stages_add_change x h s c _ r _ f _ = (
-  part_adds_change deleted_change always_holds always_holds flag_stands_for (λ _ _ _. true) (λ _ g t d _ _ _ _ _. flag_applied_stands g t d) x.deleted h s c tt r.0 tt f tt,
-  part_adds_change grant_change always_holds always_holds (stage_stands_for grant_cmp) (raise_stage grant_cmp)
+  part_adds_change deleted_part always_holds always_holds flag_stands_for (λ _ _ _. true) (λ _ g t d _ _ _ _ _. flag_applied_stands g t d) x.deleted h s c tt r.0 tt f tt,
+  part_adds_change grant_part always_holds always_holds (stage_stands_for grant_cmp) (raise_stage grant_cmp)
       (λ y g t d _ k _ _ _. stage_applied_stands grant_cmp grant_total exact_grant y g t d k) x.grant h s c tt r.1 tt f tt,
-  register_adds beginning_cmp beginning_total exact_beginning begun_change x.begun h s c r.2 f,
-  register_adds ending_cmp ending_total exact_ending finished_change x.finished h s c r.3 f,
+  register_adds beginning_cmp beginning_total exact_beginning begun_part x.begun h s c r.2 f,
+  register_adds ending_cmp ending_total exact_ending finished_part x.finished h s c r.3 f,
 )
 
-pub stages_join_histories : JoinsHistories AreStages IsStageHistory stages_stand_for joined_stages
+pub stages_join_histories : JoinsHistories AreStages IsStageHistory stages_stand_for join_stages
 stages_join_histories x y v w g h _ _ p q a _ _ = (
-  part_joins_histories deleted_change always_holds always_holds flag_stands_for (λ k _ l _. k || l)
+  part_joins_histories deleted_part always_holds always_holds flag_stands_for (λ k _ l _. k || l)
       (λ k l _ _ m n _ _ r s _ _ _. flag_joined_stands k l m n r s) x.deleted y.deleted v w g h tt tt p.0 q.0 a tt tt,
-  part_joins_histories grant_change always_holds always_holds (stage_stands_for grant_cmp) (λ k _ l _. ord_max (option_cmp grant_cmp) k l)
+  part_joins_histories grant_part always_holds always_holds (stage_stands_for grant_cmp) (λ k _ l _. ord_max (option_cmp grant_cmp) k l)
       (λ k l _ _ m n _ _ r s _ _ _. stage_joined_stands grant_cmp grant_total k l m n r s) x.grant y.grant v w g h tt tt p.1 q.1 a tt tt,
-  register_joins beginning_cmp beginning_total exact_beginning begun_change x.begun y.begun v w g h p.2 q.2 a,
-  register_joins ending_cmp ending_total exact_ending finished_change x.finished y.finished v w g h p.3 q.3 a,
+  register_joins beginning_cmp beginning_total exact_beginning begun_part x.begun y.begun v w g h p.2 q.2 a,
+  register_joins ending_cmp ending_total exact_ending finished_part x.finished y.finished v w g h p.3 q.3 a,
 )
 
 pub stages_stand_for_sets : StandsForSets stages_stand_for
 stages_stand_for_sets x g h e p = (
-  part_stands_for_sets deleted_change flag_stands_for flag_stands_same x.deleted g h e p.0,
-  part_stands_for_sets grant_change (stage_stands_for grant_cmp) (stage_stands_same grant_cmp) x.grant g h e p.1,
-  register_sets begun_change x.begun g h e p.2,
-  register_sets finished_change x.finished g h e p.3,
+  part_stands_for_sets deleted_part flag_stands_for flag_stands_same x.deleted g h e p.0,
+  part_stands_for_sets grant_part (stage_stands_for grant_cmp) (stage_stands_same grant_cmp) x.grant g h e p.1,
+  register_sets begun_part x.begun g h e p.2,
+  register_sets finished_part x.finished g h e p.3,
 )

@@ -1,12 +1,15 @@
--- Parts of records, and that a record reads as the parts that it is made of.
-use Rattle.std.specs.Prelude.{◌≡◌, Some}
+-- Parts of records, and the record that is made of them.
+use Rattle.std.specs.Prelude.{ℕ, ℤ, List, Option, Some}
 use Rattle.std.specs.List.Sorted.{IsStrictlySortedBy}
 use Rattle.std.specs.Ordering.{nat_cmp}
 use Rattle.fed_tags.specs.Tags.{pair_cmp}
+use Rattle.fed_stamp.specs.Stamp.{StampValue}
+use Rattle.fed_model.specs.declared.fields.Fields.{Fields}
 use Rattle.fed_record.specs.declared.job_parts.JobParts.{JobParts}
 use Rattle.fed_model.specs.Hold.{kind_cmp}
+use Rattle.fed_model.specs.JobView.{JobFields}
 use Rattle.fed_record.specs.Record.{AreCovered}
-use Rattle.fed_record.specs.JobRecord.{JobRecordValue, job_reads}
+use Rattle.fed_record.specs.JobRecord.{JobRecordValue}
 
 -- a record can be made of the parts: the pairs strictly ascend, and the version of the job's operations covers them
 pub record AreRecordParts (parts : JobParts) : Type 0 where
@@ -15,17 +18,25 @@ pub record AreRecordParts (parts : JobParts) : Type 0 where
   pub holds_covered : AreCovered parts.touched parts.hold_tags.now
   pub sites_covered : AreCovered parts.touched parts.site_tags.now
 
-pub record IsMadeOf (r : JobRecordValue) (parts : JobParts) : Type 0 where
-  pub owner : (job_reads r).owner ≡ Some parts.owner
-  pub name : (job_reads r).name ≡ Some parts.name
-  pub priority : (job_reads r).priority ≡ Some parts.priority
-  pub nodes : (job_reads r).nodes ≡ Some parts.nodes
-  pub limit : (job_reads r).limit ≡ Some parts.limit
-  pub account : (job_reads r).account ≡ Some parts.account
-  pub hold_tags : r.holds ≡ parts.hold_tags.now
-  pub site_tags : r.sites ≡ parts.site_tags.now
-  pub deleted : (job_reads r).deleted ≡ parts.deleted
-  pub grant : (job_reads r).grant ≡ parts.grant
-  pub begun : (job_reads r).begun ≡ parts.progress.begun
-  pub finished : (job_reads r).finished ≡ parts.progress.finished
-  pub touched : (job_reads r).touched ≡ parts.touched
+-- the fields, each beside the stamp of the operation that set it
+abbrev pub FieldValues : Type 0
+FieldValues = Fields (StampValue × List ℕ) (StampValue × List ℕ) (StampValue × ℤ) (StampValue × ℕ) (StampValue × ℕ) (StampValue × Option (List ℕ))
+
+abbrev pub fields_set : FieldValues → JobFields
+fields_set f = record {
+  owner = Some f.owner;
+  name = Some f.name;
+  priority = Some f.priority;
+  nodes = Some f.nodes;
+  limit = Some f.limit;
+  account = Some f.account;
+}
+
+abbrev pub record_of : JobParts → JobRecordValue
+record_of parts = record {
+  fields = fields_set parts.fields;
+  holds = parts.hold_tags.now;
+  sites = parts.site_tags.now;
+  stages = parts.stages;
+  touched = parts.touched;
+}

@@ -14,16 +14,18 @@ use Rattle.fed_lattice.specs.Laws.{IsAssociative, IsCommutative, IsIdempotent, J
 use Rattle.fed_lattice.specs.ExactLaws.{tells_booleans, tells_numbers, tells_stamps, tells_options, tells_pairs, tells_lists, tells_by_order}
 use Rattle.fed_model.specs.declared.beginnings.Beginning.{Beginning}
 use Rattle.fed_model.specs.declared.beginnings.Ending.{Ending}
-use Rattle.fed_record.specs.FieldsLaws.{same_fields, tells_fields}
+use Rattle.fed_model.specs.FieldsLaws.{same_fields, tells_fields}
 use Rattle.fed_model.specs.Grant.{grant_cmp}
 use Rattle.fed_model.specs.GrantLaws.{grant_total, exact_grant}
 use Rattle.fed_record.specs.declared.operations.Operation.{Operation}
 use Rattle.fed_record.specs.JobPartLaws.{joined_are_fields, fields_assoc, fields_comm, fields_itself, empty_fields_join, fields_add_change, fields_join_histories, fields_stand_for_sets, joined_are_stages, stages_assoc, stages_comm, stages_itself, empty_stages_join, stages_add_change, stages_join_histories, stages_stand_for_sets}
-use Rattle.fed_record.specs.JobRecord.{FieldsValue, StagesValue, JobRecordValue}
-use Rattle.fed_record.specs.JobRecordSteps.{AreFields, empty_fields, changed_fields, joined_fields, IsFieldHistory, fields_stand_for, AreStages, empty_stages, changed_stages, joined_stages, IsStageHistory, stages_stand_for, IsJobRecord, empty_record, changed_record, joined_record, IsJobHistory, job_record_stands_for}
+use Rattle.fed_model.specs.JobView.{JobFields, JobStages}
+use Rattle.fed_record.specs.JobRecord.{JobRecordValue}
+use Rattle.fed_record.specs.JobRecordSteps.{AreFields, join_fields, IsFieldHistory, fields_stand_for, AreStages, join_stages, IsStageHistory, stages_stand_for, IsJobRecord, empty_record, changed_record, joined_record, IsJobHistory, job_record_stands_for}
+use Rattle.fed_theory.specs.JobSteps.{empty_fields, changed_fields, empty_stages, changed_stages}
 use Rattle.fed_record.specs.RecordLaws.{tells_records, bottom_is_record, applied_is_record, joined_are_records, joined_records_assoc, joined_records_comm, joined_records_itself, bottom_records_join, bottom_record_stands, record_adds_change, record_joins_histories, record_stands_for_sets}
 use Rattle.fed_record.specs.RecordSteps.{same_record}
-use Rattle.fed_record.specs.StagesLaws.{same_stages, tells_stages}
+use Rattle.fed_model.specs.StagesLaws.{same_stages, tells_stages}
 
 -- ---- registers
 module _ {T : Type 0} (same : T → T → Bool) where
@@ -43,7 +45,7 @@ tells_names = tells_lists nat_eq tells_numbers
 tells_integers : TellsApart int_eq
 tells_integers = tells_by_order int_cmp int_eq int_cmp_total exact_signed (λ a b. refl)
 
-abbrev pub same_job_fields : FieldsValue → FieldsValue → Bool
+abbrev pub same_job_fields : JobFields → JobFields → Bool
 same_job_fields = same_fields (same_register same_name) (same_register same_name) (same_register int_eq)
     (same_register nat_eq) (same_register nat_eq) (same_register (option_eq same_name))
 
@@ -74,7 +76,7 @@ tells_endings a b =
       λ e. t.1 (ap parts e),
     )
 
-abbrev pub same_job_stages : StagesValue → StagesValue → Bool
+abbrev pub same_job_stages : JobStages → JobStages → Bool
 same_job_stages = same_stages beq (option_eq (eq_by_cmp grant_cmp)) (same_register same_beginning) (same_register same_ending)
 
 pub tells_job_stages : TellsApart same_job_stages
@@ -102,19 +104,19 @@ pub changed_is_job_record : (x : JobRecordValue) (s : StampValue) (c : Operation
 changed_is_job_record = applied_is_record AreFields AreStages changed_fields changed_stages (λ _ _ _ p. p) (λ _ _ _ p. p)
 
 pub joined_is_job_record : JoinsWellFormed IsJobRecord joined_record
-joined_is_job_record = joined_are_records AreFields AreStages joined_fields joined_stages joined_are_fields joined_are_stages
+joined_is_job_record = joined_are_records AreFields AreStages join_fields join_stages joined_are_fields joined_are_stages
 
 pub job_records_assoc : IsAssociative IsJobRecord joined_record
-job_records_assoc = joined_records_assoc AreFields AreStages joined_fields joined_stages fields_assoc stages_assoc
+job_records_assoc = joined_records_assoc AreFields AreStages join_fields join_stages fields_assoc stages_assoc
 
 pub job_records_comm : IsCommutative IsJobRecord joined_record
-job_records_comm = joined_records_comm AreFields AreStages joined_fields joined_stages fields_comm stages_comm
+job_records_comm = joined_records_comm AreFields AreStages join_fields join_stages fields_comm stages_comm
 
 pub job_records_itself : IsIdempotent IsJobRecord joined_record
-job_records_itself = joined_records_itself AreFields AreStages joined_fields joined_stages fields_itself stages_itself
+job_records_itself = joined_records_itself AreFields AreStages join_fields join_stages fields_itself stages_itself
 
 pub empty_records_join : BottomsJoin empty_record joined_record
-empty_records_join = bottom_records_join empty_fields empty_stages joined_fields joined_stages empty_fields_join empty_stages_join
+empty_records_join = bottom_records_join empty_fields empty_stages join_fields join_stages empty_fields_join empty_stages_join
 
 -- ---- what records stand for
 pub empty_record_stands : job_record_stands_for empty_record []
@@ -126,7 +128,7 @@ job_record_adds_change = record_adds_change AreFields AreStages IsFieldHistory I
 
 pub job_records_join_histories : JoinsHistories IsJobRecord IsJobHistory job_record_stands_for joined_record
 job_records_join_histories = record_joins_histories AreFields AreStages IsFieldHistory IsStageHistory fields_stand_for stages_stand_for
-    joined_fields joined_stages fields_join_histories stages_join_histories
+    join_fields join_stages fields_join_histories stages_join_histories
 
 pub job_record_stands_for_sets : StandsForSets job_record_stands_for
 job_record_stands_for_sets = record_stands_for_sets fields_stand_for stages_stand_for fields_stand_for_sets stages_stand_for_sets

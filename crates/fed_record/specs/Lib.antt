@@ -2,13 +2,9 @@
 pub mod Operation
 pub mod Reservation
 pub mod Changes
-pub mod NamedPartLaws
-pub mod Fields
-pub mod FieldsLaws
-pub mod Stages
-pub mod StagesLaws
 pub mod Record
 pub mod JobRecord
+pub mod CoveredJob
 pub mod JobParts
 pub mod RecordSteps
 pub mod RecordLaws

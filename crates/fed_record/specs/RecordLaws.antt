@@ -21,10 +21,11 @@ use Rattle.fed_tags.specs.Tags.{pair_cmp}
 use Rattle.fed_tags.specs.TagLaws.{pair_total, exact_pair, sorted_empty, sorted_applied, sorted_joined, joined_tags_assoc, joined_tags_comm, joined_tags_itself, empty_tags_stand, applied_tags_stand, joined_tags_stand, tags_stand_same}
 use Rattle.fed_model.specs.declared.holds.HoldKind.{HoldKind}
 use Rattle.fed_record.specs.declared.operations.Operation.{Operation}
-use Rattle.fed_record.specs.Changes.{JobFieldChanges, JobStageChanges, field_changes_of, stage_changes_of, hold_change, site_change, always}
+use Rattle.fed_theory.specs.JobSteps.{JobFieldChanges, JobStageChanges}
+use Rattle.fed_record.specs.Changes.{field_changes_of, stage_changes_of, hold_change, site_change, always}
 use Rattle.fed_model.specs.Hold.{kind_cmp}
 use Rattle.fed_model.specs.HoldLaws.{kind_total, exact_kind}
-use Rattle.fed_record.specs.NamedPartLaws.{part_adds_change, part_joins_histories, part_stands_for_sets}
+use Rattle.fed_model.specs.NamedPartLaws.{part_adds_change, part_joins_histories, part_stands_for_sets}
 use Rattle.fed_record.specs.Record.{RecordValue}
 use Rattle.fed_record.specs.RecordSteps.{same_record, IsRecord, applied_record, joined_records, record_stands_for, IsRecordHistory}
 

@@ -9,7 +9,8 @@ use Rattle.fed_lattice.specs.History.{History}
 use Rattle.fed_lattice.specs.VersionOf.{version_of}
 use Rattle.fed_tags.specs.Tags.{pair_cmp, applied_tags, joined_tags, IsTagHistory, tags_stand_for}
 use Rattle.fed_record.specs.declared.operations.Operation.{Operation}
-use Rattle.fed_record.specs.Changes.{JobFieldChanges, JobStageChanges, field_changes_of, stage_changes_of, hold_change, site_change, field_changes, stage_changes, hold_changes, site_changes}
+use Rattle.fed_theory.specs.JobSteps.{JobFieldChanges, JobStageChanges}
+use Rattle.fed_record.specs.Changes.{field_changes_of, stage_changes_of, hold_change, site_change, field_changes, stage_changes, hold_changes, site_changes}
 use Rattle.fed_model.specs.Hold.{kind_cmp}
 use Rattle.fed_record.specs.Record.{RecordValue}
 

@@ -1,50 +1,53 @@
 //! Records of jobs made of what they read as.
-ghost use Rattle.std.specs.Prelude.{◌≡◌, ◌↔◌, Some, IfOk, IsTrue};
+ghost use Rattle.std.specs.Prelude.{◌≡◌, ◌↔◌, IfOk, IsTrue};
 ghost use Rattle.std.specs.List.Sorted.{IsStrictlySortedBy};
 ghost use Rattle.std.specs.Ordering.{nat_cmp};
 ghost use Rattle.fed_tags.specs.Tags.{pair_cmp};
 ghost use Rattle.fed_model.specs.Hold.{kind_cmp};
 ghost use Rattle.fed_record.specs.Record.{AreCovered};
-ghost use Rattle.fed_record.specs.JobParts.{IsMadeOf, AreRecordParts};
+ghost use Rattle.fed_record.specs.JobParts.{AreRecordParts, fields_set, record_of};
 ghost use Rattle.fed_record.specs.JobRecord.{job_reads};
 ghost use Rattle.fed_model.specs.Letter.{is_submitted};
 
-use crate::fields::Fields;
-use crate::job_readers::Progress;
 use crate::records::{JobFields, JobRecord, JobStages};
-use crate::stages::Stages;
 use fed_lattice::{Causal, Flag, NoMemory, Register, Stage};
-use fed_model::{Account, GrantStage, HoldKind, Limit, Nodes, Priority};
+use fed_model::{
+    Account, Beginning, Ending, Fields, GrantStage, HoldKind, Limit, Nodes, Priority, Stages,
+};
 use fed_stamp::{SiteId, Stamp, Version, Word, site_is_in_range};
 use fed_tags::TagSet;
 use std::alloc::Global;
 
-/// What a record of a submitted job reads as: each value with the stamp of the operation that set it. Its holds, its
-/// sites and its letter follow from these.
+/// The fields of a submitted job, each beside the stamp of the operation that set it.
+pub type FieldParts = Fields<
+    (Stamp, Word),
+    (Stamp, Word),
+    (Stamp, Priority),
+    (Stamp, Nodes),
+    (Stamp, Limit),
+    (Stamp, Account),
+>;
+
+/// Whether a job is deleted, the greatest stage of its grants, or none where it was never granted, and its Begin and its
+/// Finish, each with its stamp.
+pub type StageParts = Stages<
+    bool,
+    Option<GrantStage>,
+    Option<(Stamp, Beginning)>,
+    Option<(Stamp, Ending)>,
+>;
+
+/// What a record of a submitted job reads as. Its holds, its sites and its letter follow from these.
 #[derive(Clone, Copy)]
 pub struct JobParts<'a> {
-    /// The user who submitted it.
-    pub owner: (Stamp, Word),
-    /// Its name.
-    pub name: (Stamp, Word),
-    /// Its priority.
-    pub priority: (Stamp, Priority),
-    /// How many nodes it runs on.
-    pub nodes: (Stamp, Nodes),
-    /// Its time limit, in seconds.
-    pub limit: (Stamp, Limit),
-    /// What it is charged to.
-    pub account: (Stamp, Account),
+    /// The fields.
+    pub fields: FieldParts,
     /// The live pairs of holds, strictly ascending by kind and then by stamp.
     pub hold_tags: &'a [(HoldKind, Stamp)],
     /// The live pairs of sites, strictly ascending by site and then by stamp.
     pub site_tags: &'a [(SiteId, Stamp)],
-    /// Whether it is deleted.
-    pub deleted: bool,
-    /// The greatest stage of its grants, or none where it was never granted.
-    pub grant: Option<GrantStage>,
-    /// Its Begin and its Finish.
-    pub progress: Progress,
+    /// The stages.
+    pub stages: StageParts,
     /// For each site the greatest counter among the stamps of the job's operations. It covers every tag.
     pub touched: Version,
 }
@@ -77,36 +80,28 @@ impl JobParts<'_> {
 }
 
 // The registers of a job.
-fn fields_of(parts: &JobParts) -> JobFields
-    ensures owner { result.owner ≡ Some parts.now.owner }
-    ensures name { result.name ≡ Some parts.now.name }
-    ensures priority { result.priority ≡ Some parts.now.priority }
-    ensures nodes { result.nodes ≡ Some parts.now.nodes }
-    ensures limit { result.limit ≡ Some parts.now.limit }
-    ensures account { result.account ≡ Some parts.now.account }
+fn fields_of(fields: &FieldParts) -> JobFields
+    ensures { result ≡ fields_set fields.now }
 {
     Fields {
-        owner: Register::new(Some(parts.owner)),
-        name: Register::new(Some(parts.name)),
-        priority: Register::new(Some(parts.priority)),
-        nodes: Register::new(Some(parts.nodes)),
-        limit: Register::new(Some(parts.limit)),
-        account: Register::new(Some(parts.account)),
+        owner: Register::new(Some(fields.owner)),
+        name: Register::new(Some(fields.name)),
+        priority: Register::new(Some(fields.priority)),
+        nodes: Register::new(Some(fields.nodes)),
+        limit: Register::new(Some(fields.limit)),
+        account: Register::new(Some(fields.account)),
     }
 }
 
 // The stages of a job.
-fn stages_of(parts: &JobParts) -> JobStages
-    ensures deleted { result.deleted ≡ parts.now.deleted }
-    ensures grant { result.grant ≡ parts.now.grant }
-    ensures begun { result.begun ≡ parts.now.progress.begun }
-    ensures finished { result.finished ≡ parts.now.progress.finished }
+fn stages_of(stages: &StageParts) -> JobStages
+    ensures { result ≡ stages.now }
 {
     Stages {
-        deleted: Flag::new(parts.deleted),
-        grant: Stage::new(parts.grant),
-        begun: Register::new(parts.progress.begun),
-        finished: Register::new(parts.progress.finished),
+        deleted: Flag::new(stages.deleted),
+        grant: Stage::new(stages.grant),
+        begun: Register::new(stages.begun),
+        finished: Register::new(stages.finished),
     }
 }
 
@@ -119,16 +114,16 @@ impl JobRecord {
         requires sites_ascend { IsStrictlySortedBy (pair_cmp nat_cmp) parts.now.site_tags.now }
         requires holds_covered { AreCovered parts.now.touched parts.now.hold_tags.now }
         requires sites_covered { AreCovered parts.now.touched parts.now.site_tags.now }
-        ensures made { IfOk result (λ r. IsMadeOf r parts.now) }
+        ensures made { IfOk result (λ r. r ≡ record_of parts.now) }
         ensures well_formed { IfOk result ⟦<JobRecord as Causal>⟧.well_formed }
         ensures submitted { IfOk result (λ r. IsTrue (is_submitted (job_reads r))) }
     {
         Ok(JobRecord {
             alloc,
-            fields: fields_of(parts),
+            fields: fields_of(&parts.fields),
             holds: TagSet::from_pairs(alloc, parts.hold_tags)?,
             sites: TagSet::from_pairs(alloc, parts.site_tags)?,
-            stages: stages_of(parts),
+            stages: stages_of(&parts.stages),
             touched: parts.touched,
         })
     }

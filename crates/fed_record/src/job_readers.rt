@@ -44,7 +44,7 @@ impl JobRecord {
     /// The owner, with the stamp of the submission.
     pub fn owner(&self) -> (Stamp, Word)
         requires { IsTrue (is_job_submitted (job_reads self.now)) }
-        ensures { (job_reads self.now).owner ≡ Some result }
+        ensures { (job_reads self.now).fields.owner ≡ Some result }
     {
         self.fields.owner.get().unwrap()
     }
@@ -52,7 +52,7 @@ impl JobRecord {
     /// The name, with the stamp of the operation that set it.
     pub fn name(&self) -> (Stamp, Word)
         requires { IsTrue (is_job_submitted (job_reads self.now)) }
-        ensures { (job_reads self.now).name ≡ Some result }
+        ensures { (job_reads self.now).fields.name ≡ Some result }
     {
         self.fields.name.get().unwrap()
     }
@@ -60,7 +60,7 @@ impl JobRecord {
     /// The priority, with the stamp of the operation that set it.
     pub fn priority(&self) -> (Stamp, Priority)
         requires { IsTrue (is_job_submitted (job_reads self.now)) }
-        ensures { (job_reads self.now).priority ≡ Some result }
+        ensures { (job_reads self.now).fields.priority ≡ Some result }
     {
         self.fields.priority.get().unwrap()
     }
@@ -68,7 +68,7 @@ impl JobRecord {
     /// The number of nodes, with the stamp of the operation that set it.
     pub fn nodes(&self) -> (Stamp, Nodes)
         requires { IsTrue (is_job_submitted (job_reads self.now)) }
-        ensures { (job_reads self.now).nodes ≡ Some result }
+        ensures { (job_reads self.now).fields.nodes ≡ Some result }
     {
         self.fields.nodes.get().unwrap()
     }
@@ -76,7 +76,7 @@ impl JobRecord {
     /// The time limit in seconds, with the stamp of the operation that set it.
     pub fn limit(&self) -> (Stamp, Limit)
         requires { IsTrue (is_job_submitted (job_reads self.now)) }
-        ensures { (job_reads self.now).limit ≡ Some result }
+        ensures { (job_reads self.now).fields.limit ≡ Some result }
     {
         self.fields.limit.get().unwrap()
     }
@@ -84,7 +84,7 @@ impl JobRecord {
     /// The account, with the stamp of the operation that set it.
     pub fn account(&self) -> (Stamp, Account)
         requires { IsTrue (is_job_submitted (job_reads self.now)) }
-        ensures { (job_reads self.now).account ≡ Some result }
+        ensures { (job_reads self.now).fields.account ≡ Some result }
     {
         self.fields.account.get().unwrap()
     }
@@ -151,14 +151,14 @@ impl JobRecord {
 
     /// Whether the job is deleted.
     pub fn deleted(&self) -> bool
-        ensures { result ≡ (job_reads self.now).deleted }
+        ensures { result ≡ (job_reads self.now).stages.deleted }
     {
         self.stages.deleted.get()
     }
 
     /// The greatest stage of the job's grants, or none where it was never granted.
     pub fn grant(&self) -> Option<GrantStage>
-        ensures { result ≡ (job_reads self.now).grant }
+        ensures { result ≡ (job_reads self.now).stages.grant }
     {
         self.stages.grant.get()
     }
@@ -182,8 +182,8 @@ impl JobRecord {
 
     /// The Begin and the Finish, each with its stamp.
     pub fn progress(&self) -> Progress
-        ensures begun { result.begun ≡ (job_reads self.now).begun }
-        ensures finished { result.finished ≡ (job_reads self.now).finished }
+        ensures begun { result.begun ≡ (job_reads self.now).stages.begun }
+        ensures finished { result.finished ≡ (job_reads self.now).stages.finished }
     {
         Progress {
             begun: self.stages.begun.get(),

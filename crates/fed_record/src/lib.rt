@@ -1,12 +1,10 @@
 //! Operations as the code holds them, and the records of jobs and of reservations that they change.
 #![tactic(auto)]
 
+/// Whether the version of a job's operations covers the stamps that are read of it.
+pub mod covered_stamps;
 /// Facts that the types keep.
 pub mod facts;
-/// The fields of jobs by name, and changes of them.
-pub mod fields;
-/// Values that are never refused memory.
-pub mod inlines;
 /// Records of jobs made of what they read as.
 pub mod job_parts;
 /// What is read of the record of a job.
@@ -21,21 +19,16 @@ pub mod operations;
 pub mod records;
 /// What is read of the operations of one reservation.
 pub mod reservations;
-/// The stages of jobs by name, and changes of them.
-pub mod stages;
 
 pub use facts::tags_are_covered;
 pub use fed_model::{
-    Account, Beginning, Changes, Command, Ending, GrantStage, HoldKind, HoldKinds, JobValues,
+    Account, Beginning, Changes, Command, Ending, Fields, GrantStage, HoldKind, HoldKinds, JobValues,
     Letter, Limit, MAX_END, MAX_LIMIT, MAX_MOMENT, MAX_PRIORITY, MAX_STATUS, MAX_TERM,
-    MIN_PRIORITY, Moment, Nodes, Priority, Refusal, Reply, Role, Term, Who, Window,
+    MIN_PRIORITY, Moment, Nodes, Priority, Refusal, Reply, Role, Stages, Term, Who, Window,
 };
-pub use fields::{FieldChanges, Fields};
-pub use inlines::Inline;
-pub use job_parts::JobParts;
+pub use job_parts::{FieldParts, JobParts, StageParts};
 pub use job_readers::Progress;
 pub use operation_changes::{JobFieldChanges, JobStageChanges};
 pub use operations::Operation;
 pub use records::JobRecord;
 pub use reservations::Reservation;
-pub use stages::{StageChanges, Stages};

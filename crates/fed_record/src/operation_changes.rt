@@ -8,26 +8,34 @@ ghost use Rattle.fed_model.specs.Pairs.{adds_hold as is_hold_added, adds_site as
 ghost use Rattle.fed_model.specs.Hold.{all_kinds};
 ghost use Rattle.fed_record.specs.Changes.{field_changes_of, stage_changes_of, removed_holds as holds_removed, removed_sites as sites_removed};
 
-use crate::fields::FieldChanges;
 use crate::operations::Operation;
-use crate::stages::StageChanges;
 use fed_lattice::NoMemory;
-use fed_model::{Account, Beginning, Ending, GrantStage, HoldKind, Limit, Nodes, Priority};
+use fed_model::{
+    Account, Beginning, Ending, Fields, GrantStage, HoldKind, Limit, Nodes, Priority, Stages,
+};
 use fed_stamp::{SITES, SiteId, SiteSet, Stamp, Word};
 use std::alloc::Global;
 
-/// A change of the fields of a job.
-pub type JobFieldChanges = FieldChanges<Word, Word, Priority, Nodes, Limit, Account>;
+/// What changes in each field of a job, if anything does.
+pub type JobFieldChanges = Fields<
+    Option<Word>,
+    Option<Word>,
+    Option<Priority>,
+    Option<Nodes>,
+    Option<Limit>,
+    Option<Account>,
+>;
 
-/// A change of the stages of a job.
-pub type JobStageChanges = StageChanges<(), GrantStage, Beginning, Ending>;
+/// What changes in each stage of a job, if anything does.
+pub type JobStageChanges =
+    Stages<Option<()>, Option<GrantStage>, Option<Beginning>, Option<Ending>>;
 
 /// What the operation changes in the fields.
 pub(crate) fn field_changes(operation: &Operation) -> JobFieldChanges
     ensures { result ≡ field_changes_of operation.now }
 {
     match operation {
-        Operation::Submit { owner, values, .. } => FieldChanges {
+        Operation::Submit { owner, values, .. } => Fields {
             owner: Some(*owner),
             name: Some(values.name),
             priority: Some(values.priority),
@@ -35,7 +43,7 @@ pub(crate) fn field_changes(operation: &Operation) -> JobFieldChanges
             limit: Some(values.limit),
             account: Some(values.account),
         },
-        Operation::Set { changes, .. } => FieldChanges {
+        Operation::Set { changes, .. } => Fields {
             owner: None,
             name: changes.name,
             priority: changes.priority,
@@ -43,7 +51,7 @@ pub(crate) fn field_changes(operation: &Operation) -> JobFieldChanges
             limit: changes.limit,
             account: changes.account,
         },
-        _ => FieldChanges {
+        _ => Fields {
             owner: None,
             name: None,
             priority: None,
@@ -58,18 +66,18 @@ pub(crate) fn field_changes(operation: &Operation) -> JobFieldChanges
 pub(crate) fn stage_changes(at: Stamp, operation: &Operation) -> JobStageChanges
     ensures { result ≡ stage_changes_of (at, operation.now) }
 {
-    let none = StageChanges {
+    let none = Stages {
         deleted: None,
         grant: None,
         begun: None,
         finished: None,
     };
     match operation {
-        Operation::Delete { .. } => StageChanges {
+        Operation::Delete { .. } => Stages {
             deleted: Some(()),
             ..none
         },
-        Operation::Grant { site, term, .. } => StageChanges {
+        Operation::Grant { site, term, .. } => Stages {
             grant: Some(GrantStage::Open {
                 term: *term,
                 stamp: at,
@@ -77,18 +85,18 @@ pub(crate) fn stage_changes(at: Stamp, operation: &Operation) -> JobStageChanges
             }),
             ..none
         },
-        Operation::HandBack { term, .. } => StageChanges {
+        Operation::HandBack { term, .. } => Stages {
             grant: Some(GrantStage::Returned {
                 term: *term,
                 stamp: at,
             }),
             ..none
         },
-        Operation::Begin { beginning, .. } => StageChanges {
+        Operation::Begin { beginning, .. } => Stages {
             begun: Some(*beginning),
             ..none
         },
-        Operation::Finish { ending, .. } => StageChanges {
+        Operation::Finish { ending, .. } => Stages {
             finished: Some(*ending),
             ..none
         },

@@ -7,15 +7,15 @@ ghost use Rattle.fed_model.specs.Hold.{kind_cmp};
 ghost use Rattle.fed_record.specs.JobRecordSteps.{IsJobRecord, empty_record, changed_record, joined_record, IsJobHistory, job_record_stands_for};
 ghost use Rattle.fed_record.specs.JobRecordLaws.{same_job_fields, same_job_stages, same_job_record, tells_job_records, job_record_equality, empty_is_job_record, changed_is_job_record, joined_is_job_record, job_records_assoc, job_records_comm, job_records_itself, empty_records_join, empty_record_stands, job_record_adds_change, job_records_join_histories, job_record_stands_for_sets};
 
-use crate::fields::Fields;
-use crate::inlines::{apply_inline, copy_inline, join_inline};
 use crate::operation_changes::{
     added_holds, added_sites, field_changes, removed_holds, removed_sites, stage_changes,
 };
 use crate::operations::Operation;
-use crate::stages::Stages;
 use fed_lattice::{Causal, ExactEq, Flag, NoMemory, Register, Stage};
-use fed_model::{Account, Beginning, Ending, GrantStage, HoldKind, Limit, Nodes, Priority};
+use fed_model::{
+    Account, Beginning, Ending, Fields, GrantStage, HoldKind, Limit, Nodes, Priority, Stages,
+    apply_inline, copy_inline, join_inline,
+};
 use fed_stamp::{SiteId, Stamp, Version, Word};
 use fed_tags::TagSet;
 use std::alloc::Global;

@@ -68,12 +68,12 @@ entry_runs site (Some begun) h = go (nat_eq begun.0.site site)
     go true = and_from _ _ (and_from _ _ (le-leb 1 begun.1.nodes h.1.0) (le-leb begun.1.nodes 1_000_000 h.1.1)) (le-leb begun.1.end 1_000_010_000_000 h.2.1)
     go false = tt
 
-job_runs : (site : ℕ) (j : JobView) → IfSome j.begun HasBeginning → IfSome (running_of site j) MayRun
-job_runs site j h = go (is_some j.finished)
+job_runs : (site : ℕ) (j : JobView) → IfSome j.stages.begun HasBeginning → IfSome (running_of site j) MayRun
+job_runs site j h = go (is_some j.stages.finished)
   where
-    go : (b : Bool) → IfSome (if b then None else entry_of site j.begun) MayRun
+    go : (b : Bool) → IfSome (if b then None else entry_of site j.stages.begun) MayRun
     go true = tt
-    go false = entry_runs site j.begun h
+    go false = entry_runs site j.stages.begun h
 
 -- ---- a Begin that is read is one of the operations
 begin_said : (body : Body) (beginning : Beginning) → IsInRange body → begin_in body ≡ Some beginning → IsBeginning beginning

@@ -78,7 +78,7 @@ is_term n term e = (grind (arith, nat_tests), grind (arith, nat_tests))
 
 module _ (v : View) (here : ℕ) (who : Who) (job : StampValue) (asker : ℕ) where
   abbrev last : Case
-  last = (is_last_term (v.job job).grant, Refusal.ClockFull)
+  last = (is_last_term (v.job job).stages.grant, Refusal.ClockFull)
 
   pub grant_refused : (refusal : Refusal) → decision v here job asker ≡ Decision.Refused refusal → Refuses refusal ≡ answer_to v here who (Command.Grant job asker)
   grant_refused refusal d = refused v here who (Command.Grant job asker) refusal (first_before (grant_refusals v here job asker) (last ∷ []) refusal (refused_by _ _ refusal d))
@@ -87,10 +87,10 @@ module _ (v : View) (here : ℕ) (who : Who) (job : StampValue) (asker : ℕ) wh
   grant_yours d =
       let p = yours_by (first_of (grant_refusals v here job asker)) (is_granted_to (v.job job) asker) d in
       nothing_added v here who (Command.Grant job asker)
-      (last_applies (grant_refusals v here job asker) last p.0 ∙ ap (λ b. if b then Some Refusal.ClockFull else None) (open_not_last (v.job job).grant asker p.1))
-      (ap (λ b. if b then None else Some (Body.Grant job asker (term_in (v.job job).grant + 1))) p.1)
+      (last_applies (grant_refusals v here job asker) last p.0 ∙ ap (λ b. if b then Some Refusal.ClockFull else None) (open_not_last (v.job job).stages.grant asker p.1))
+      (ap (λ b. if b then None else Some (Body.Grant job asker (term_in (v.job job).stages.grant + 1))) p.1)
 
-  module _ (d : decision v here job asker ≡ Decision.Grant) (n : ℕ) (is : n ≡ term_in (v.job job).grant) where
+  module _ (d : decision v here job asker ≡ Decision.Grant) (n : ℕ) (is : n ≡ term_in (v.job job).stages.grant) where
     parts : (first_of (grant_refusals v here job asker) ≡ None) × (is_granted_to (v.job job) asker ≡ false)
     parts = granted_by (first_of (grant_refusals v here job asker)) (is_granted_to (v.job job) asker) d
 
@@ -98,11 +98,11 @@ module _ (v : View) (here : ℕ) (who : Who) (job : StampValue) (asker : ℕ) wh
     table =
         last_applies (grant_refusals v here job asker) last parts.0
         ∙ ap (λ b. if b then Some Refusal.ClockFull else None)
-        (free_last (v.job job).grant asker (clear (grant_refusals v here job asker) parts.0).1.1.1.1.1.0 parts.1 ∙ ap (nat_le MAX_TERM) (sym is))
+        (free_last (v.job job).stages.grant asker (clear (grant_refusals v here job asker) parts.0).1.1.1.1.1.0 parts.1 ∙ ap (nat_le MAX_TERM) (sym is))
 
     grants : (term : ℕ) → n + 1 ≡ term → effect v who (Command.Grant job asker) ≡ Some (Body.Grant job asker term)
     grants term e =
-        ap (λ b. if b then None else Some (Body.Grant job asker (term_in (v.job job).grant + 1))) parts.1
+        ap (λ b. if b then None else Some (Body.Grant job asker (term_in (v.job job).stages.grant + 1))) parts.1
         ∙ ap (λ (k : ℕ). Some (Body.Grant job asker (k + 1))) (sym is) ∙ ap (λ (k : ℕ). Some (Body.Grant job asker k)) e
 
     pub grant_last : None ≡ new_term (n + 1) → Refuses Refusal.ClockFull ≡ answer_to v here who (Command.Grant job asker)

@@ -70,8 +70,8 @@ pub(crate) fn released(
 
 /// The job's last term. It asks that the job was granted.
 pub(crate) fn granted_term(job: &JobRecord) -> Term
-    requires { IsSome (job_reads job.now).grant }
-    ensures { result ≡ term_in (job_reads job.now).grant }
+    requires { IsSome (job_reads job.now).stages.grant }
+    ensures { result ≡ term_in (job_reads job.now).stages.grant }
 {
     job.grant().unwrap().term()
 }

@@ -120,23 +120,23 @@ module _ (ops : History Body) (l : IsLawful ops) (here : ℕ) (t : StampValue) (
       let p : named ≡ job = same_stamp_is named job of in let q : b ≡ a = cc in (λ i. Begin (p i) (q i))
   begin_body job _ a s e of = cc
 
-  begun : (job : StampValue) → is_none ((view ops).job job).begun ≡ false → (s : StampValue) × (a : Beginning) × Has ops (s, Begin job a)
+  begun : (job : StampValue) → is_none ((view ops).job job).stages.begun ≡ false → (s : StampValue) × (a : Beginning) × Has ops (s, Begin job a)
   begun job e =
       let o = some_found (field begin_in (of_job job ops)) (not-false _ e) in
       let f = field_found begin_in (of_job job ops) o.0 o.1 in
       let m = Has-filter (is_of_job job) ops (o.0.0, f.0) f.1 in
       (o.0.0, o.0.1, subst (λ (body : Body). Has ops (o.0.0, body)) (begin_body job f.0 o.0.1 o.0.0 f.2 m.1) m.0)
 
-  not_begun : (job : StampValue) → is_some ((view ops).job job).begun ≡ false → (s : StampValue) (a : Beginning) → Has ops (s, Begin job a) → ⊥
+  not_begun : (job : StampValue) → is_some ((view ops).job job).stages.begun ≡ false → (s : StampValue) (a : Beginning) → Has ops (s, Begin job a) → ⊥
   not_begun job e s a h =
       let n = field_none begin_in (of_job job ops) (none_found _ e) s (Begin job a) (filter-Has (is_of_job job) ops (s, Begin job a) h (same_stamp_itself job)) in cc
 
-  gone_from_finished : (job : StampValue) → is_some ((view ops).job job).finished ≡ true → is_gone ((view ops).job job) ≡ true
+  gone_from_finished : (job : StampValue) → is_some ((view ops).job job).stages.finished ≡ true → is_gone ((view ops).job job) ≡ true
   gone_from_finished job e =
-      let j : JobView = (view ops).job job in or_left (is_some j.finished) (j.deleted && is_none j.begun) e
+      let j : JobView = (view ops).job job in or_left (is_some j.stages.finished) (j.stages.deleted && is_none j.stages.begun) e
 
   not_finished : (job : StampValue) → is_gone ((view ops).job job) ≡ false → (s : StampValue) (a : Ending) → Has ops (s, Finish job a) → ⊥
-  not_finished job e s a h = elim (cases_Bool (is_some ((view ops).job job).finished)) [
+  not_finished job e s a h = elim (cases_Bool (is_some ((view ops).job job).stages.finished)) [
     | inl there ↦ both_ways _ e (gone_from_finished job there)
     | inr none ↦ (let n = field_none finish_in (of_job job ops) (none_found _ none) s (Finish job a) (filter-Has (is_of_job job) ops (s, Finish job a) h (same_stamp_itself job)) in cc)
   ]
@@ -161,7 +161,7 @@ module _ (ops : History Body) (l : IsLawful ops) (here : ℕ) (t : StampValue) (
   next_term job zero s h = tt
   next_term job (suc term) s h = (s, (h, before s (HandBack job (suc term)) h))
 
-  grant_follows : (job : StampValue) (asker : ℕ) (g : Option GrantStage) → ((view ops).job job).grant ≡ g → is_taken asker ((view ops).job job) ≡ false → is_granted_to ((view ops).job job) asker ≡ false → is_last_term g ≡ false
+  grant_follows : (job : StampValue) (asker : ℕ) (g : Option GrantStage) → ((view ops).job job).stages.grant ≡ g → is_taken asker ((view ops).job job) ≡ false → is_granted_to ((view ops).job job) asker ≡ false → is_last_term g ≡ false
       → (IsNextTerm ops t job (term_in g + 1)) × (MayFollow ops t (Grant job asker (term_in g + 1))) × (term_in g + 1 ≤ 1_000_000_000)
   grant_follows job asker None is free not_mine last = (tt, λ s other h. no_grants ops job is s other 1 h, omega arith)
   grant_follows job asker (Some (Open term s holder)) is free not_mine last =
@@ -188,12 +188,12 @@ module _ (ops : History Body) (l : IsLawful ops) (here : ℕ) (t : StampValue) (
   at_here : (job : StampValue) (site term : ℕ) → ((s : StampValue) × Has ops (s, Grant job here term)) → (s : StampValue) × Has ops (s, Grant job t.site term)
   at_here job site term g = (g.0, subst (λ (n : ℕ). Has ops (g.0, Grant job n term)) (sym next.site) g.1)
 
-  handed_back : (job : StampValue) → is_granted_to ((view ops).job job) here ≡ true → IsSubmitted ops t job → is_some ((view ops).job job).begun ≡ false → IsAllowed ops t (HandBack job (term_in ((view ops).job job).grant))
+  handed_back : (job : StampValue) → is_granted_to ((view ops).job job) here ≡ true → IsSubmitted ops t job → is_some ((view ops).job job).stages.begun ≡ false → IsAllowed ops t (HandBack job (term_in ((view ops).job job).stages.grant))
   handed_back job e sub idle =
       let o = granted_open ops job here e in
       let term : ℕ = o.0 in
       let g = at_here job here term (o.1, open_granted ops job term o.1 here o.2) in
-      let same : term ≡ term_in ((view ops).job job).grant = sym (ap term_in o.2) in
+      let same : term ≡ term_in ((view ops).job job).stages.grant = sym (ap term_in o.2) in
       subst (λ (n : ℕ). IsAllowed ops t (HandBack job n)) same (record {
         grounded = (sub, (g.0, (g.1, before g.0 (Grant job t.site term) g.1)));
         may = (λ s h. open_kept ops job term o.1 here o.2 s h, not_begun job idle);
@@ -221,7 +221,7 @@ module _ (ops : History Body) (l : IsLawful ops) (here : ℕ) (t : StampValue) (
       is_body _ new e (record { grounded = submitted job r.0; may = tt; placed = tt; limited = tt })
   effect_allowed who (Command.Grant job asker) new r e =
       body_unless (is_granted_to ((view ops).job job) asker) _ new e (λ f.
-      let g = grant_follows job asker ((view ops).job job).grant refl r.1.1.1.1.1.0 f r.1.1.1.1.1.1.0 in
+      let g = grant_follows job asker ((view ops).job job).stages.grant refl r.1.1.1.1.1.0 f r.1.1.1.1.1.1.0 in
       record {
         grounded = (submitted job r.0, g.0);
         may = g.1;

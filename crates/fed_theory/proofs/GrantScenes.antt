@@ -134,6 +134,6 @@ anew_letter : letter ((view ((run_from 2 (run 2 returned) anew).site 1).set).job
 unfolding answer_to any_below is_below joined
 anew_letter = refl
 
-anew_holder : holder_in ((view ((run_from 2 (run 2 returned) anew).site 1).set).job job).grant ≡ Some 0
+anew_holder : holder_in ((view ((run_from 2 (run 2 returned) anew).site 1).set).job job).stages.grant ≡ Some 0
 unfolding answer_to any_below is_below joined
 anew_holder = refl

@@ -16,7 +16,7 @@ use Rattle.fed_theory.specs.JobSteps.{add_to_job, join_jobs}
 use Rattle.fed_theory.specs.ValueOrders.{name_cmp, account_cmp, beginning_cmp, ending_cmp}
 use Rattle.fed_theory.specs.ValueOrderLaws.{name_total, priority_total, number_total, account_total, beginning_total, ending_total}
 use Rattle.std.specs.Ordering.{nat_cmp, int_cmp}
-use Rattle.fed_theory.proofs.FieldLaws.{field_union, field_push, field_same, grant_union, grant_push, grant_same, deleted_union, deleted_push, deleted_same}
+use Rattle.fed_theory.proofs.FieldLaws.{field_union, field_set, field_same, grant_union, grant_push, grant_same, deleted_union, deleted_push, deleted_same}
 use Rattle.fed_theory.proofs.PairLaws.{live_union, live_push, live_same}
 
 -- where two sets agree and each removes what it added, their union is read by joining what is read of each
@@ -36,18 +36,10 @@ job_union v w g h agree here there =
     let finished = field_union ending_cmp ending_total finish_in g h one in
     let touched = version_of-append g h in
     (λ i. record {
-      owner = owner i;
-      name = name i;
-      priority = priority i;
-      nodes = nodes i;
-      limit = limit i;
-      account = account i;
+      fields = record { owner = owner i; name = name i; priority = priority i; nodes = nodes i; limit = limit i; account = account i };
       sites = λ site tag. live_union adds_site removes_site site tag v w g h agree here.sites there.sites i;
       holds = λ kind tag. live_union adds_hold removes_hold kind tag v w g h agree here.holds there.holds i;
-      deleted = deleted i;
-      grant = grant i;
-      begun = begun i;
-      finished = finished i;
+      stages = record { deleted = deleted i; grant = grant i; begun = begun i; finished = finished i };
       touched = touched i;
     })
 
@@ -55,30 +47,22 @@ job_union v w g h agree here there =
 pub job_push : (h : History Body) (e : StampValue × Body) → OneEach (h ++ e ∷ []) → IsFresh e.0 h → IsJobHistory h → job_view (h ++ e ∷ []) ≡ add_to_job e.0 e.1 (job_view h)
 unfolding add_to_job
 job_push h e one fresh rests =
-    let owner = field_push name_cmp name_total owner_in h e one in
-    let name = field_push name_cmp name_total name_in h e one in
-    let priority = field_push int_cmp priority_total priority_in h e one in
-    let nodes = field_push nat_cmp number_total nodes_in h e one in
-    let limit = field_push nat_cmp number_total limit_in h e one in
-    let account = field_push account_cmp account_total account_in h e one in
+    let owner = field_set name_cmp name_total owner_in h e one in
+    let name = field_set name_cmp name_total name_in h e one in
+    let priority = field_set int_cmp priority_total priority_in h e one in
+    let nodes = field_set nat_cmp number_total nodes_in h e one in
+    let limit = field_set nat_cmp number_total limit_in h e one in
+    let account = field_set account_cmp account_total account_in h e one in
     let deleted = deleted_push h e in
     let grant = grant_push h e in
-    let begun = field_push beginning_cmp beginning_total begin_in h e one in
-    let finished = field_push ending_cmp ending_total finish_in h e one in
+    let begun = field_set beginning_cmp beginning_total begin_in h e one in
+    let finished = field_set ending_cmp ending_total finish_in h e one in
     let touched = version_of-push h e in
     (λ i. record {
-      owner = owner i;
-      name = name i;
-      priority = priority i;
-      nodes = nodes i;
-      limit = limit i;
-      account = account i;
+      fields = record { owner = owner i; name = name i; priority = priority i; nodes = nodes i; limit = limit i; account = account i };
       sites = λ site tag. live_push adds_site removes_site site tag h e fresh rests.sites i;
       holds = λ kind tag. live_push adds_hold removes_hold kind tag h e fresh rests.holds i;
-      deleted = deleted i;
-      grant = grant i;
-      begun = begun i;
-      finished = finished i;
+      stages = record { deleted = deleted i; grant = grant i; begun = begun i; finished = finished i };
       touched = touched i;
     })
 
@@ -97,18 +81,10 @@ job_same g h same one =
     let finished = field_same finish_in g h same one in
     let touched = version_of-same g h same in
     (λ i. record {
-      owner = owner i;
-      name = name i;
-      priority = priority i;
-      nodes = nodes i;
-      limit = limit i;
-      account = account i;
+      fields = record { owner = owner i; name = name i; priority = priority i; nodes = nodes i; limit = limit i; account = account i };
       sites = λ site tag. live_same adds_site removes_site site tag g h same i;
       holds = λ kind tag. live_same adds_hold removes_hold kind tag g h same i;
-      deleted = deleted i;
-      grant = grant i;
-      begun = begun i;
-      finished = finished i;
+      stages = record { deleted = deleted i; grant = grant i; begun = begun i; finished = finished i };
       touched = touched i;
     })
 

@@ -4,6 +4,7 @@ pub mod FieldLaws
 pub mod FoundLaws
 pub mod PresenceLaws
 pub mod JobLaws
+pub mod FieldTests
 -- Sets of operations.
 pub mod VersionGrowth
 pub mod CoveredStamps

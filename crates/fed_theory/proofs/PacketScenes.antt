@@ -36,11 +36,11 @@ altered_twice =
     ∷ Take 0 4
     ∷ []
 
-altered_at_first : ((view ((run 2 altered_twice).site 0).set).job job).priority ≡ Some (at 2 1, pos 7)
+altered_at_first : ((view ((run 2 altered_twice).site 0).set).job job).fields.priority ≡ Some (at 2 1, pos 7)
 unfolding answer_to any_below is_below joined
 altered_at_first = refl
 
-altered_at_second : ((view ((run 2 altered_twice).site 1).set).job job).priority ≡ Some (at 2 1, pos 7)
+altered_at_second : ((view ((run 2 altered_twice).site 1).set).job job).fields.priority ≡ Some (at 2 1, pos 7)
 unfolding answer_to any_below is_below joined
 altered_at_second = refl
 

@@ -54,19 +54,19 @@ field_read ops job set_in IsOne ranged each e =
     subst IsOne (sym (ap value_in o.1)) (each f.0 o.0.1 (ranged (o.0.0, f.0) m.0) f.2)
 
 module _ (ops : History Body) (ranged : AreInRange ops) where
-  from_nodes : (job : StampValue) → is_submitted ((view ops).job job) ≡ true → (is_some ((view ops).job job).nodes ≡ true) × (is_some ((view ops).job job).limit ≡ true)
+  from_nodes : (job : StampValue) → is_submitted ((view ops).job job) ≡ true → (is_some ((view ops).job job).fields.nodes ≡ true) × (is_some ((view ops).job job).fields.limit ≡ true)
   from_nodes job e =
       let j : JobView = (view ops).job job in
-      let a = and_parts (is_some j.owner) _ e in
-      let b = and_parts (is_some j.name) _ a.1 in
-      let c = and_parts (is_some j.priority) _ b.1 in
-      let d = and_parts (is_some j.nodes) _ c.1 in
-      (d.0, (and_parts (is_some j.limit) (is_some j.account) d.1).0)
+      let a = and_parts (is_some j.fields.owner) _ e in
+      let b = and_parts (is_some j.fields.name) _ a.1 in
+      let c = and_parts (is_some j.fields.priority) _ b.1 in
+      let d = and_parts (is_some j.fields.nodes) _ c.1 in
+      (d.0, (and_parts (is_some j.fields.limit) (is_some j.fields.account) d.1).0)
 
-  limit_read : (job : StampValue) → is_submitted ((view ops).job job) ≡ true → IsFrom 1 MAX_LIMIT (value_in ((view ops).job job).limit)
+  limit_read : (job : StampValue) → is_submitted ((view ops).job job) ≡ true → IsFrom 1 MAX_LIMIT (value_in ((view ops).job job).fields.limit)
   limit_read job e = field_read ops job limit_in (IsFrom 1 MAX_LIMIT) ranged limit_ranged (from_nodes job e).1
 
-  nodes_read : (job : StampValue) → is_submitted ((view ops).job job) ≡ true → IsFrom 1 MAX_NODES (value_in ((view ops).job job).nodes)
+  nodes_read : (job : StampValue) → is_submitted ((view ops).job job) ≡ true → IsFrom 1 MAX_NODES (value_in ((view ops).job job).fields.nodes)
   nodes_read job e = field_read ops job nodes_in (IsFrom 1 MAX_NODES) ranged nodes_ranged (from_nodes job e).0
 
 -- ---- windows that are not bad
@@ -104,12 +104,12 @@ module _ (ops : History Body) (ranged : AreInRange ops) (here : ℕ) (who : Who)
   effect_ranged (Command.Release job kinds) new t r a e = subst IsInRange (if_same _ _ new e) tt
   effect_ranged (Command.Delete job) new t r a e = subst IsInRange (same_Some _ new e) tt
   effect_ranged (Command.Grant job asker) new t r a e =
-      let term : ℕ = term_in ((view ops).job job).grant + 1 in
+      let term : ℕ = term_in ((view ops).job job).stages.grant + 1 in
       let same : Grant job asker term ≡ new = unless_same _ (Grant job asker term) new e in
       let most : term ≤ 1_000_000_000 = subst (IsWithin ops s) (sym same) a.limited in
       subst IsInRange same (t, (omega arith, most))
   effect_ranged (Command.HandBack job) new t r a e =
-      let term : ℕ = term_in ((view ops).job job).grant in
+      let term : ℕ = term_in ((view ops).job job).stages.grant in
       let same : HandBack job term ≡ new = same_Some (HandBack job term) new e in
       subst IsInRange same (granted_term job term (subst (IsGrounded ops s) (sym same) a.grounded))
   effect_ranged (Command.Begin job moment) new t r a e =

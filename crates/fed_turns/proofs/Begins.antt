@@ -27,21 +27,21 @@ begin_of ops job t (Begin other said) b h of e =
     subst (λ (j : StampValue). Has ops (t, Begin j b)) named (subst (λ (x : Beginning). Has ops (t, Begin other x)) same h)
 begin_of ops job t _ b h of e = cc
 
-begun_of : (ops : History Body) (job : StampValue) (begun : StampValue × Beginning) → ((view ops).job job).begun ≡ Some begun → Has ops (begun.0, Begin job begun.1)
+begun_of : (ops : History Body) (job : StampValue) (begun : StampValue × Beginning) → ((view ops).job job).stages.begun ≡ Some begun → Has ops (begun.0, Begin job begun.1)
 begun_of ops job begun e =
     let found = field_found begin_in (of_job job ops) begun e in
     let kept = Has-filter (is_of_job job) ops (begun.0, found.0) found.1 in
     begin_of ops job begun.0 found.0 begun.1 kept.0 kept.1 found.2
 
 module _ (whole : List (List ℕ × ℕ)) (few : length whole ≤ 16) (rosters : ℕ → List (List ℕ × ℕ)) (turns : List Turn) (may : MayTurns whole (beginning rosters) turns) (job : StampValue) where
-  pub one_begin : (i j : ℕ) (one other : StampValue × Beginning) → (((after_turns (beginning rosters) turns).site i).view.job job).begun ≡ Some one
-      → (((after_turns (beginning rosters) turns).site j).view.job job).begun ≡ Some other → one ≡ other
+  pub one_begin : (i j : ℕ) (one other : StampValue × Beginning) → (((after_turns (beginning rosters) turns).site i).view.job job).stages.begun ≡ Some one
+      → (((after_turns (beginning rosters) turns).site j).view.job job).stages.begun ≡ Some other → one ≡ other
   one_begin i j one other e f =
       let played = turns_played whole few turns (beginning rosters) start (start_stands rosters) (start_reached (length whole)) may in
       let w : World = run_from (length whole) start (events_from (beginning rosters) turns) in
       let g = good (length whole) few w (run_reached (length whole) (events_from (beginning rosters) turns) start played.ranged (start_reached (length whole))) in
-      let mine = begun_of (w.site i).set job one (ap (λ (s : State). (s.view.job job).begun) (sym (played.stands.sites i)) ∙ e) in
-      let theirs = begun_of (w.site j).set job other (ap (λ (s : State). (s.view.job job).begun) (sym (played.stands.sites j)) ∙ f) in
+      let mine = begun_of (w.site i).set job one (ap (λ (s : State). (s.view.job job).stages.begun) (sym (played.stands.sites i)) ∙ e) in
+      let theirs = begun_of (w.site j).set job other (ap (λ (s : State). (s.view.job job).stages.begun) (sym (played.stands.sites j)) ∙ f) in
       let h = (g.1.cuts i).within _ mine in
       let k = (g.1.cuts j).within _ theirs in
       let stamps = g.1.lawful.one_begin job one.0 other.0 one.1 other.1 h k in

@@ -63,8 +63,8 @@ pub fn no_false_alarms()
 pub fn no_job_begins_at_two_sites()
     ensures { (whole : List (List ℕ × ℕ)) (rosters : ℕ → List (List ℕ × ℕ)) (turns : List Turn) (i j : ℕ) (job : StampValue)
         (one other : StampValue × Beginning) → IsRoster whole → MayTurns whole (beginning rosters) turns →
-        (((after_turns (beginning rosters) turns).site i).view.job job).begun ≡ Some one →
-        (((after_turns (beginning rosters) turns).site j).view.job job).begun ≡ Some other → one ≡ other }
+        (((after_turns (beginning rosters) turns).site i).view.job job).stages.begun ≡ Some one →
+        (((after_turns (beginning rosters) turns).site j).view.job job).stages.begun ≡ Some other → one ≡ other }
 {}
 
 /// Begins are answered once. Of all lines that ask to begin a job, at whatever sites and however often, one at most is

@@ -26,10 +26,10 @@ use Rattle.fed_model.specs.Hold.{kind_cmp}
 use Rattle.fed_model.specs.HoldLaws.{kind_total, exact_kind}
 use Rattle.fed_model.specs.Reservation.{ReservationView}
 use Rattle.fed_board.specs.Board.{IsBoard, IsKnownJob, IsKnownReservation}
-use Rattle.fed_board.specs.CoveredJob.{IsCoveredAt, IsCoveredRegister, IsCoveredJob, AreCoveredPairs}
+use Rattle.fed_record.specs.CoveredJob.{covers_register, covers_stamps, IsCoveredJob, AreCoveredPairs}
 use Rattle.fed_job_json.specs.declared.formats.Format.{Format}
 use Rattle.fed_job_json.specs.declared.formats.Format.TheVariants.{One, Two}
-use Rattle.fed_job_json.specs.Covers.{covers_at, covers_pairs, covers_job}
+use Rattle.fed_job_json.specs.Covers.{covers_pairs, covers_tags, covers_job}
 use Rattle.fed_job_json.specs.Fields.{IsField}
 use Rattle.fed_job_json.specs.Job.{Job, IsJob, IsJobIn, IsAccountIn}
 use Rattle.fed_job_json.proofs.JobReads.{site_placed}
@@ -39,10 +39,6 @@ use Rattle.fed_wire.specs.Packet.{may_stand, job_stands, covers_window, reservat
 -- ---- jobs
 
 -- a stamp in range is of one of the 16 sites
-covered_at : {T : Type 0} (stamp : T → StampValue) (v : List ℕ) (o : Option T) → covers_at stamp v o ≡ true → IsCoveredAt stamp v o
-covered_at stamp v None e = tt
-covered_at stamp v (Some x) e = e
-
 covered_pair : {E : Type 0} (v : List ℕ) (ps : List (E × StampValue)) → covers_pairs v ps ≡ true → (p : E × StampValue) → Has ps p → covers v p.1 ≡ true
 covered_pair v [] e p h = absurd h
 covered_pair v (q ∷ ps) e p (inl same) = subst (λ p. covers v p.1 ≡ true) same (and_parts (covers v q.1) (covers_pairs v ps) e).0
@@ -55,30 +51,13 @@ live_pairs cmp o exact v ps e element tag live = covered_pair v ps e (element, t
 -- every stamp is covered
 job_covered : (id : StampValue) (r : JobRecordValue) → length r.touched ≡ 16 → covers_job (id, r) ≡ true → IsCoveredJob (job_reads r)
 job_covered id r sixteen e =
-    let t = and_parts _ _ e in
-    let u = and_parts _ _ t.0 in
-    let w = and_parts _ _ u.0 in
-    let f5 = and_parts _ _ w.1 in
-    let f4 = and_parts _ _ f5.0 in
-    let f3 = and_parts _ _ f4.0 in
-    let f2 = and_parts _ _ f3.0 in
-    let f1 = and_parts _ _ f2.0 in
-    let pairs = and_parts (covers_pairs r.touched r.holds) (covers_pairs r.touched r.sites) u.1 in
-    let s2 = and_parts _ _ t.1 in
-    let s1 = and_parts _ _ s2.0 in
+    let t = and_parts (covers_tags (id, r)) (covers_stamps (job_reads r)) e in
+    let pairs = and_parts (covers_pairs r.touched r.holds) (covers_pairs r.touched r.sites) (and_parts (covers r.touched id) _ t.0).1 in
     record {
       counters = sixteen;
-      owner = covered_at _ r.touched r.fields.owner f1.0;
-      name = covered_at _ r.touched r.fields.name f1.1;
-      priority = covered_at _ r.touched r.fields.priority f2.1;
-      nodes = covered_at _ r.touched r.fields.nodes f3.1;
-      limit = covered_at _ r.touched r.fields.limit f4.1;
-      account = covered_at _ r.touched r.fields.account f5.1;
+      stamps = t.1;
       sites = live_pairs nat_cmp nat_cmp_total exact_unsigned r.touched r.sites pairs.1;
       holds = live_pairs kind_cmp kind_total exact_kind r.touched r.holds pairs.0;
-      grant = covered_at _ r.touched r.stages.grant s1.0;
-      begun = covered_at _ r.touched r.stages.begun s1.1;
-      finished = covered_at _ r.touched r.stages.finished s2.1;
     }
 
 is_set : {T : Type 0} (P : T → Type 0) (o : Option (StampValue × T)) → IsField P o → is_some o ≡ true
@@ -97,7 +76,7 @@ job_submitted format id r h =
 pub known_job : (format : Format) (reached : List ℕ) (id : StampValue) (r : JobRecordValue) → IsJobIn format id r → is_below r.touched reached ≡ true → IsKnownJob reached id r
 known_job format reached id r h below = record {
   placed = site_placed id h.id;
-  named = covers_more r.touched reached id below (and_parts _ _ (and_parts _ _ (and_parts _ _ h.covered).0).0).0;
+  named = covers_more r.touched reached id below (and_parts (covers r.touched id) _ (and_parts (covers_tags (id, r)) _ h.covered).0).0;
   submitted = job_submitted format id r h;
   touched = below;
   stamps = job_covered id r h.touched.0 h.covered;
@@ -105,7 +84,7 @@ known_job format reached id r h below = record {
 
 -- ---- reservations
 
-window_covered : (reached : List ℕ) (P : Option Window → Type 0) (r : ReservationView) → covers_window reached r ≡ true → IsField P r → IsCoveredRegister reached r
+window_covered : (reached : List ℕ) (P : Option Window → Type 0) (r : ReservationView) → covers_window reached r ≡ true → IsField P r → covers_register reached r ≡ true
 window_covered reached P None e h = absurd h
 window_covered reached P (Some latest) e h = e
 

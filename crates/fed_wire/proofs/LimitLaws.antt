@@ -39,7 +39,6 @@ use Rattle.fed_model.specs.Pairs.{adds_site, removes_site, adds_hold, removes_ho
 use Rattle.fed_model.specs.Reservation.{ReservationView}
 use Rattle.fed_lattice.specs.ExactLaws.{same_stamp_itself}
 use Rattle.fed_board.specs.Board.{BoardValue, IsBoard, IsKnownJob, IsKnownReservation, no_operation, board_reads}
-use Rattle.fed_board.specs.CoveredJob.{IsCoveredAt}
 use Rattle.fed_board.specs.Counts.{ids_of}
 use Rattle.fed_model.specs.Lawful.{IsLawful}
 use Rattle.fed_model.specs.Identifiers.{covered_stamps, jobs_in, reservations_in}
@@ -50,7 +49,8 @@ use Rattle.fed_theory.proofs.SubmitLaws.{submit_of, reserve_of}
 use Rattle.fed_delta.specs.Cut.{cut, is_changed_job, is_changed_reservation}
 use Rattle.fed_model.specs.Ranges.{IsFrom, IsName, IsPriority, IsAccount, IsSite, IsInRange, IsWindow}
 use Rattle.fed_job_json.specs.declared.formats.Format.TheVariants.{Two}
-use Rattle.fed_job_json.specs.Covers.{covers_at, covers_pairs, covers_job}
+use Rattle.fed_record.specs.CoveredJob.{covers_register}
+use Rattle.fed_job_json.specs.Covers.{covers_pairs, covers_job}
 use Rattle.fed_job_json.specs.Fields.{IsField}
 use Rattle.fed_job_json.specs.Job.{IsJob, IsJobIn}
 use Rattle.fed_job_json.specs.Stamps.{IsVersion}
@@ -62,10 +62,6 @@ use Rattle.fed_wire.proofs.RangeLaws.{owner_ranged, name_ranged, priority_ranged
 use Rattle.fed_wire.proofs.StandingLaws.{all_stand}
 
 -- ---- stamps that are covered, by the tests of packets
-
-field_covered : {T : Type 0} (stamp : T → StampValue) (v : List ℕ) (o : Option T) → IsCoveredAt stamp v o → covers_at stamp v o ≡ true
-field_covered stamp v None h = refl
-field_covered stamp v (Some x) h = h
 
 pairs_covered : {E : Type 0} (v : List ℕ) (ps : List (E × StampValue)) → ((p : E × StampValue) → Has ps p → covers v p.1 ≡ true) → covers_pairs v ps ≡ true
 pairs_covered v [] f = refl
@@ -94,16 +90,11 @@ module _ (ops : History Body) (lawful : IsLawful ops) (within : IsWithinLimits o
 
   stamps_covered : covers_job (job, r) ≡ true
   stamps_covered =
-      let v = r.touched in
       let k = known.stamps in
-      let first = and_from _ _ name_covered
-      (and_from _ _ (and_from _ _ (and_from _ _ (and_from _ _ (and_from _ _ (field_covered _ v r.fields.owner k.owner) (field_covered _ v r.fields.name k.name)) (field_covered _ v r.fields.priority k.priority))
-      (field_covered _ v r.fields.nodes k.nodes)) (field_covered _ v r.fields.limit k.limit)) (field_covered _ v r.fields.account k.account)) in
       let pairs = and_from _ _
-      (pairs_covered v r.holds (λ p h. k.holds p.0 p.1 (has_member (pair_cmp kind_cmp) (pair_total kind_cmp kind_total) (exact_pair kind_cmp exact_kind) p r.holds h)))
-      (pairs_covered v r.sites (λ p h. k.sites p.0 p.1 (has_member (pair_cmp nat_cmp) (pair_total nat_cmp nat_cmp_total) (exact_pair nat_cmp exact_unsigned) p r.sites h))) in
-      let stages = and_from _ _ (and_from _ _ (field_covered _ v r.stages.grant k.grant) (field_covered _ v r.stages.begun k.begun)) (field_covered _ v r.stages.finished k.finished) in
-      and_from _ _ (and_from _ _ first pairs) stages
+      (pairs_covered r.touched r.holds (λ p h. k.holds p.0 p.1 (has_member (pair_cmp kind_cmp) (pair_total kind_cmp kind_total) (exact_pair kind_cmp exact_kind) p r.holds h)))
+      (pairs_covered r.touched r.sites (λ p h. k.sites p.0 p.1 (has_member (pair_cmp nat_cmp) (pair_total nat_cmp nat_cmp_total) (exact_pair nat_cmp exact_unsigned) p r.sites h))) in
+      and_from _ _ (and_from _ _ name_covered pairs) k.stamps
 
   pub job_is : IsJobIn Two job r
   job_is =
@@ -113,16 +104,16 @@ module _ (ops : History Body) (lawful : IsLawful ops) (within : IsWithinLimits o
       let d = and_parts (is_some r.fields.nodes) _ c.1 in
       let f = and_parts (is_some r.fields.limit) (is_some r.fields.account) d.1 in record {
         id = within.stamps (job, Submit submitted.0 submitted.1 submitted.2) submitted.3;
-        owner = field_is owner_in IsName owner_ranged r.fields.owner (ap (λ (j : JobView). j.owner) e) a.0;
-        name = field_is name_in IsName name_ranged r.fields.name (ap (λ (j : JobView). j.name) e) b.0;
-        priority = field_is priority_in IsPriority priority_ranged r.fields.priority (ap (λ (j : JobView). j.priority) e) c.0;
-        nodes = field_is nodes_in (IsFrom 1 MAX_NODES) nodes_ranged r.fields.nodes (ap (λ (j : JobView). j.nodes) e) d.0;
-        limit = field_is limit_in (IsFrom 1 MAX_LIMIT) limit_ranged r.fields.limit (ap (λ (j : JobView). j.limit) e) f.0;
-        account = field_is account_in IsAccount account_ranged r.fields.account (ap (λ (j : JobView). j.account) e) f.1;
+        owner = field_is owner_in IsName owner_ranged r.fields.owner (ap (λ (j : JobView). j.fields.owner) e) a.0;
+        name = field_is name_in IsName name_ranged r.fields.name (ap (λ (j : JobView). j.fields.name) e) b.0;
+        priority = field_is priority_in IsPriority priority_ranged r.fields.priority (ap (λ (j : JobView). j.fields.priority) e) c.0;
+        nodes = field_is nodes_in (IsFrom 1 MAX_NODES) nodes_ranged r.fields.nodes (ap (λ (j : JobView). j.fields.nodes) e) d.0;
+        limit = field_is limit_in (IsFrom 1 MAX_LIMIT) limit_ranged r.fields.limit (ap (λ (j : JobView). j.fields.limit) e) f.0;
+        account = field_is account_in IsAccount account_ranged r.fields.account (ap (λ (j : JobView). j.fields.account) e) f.1;
         holds = pairs_are mine ops within has_mine adds_hold removes_hold (λ _. Unit {0}) (λ _ _ _. tt) kind_cmp kind_total exact_kind r.holds holds_sorted (λ kind tag. ap (λ (j : JobView). j.holds kind tag) e);
         sites = pairs_are mine ops within has_mine adds_site removes_site IsSite added_site nat_cmp nat_cmp_total exact_unsigned r.sites sites_sorted (λ site tag. ap (λ (j : JobView). j.sites site tag) e);
-        grant = grant_is mine ops within has_mine r.stages.grant (sym (ap (λ (j : JobView). j.grant) e));
-        progress = progress_is ops lawful within job r.stages.begun r.stages.finished (sym (ap (λ (j : JobView). j.begun) e)) (sym (ap (λ (j : JobView). j.finished) e));
+        grant = grant_is mine ops within has_mine r.stages.grant (sym (ap (λ (j : JobView). j.stages.grant) e));
+        progress = progress_is ops lawful within job r.stages.begun r.stages.finished (sym (ap (λ (j : JobView). j.stages.begun) e)) (sym (ap (λ (j : JobView). j.stages.finished) e));
         touched = subst IsVersion (sym (ap (λ (j : JobView). j.touched) e)) (version_is mine ops within has_mine);
         covered = stamps_covered;
       }
@@ -277,7 +268,7 @@ module _ (p : PacketValue) (made : IsMade p) (ops : History Body) (seen : List �
       let most : ids_of site (reservations_in (view ops)) ≤ MAX_RESERVATIONS = subst (λ (n : ℕ). n ≤ MAX_RESERVATIONS) (sym (set_reservations_counted ops lawful site)) (within.reservations site) in
       omega (arith, same, fewer, most)
 
-  window_covered : (r : ReservationView) → IfSome r (λ latest. covers changes.version latest.0 ≡ true) → covers_window changes.version r ≡ true
+  window_covered : (r : ReservationView) → covers_register changes.version r ≡ true → covers_window changes.version r ≡ true
   window_covered None h = refl
   window_covered (Some latest) h = h
 

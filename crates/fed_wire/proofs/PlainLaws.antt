@@ -114,27 +114,27 @@ plain_version v = deeper 1 3 (version_value v) (omega arith) (plain_list natural
 plain_job : (j : Job) → IsPlain 4 (job_value Two j)
 unfolding job_members
 plain_job (id, r) = plain_object 3 (job_members Two (id, r)) (
-  plain_field account_value plain_account (job_reads r).account,
+  plain_field account_value plain_account (job_reads r).fields.account,
   (
     record { whole = refl; shallow = omega arith },
     (
-      plain_grant (job_reads r).grant,
+      plain_grant (job_reads r).stages.grant,
       (
         plain_list (pair_value kind_value stamp_value) 2 plain_hold r.holds,
         (
           plain_stamp id,
           (
-            plain_field natural_value plain_number (job_reads r).limit,
+            plain_field natural_value plain_number (job_reads r).fields.limit,
             (
-              plain_field string plain_text (job_reads r).name,
+              plain_field string plain_text (job_reads r).fields.name,
               (
-                plain_field natural_value plain_number (job_reads r).nodes,
+                plain_field natural_value plain_number (job_reads r).fields.nodes,
                 (
-                  plain_field string plain_text (job_reads r).owner,
+                  plain_field string plain_text (job_reads r).fields.owner,
                   (
-                    plain_field integer_value plain_integer (job_reads r).priority,
+                    plain_field integer_value plain_integer (job_reads r).fields.priority,
                     (
-                      plain_progress ((job_reads r).begun, (job_reads r).finished),
+                      plain_progress ((job_reads r).stages.begun, (job_reads r).stages.finished),
                       (
                         plain_list (pair_value natural_value stamp_value) 2 plain_site r.sites,
                         (plain_version (job_reads r).touched, tt),

@@ -5,8 +5,8 @@ ghost use Rattle.fed_model.specs.Letter.{is_submitted as is_job_submitted};
 
 use fed_lattice::{Causal, NoMemory};
 use fed_record::{
-    Account, Beginning, Changes, Ending, GrantStage, HoldKind, HoldKinds, JobParts, JobRecord,
-    JobValues, Letter, Limit, Moment, Nodes, Operation, Priority, Progress, Term,
+    Account, Beginning, Changes, Ending, Fields, GrantStage, HoldKind, HoldKinds, JobParts, JobRecord,
+    JobValues, Letter, Limit, Moment, Nodes, Operation, Priority, Progress, Stages, Term,
 };
 use fed_stamp::{JobId, SiteId, SiteSet, Stamp, Version, Word};
 use std::alloc::Global;
@@ -155,17 +155,20 @@ fn reads_as(seen: &JobRecord, parts: &JobParts) -> bool {
     if !seen.is_submitted() {
         return false;
     }
-    let values = seen.owner() == parts.owner
-        && seen.name() == parts.name
-        && seen.priority() == parts.priority
-        && seen.nodes() == parts.nodes
-        && seen.limit() == parts.limit
-        && seen.account() == parts.account;
+    let fields = &parts.fields;
+    let values = seen.owner() == fields.owner
+        && seen.name() == fields.name
+        && seen.priority() == fields.priority
+        && seen.nodes() == fields.nodes
+        && seen.limit() == fields.limit
+        && seen.account() == fields.account;
     let tags = seen.hold_tags().eq(parts.hold_tags.iter().copied())
         && seen.site_tags().eq(parts.site_tags.iter().copied());
-    let stages = seen.deleted() == parts.deleted
-        && seen.grant() == parts.grant
-        && seen.progress() == parts.progress;
+    let progress = seen.progress();
+    let stages = seen.deleted() == parts.stages.deleted
+        && seen.grant() == parts.stages.grant
+        && progress.begun == parts.stages.begun
+        && progress.finished == parts.stages.finished;
     values && tags && stages && seen.touched() == parts.touched
 }
 
@@ -185,17 +188,22 @@ fn is_read_as_submitted(
     touched: Version,
 ) -> bool {
     let expected = JobParts {
-        owner: (job(), owner),
-        name: (job(), values.name),
-        priority: (job(), values.priority),
-        nodes: (job(), values.nodes),
-        limit: (job(), values.limit),
-        account: (job(), Account::EMPTY),
+        fields: Fields {
+            owner: (job(), owner),
+            name: (job(), values.name),
+            priority: (job(), values.priority),
+            nodes: (job(), values.nodes),
+            limit: (job(), values.limit),
+            account: (job(), Account::EMPTY),
+        },
         hold_tags: &[(HoldKind::User, job())],
         site_tags: &[(site(1), job()), (site(4), job())],
-        deleted: false,
-        grant: None,
-        progress: UNBEGUN,
+        stages: Stages {
+            deleted: false,
+            grant: None,
+            begun: None,
+            finished: None,
+        },
         touched,
     };
     reads_as(seen, &expected)
@@ -355,18 +363,24 @@ pub(crate) fn made_again(alloc: Global, seen: &JobRecord) -> Result<JobRecord, N
 {
     let holds: Vec<_> = seen.hold_tags().collect(alloc)?;
     let sites: Vec<_> = seen.site_tags().collect(alloc)?;
+    let progress = seen.progress();
     let parts = JobParts {
-        owner: seen.owner(),
-        name: seen.name(),
-        priority: seen.priority(),
-        nodes: seen.nodes(),
-        limit: seen.limit(),
-        account: seen.account(),
+        fields: Fields {
+            owner: seen.owner(),
+            name: seen.name(),
+            priority: seen.priority(),
+            nodes: seen.nodes(),
+            limit: seen.limit(),
+            account: seen.account(),
+        },
         hold_tags: &holds,
         site_tags: &sites,
-        deleted: seen.deleted(),
-        grant: seen.grant(),
-        progress: seen.progress(),
+        stages: Stages {
+            deleted: seen.deleted(),
+            grant: seen.grant(),
+            begun: progress.begun,
+            finished: progress.finished,
+        },
         touched: seen.touched(),
     };
     JobRecord::from_parts(alloc, &parts)

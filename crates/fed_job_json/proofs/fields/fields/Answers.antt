@@ -3,7 +3,7 @@ use Rattle.std.specs.Prelude.{codes}
 use Rattle.fed_json.specs.Reading.{mapped, both}
 use Rattle.fed_job_json.specs.Fields.{field_of, name_of, priority_of, nodes_of, limit_of}
 use Rattle.fed_job_json.specs.Members.{members_value}
-use Rattle.fed_job_json.specs.Parts.{fields_value}
+use Rattle.fed_record.specs.JobParts.{fields_set}
 use Rattle.fed_job_json.proofs.PartLaws.{fields_read}
 use Rattle.fed_job_json.proofs.MemberLaws.{found}
 use Rattle.fed_job_json.proofs.fields.fields.Goals as goal
@@ -20,7 +20,7 @@ returns-in-Ok c =
     c.account_member.ensures in
     let whole : both (both c.name_field.result c.name_field-2.result) (both c.priority_field.result (both (both c.nodes_field.result c.limit_field.result) c.account_member.result)) ≡ c.both-2.result =
     rw (c.both-2.ensures, c.both.ensures, c.both-others.ensures, c.both-numbers.ensures, c.both-names.ensures) refl in
-    sym (ap (mapped (λ q. fields_value (record { owner = q.0.0; name = q.0.1; priority = q.1.0; nodes = q.1.1.0.0; limit = q.1.1.0.1; account = q.1.1.1 }))) (whole ∙ c.in-Ok.is)) ∙ read
+    sym (ap (mapped (λ q. fields_set (record { owner = q.0.0; name = q.0.1; priority = q.1.0; nodes = q.1.1.0.0; limit = q.1.1.0.1; account = q.1.1.1 }))) (whole ∙ c.in-Ok.is)) ∙ read
 
 pub returns-in-Err : goal.returns-in-Err
 returns-in-Err c =
@@ -34,4 +34,4 @@ returns-in-Err c =
     c.account_member.ensures in
     let whole : both (both c.name_field.result c.name_field-2.result) (both c.priority_field.result (both (both c.nodes_field.result c.limit_field.result) c.account_member.result)) ≡ c.both-2.result =
     rw (c.both-2.ensures, c.both.ensures, c.both-others.ensures, c.both-numbers.ensures, c.both-names.ensures) refl in
-    sym (ap (mapped (λ q. fields_value (record { owner = q.0.0; name = q.0.1; priority = q.1.0; nodes = q.1.1.0.0; limit = q.1.1.0.1; account = q.1.1.1 }))) (whole ∙ c.in-Err.is)) ∙ read
+    sym (ap (mapped (λ q. fields_set (record { owner = q.0.0; name = q.0.1; priority = q.1.0; nodes = q.1.1.0.0; limit = q.1.1.0.1; account = q.1.1.1 }))) (whole ∙ c.in-Err.is)) ∙ read

@@ -1,14 +1,19 @@
-use Rattle.std.proofs.Common.{◌≡◌, ap, sym, ◌∙◌, refl}
+use Rattle.std.proofs.Common.{◌≡◌, Bool, Option, ap, sym, ◌∙◌, refl}
 use Rattle.std.specs.Prelude.{codes}
 use Rattle.fed_json.specs.Reading.{mapped, both}
 use Rattle.fed_json.specs.Values.{truth_of}
 use Rattle.fed_job_json.specs.Grants.{grant_of}
 use Rattle.fed_job_json.specs.Progress.{progress_of}
 use Rattle.fed_job_json.specs.Members.{members_value}
-use Rattle.fed_job_json.specs.Parts.{stages_value}
+use Rattle.fed_model.specs.JobView.{JobStages}
+use Rattle.fed_model.specs.declared.grants.GrantStage.{GrantStage}
+use Rattle.fed_record.specs.declared.job_readers.Progress.{Progress}
 use Rattle.fed_job_json.proofs.MemberLaws.{found}
 use Rattle.fed_job_json.proofs.PartLaws.{stages_read}
 use Rattle.fed_job_read.proofs.stages.stages.Goals as goal
+
+abbrev made : Bool × (Option GrantStage × Progress) → JobStages
+made q = record { deleted = q.0; grant = q.1.0; begun = q.1.1.begun; finished = q.1.1.finished }
 
 pub returns-in-Ok : goal.returns-in-Ok
 returns-in-Ok c =
@@ -18,7 +23,7 @@ returns-in-Ok c =
     (c.grant.ensures ∙ found m (codes "grant") m.grant (grant_of c.args.format) refl refl)
     (c.progress.ensures ∙ found m (codes "progress") m.progress progress_of refl refl) in
     let whole : both c.truth.result (both c.grant.result c.progress.result) ≡ c.both.result = rw (c.both.ensures, c.both-others.ensures) refl in
-    sym (ap (mapped (λ q. stages_value (record { deleted = q.0; grant = q.1.0; progress = q.1.1 }))) (whole ∙ c.in-Ok.is)) ∙ read
+    sym (ap (mapped made) (whole ∙ c.in-Ok.is)) ∙ read
 
 pub returns-in-Err : goal.returns-in-Err
 returns-in-Err c =
@@ -28,4 +33,4 @@ returns-in-Err c =
     (c.grant.ensures ∙ found m (codes "grant") m.grant (grant_of c.args.format) refl refl)
     (c.progress.ensures ∙ found m (codes "progress") m.progress progress_of refl refl) in
     let whole : both c.truth.result (both c.grant.result c.progress.result) ≡ c.both.result = rw (c.both.ensures, c.both-others.ensures) refl in
-    sym (ap (mapped (λ q. stages_value (record { deleted = q.0; grant = q.1.0; progress = q.1.1 }))) (whole ∙ c.in-Err.is)) ∙ read
+    sym (ap (mapped made) (whole ∙ c.in-Err.is)) ∙ read

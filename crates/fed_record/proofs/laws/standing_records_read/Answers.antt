@@ -28,17 +28,9 @@ returns c = λ r h one p.
     let finished = field_is finish_in r.stages.finished h _ one (finish_said h) g.3 in
     let touched = p.4 ∙ sym (version_of-bodies h) in
     λ i. record {
-      owner = owner i;
-      name = name i;
-      priority = priority i;
-      nodes = nodes i;
-      limit = limit i;
-      account = account i;
+      fields = record { owner = owner i; name = name i; priority = priority i; nodes = nodes i; limit = limit i; account = account i };
       sites = λ site tag. live_is nat_cmp nat_cmp_total exact_unsigned adds_site removes_site site_change site_added site_removed h site tag r.sites p.3 i;
       holds = λ kind tag. live_is kind_cmp kind_total exact_kind adds_hold removes_hold hold_change hold_added hold_removed h kind tag r.holds p.2 i;
-      deleted = deleted i;
-      grant = grant i;
-      begun = begun i;
-      finished = finished i;
+      stages = record { deleted = deleted i; grant = grant i; begun = begun i; finished = finished i };
       touched = touched i;
     }

@@ -16,13 +16,13 @@ returns-in-Yours c =
 
 pub returns-in_default-new : goal.returns-in_default-new
 returns-in_default-new c =
-    λ who. grant_last (board_reads c.args.board.now) _ who _ _ (sym (c.in-Grant.ensures (board_reads c.args.board.now) (sym c.in-Some.ensures.reads.0))) c.last_term.result (c.last_term.ensures.term ∙ ap (λ (j : JobView). term_in j.grant) c.in-Some.ensures.reads.0) c.in_default-new.ensures
+    λ who. grant_last (board_reads c.args.board.now) _ who _ _ (sym (c.in-Grant.ensures (board_reads c.args.board.now) (sym c.in-Some.ensures.reads.0))) c.last_term.result (c.last_term.ensures.term ∙ ap (λ (j : JobView). term_in j.stages.grant) c.in-Some.ensures.reads.0) c.in_default-new.ensures
 
 pub returns-in_err-at : goal.returns-in_err-at
 returns-in_err-at c =
     λ who. said_refused _ _ c.from_residual.ensures ∙ ap Refuses c.in_err-at.ensures.0
-    ∙ grant_full (board_reads c.args.board.now) _ who _ _ (sym (c.in-Grant.ensures (board_reads c.args.board.now) (sym c.in-Some.ensures.reads.0))) c.last_term.result (c.last_term.ensures.term ∙ ap (λ (j : JobView). term_in j.grant) c.in-Some.ensures.reads.0) c.in-Some-new.term c.in-Some-new.ensures c.in_err-at.ensures.1
+    ∙ grant_full (board_reads c.args.board.now) _ who _ _ (sym (c.in-Grant.ensures (board_reads c.args.board.now) (sym c.in-Some.ensures.reads.0))) c.last_term.result (c.last_term.ensures.term ∙ ap (λ (j : JobView). term_in j.stages.grant) c.in-Some.ensures.reads.0) c.in-Some-new.term c.in-Some-new.ensures c.in_err-at.ensures.1
 
 pub returns : goal.returns
 returns c =
-    λ who. grant_added (board_reads c.args.board.now) _ who _ _ (sym (c.in-Grant.ensures (board_reads c.args.board.now) (sym c.in-Some.ensures.reads.0))) c.last_term.result (c.last_term.ensures.term ∙ ap (λ (j : JobView). term_in j.grant) c.in-Some.ensures.reads.0) c.in-Some-new.term c.in-Some-new.ensures c.in_ok-at.at c.in_ok-at.ensures
+    λ who. grant_added (board_reads c.args.board.now) _ who _ _ (sym (c.in-Grant.ensures (board_reads c.args.board.now) (sym c.in-Some.ensures.reads.0))) c.last_term.result (c.last_term.ensures.term ∙ ap (λ (j : JobView). term_in j.stages.grant) c.in-Some.ensures.reads.0) c.in-Some-new.term c.in-Some-new.ensures c.in_ok-at.at c.in_ok-at.ensures

@@ -3,7 +3,7 @@ use Rattle.fed_stamp.specs.Version.{covers, raised}
 use Rattle.fed_record.specs.Changes.{hold_change, site_change}
 use Rattle.fed_record.specs.Record.{IsCoveredStamp}
 use Rattle.fed_record.proofs.CoveredLaws.{covered_applied, covered_same}
-use Rattle.fed_record.specs.JobRecordSteps.{changed_fields, changed_stages}
+use Rattle.fed_theory.specs.JobSteps.{changed_fields, changed_stages}
 use Rattle.fed_record.specs.RecordLaws.{hold_order, hold_exact, site_order, site_exact}
 use Rattle.fed_record.proofs.records.JobRecordCausal.apply.Goals as goal
 

@@ -2,17 +2,18 @@
 ghost use Rattle.std.specs.Prelude.{◌≡◌};
 ghost use Rattle.fed_lattice.specs.Part.{part};
 ghost use Rattle.fed_lattice.specs.Both.{applied_option};
-ghost use Rattle.fed_record.specs.Fields.{owner_change, name_change, priority_change, nodes_change, limit_change, account_change};
-ghost use Rattle.fed_record.specs.NamedPartLaws.{applied_well_formed, part_adds_change, part_joins_histories, part_stands_for_sets};
-ghost use Rattle.fed_record.specs.FieldsLaws.{tells_fields};
+ghost use Rattle.fed_model.specs.Fields.{owner_part, name_part, priority_part, nodes_part, limit_part, account_part};
+ghost use Rattle.fed_model.specs.NamedPartLaws.{applied_well_formed, part_adds_change, part_joins_histories, part_stands_for_sets};
+ghost use Rattle.fed_model.specs.FieldsLaws.{tells_fields};
 
 use crate::inlines::{Inline, apply_option, copy_inline, join_inline};
 use fed_lattice::{Causal, ExactEq, NoMemory};
 use fed_stamp::{Stamp, Version};
 use std::alloc::Global;
 
-/// The fields of a job side by side: each part is a value that changes and joins by its own laws.
-#[derive(Drop, PartialEq, Eq, Debug)]
+/// Something of each field of a job, side by side: its values, registers of them, what changes in them. Fields of values
+/// that change and join do so part by part, by the laws of each.
+#[derive(Clone, Copy, Drop, PartialEq, Eq, Debug)]
 pub struct Fields<Owner, Name, Priority, Nodes, Limit, Account> {
     /// Its name.
     pub name: Name,
@@ -30,23 +31,6 @@ pub struct Fields<Owner, Name, Priority, Nodes, Limit, Account> {
     pub limit: Limit,
 }
 
-/// A change of the fields: of each that it has a change for.
-#[derive(Drop)]
-pub struct FieldChanges<Owner, Name, Priority, Nodes, Limit, Account> {
-    /// The change of the owner, if any.
-    pub owner: Option<Owner>,
-    /// The change of the name, if any.
-    pub name: Option<Name>,
-    /// The change of the priority, if any.
-    pub priority: Option<Priority>,
-    /// The change of the number of nodes, if any.
-    pub nodes: Option<Nodes>,
-    /// The change of the time limit, if any.
-    pub limit: Option<Limit>,
-    /// The change of the account, if any.
-    pub account: Option<Account>,
-}
-
 /// Two are identical exactly where their parts are equal.
 impl<
     Owner: ExactEq,
@@ -60,7 +44,7 @@ impl<
         Owner.exact_eq Name.exact_eq Priority.exact_eq Nodes.exact_eq Limit.exact_eq Account.exact_eq };
 }
 
-/// Each part changes and joins by itself. A change is of the parts that it names; the others stay.
+/// Each part changes and joins by itself. A change has what changes in each part, if anything does; the others stay.
 impl<
     Owner: Inline + Drop,
     Name: Inline + Drop,
@@ -69,13 +53,13 @@ impl<
     Limit: Inline + Drop,
     Account: Inline + Drop,
 > Causal for Fields<Owner, Name, Priority, Nodes, Limit, Account> {
-    type Change = FieldChanges<
-        Owner::Change,
-        Name::Change,
-        Priority::Change,
-        Nodes::Change,
-        Limit::Change,
-        Account::Change,
+    type Change = Fields<
+        Option<Owner::Change>,
+        Option<Name::Change>,
+        Option<Priority::Change>,
+        Option<Nodes::Change>,
+        Option<Limit::Change>,
+        Option<Account::Change>,
     >;
 
     ghost well_formed = { λ x.
@@ -110,15 +94,15 @@ impl<
     } };
 
     ghost is_history = { λ h.
-        Owner.is_history (part owner_change h) × Name.is_history (part name_change h) ×
-        Priority.is_history (part priority_change h) × Nodes.is_history (part nodes_change h) ×
-        Limit.is_history (part limit_change h) × Account.is_history (part account_change h) };
+        Owner.is_history (part owner_part h) × Name.is_history (part name_part h) ×
+        Priority.is_history (part priority_part h) × Nodes.is_history (part nodes_part h) ×
+        Limit.is_history (part limit_part h) × Account.is_history (part account_part h) };
 
     ghost stands_for = { λ x h.
-        Owner.stands_for x.owner (part owner_change h) × Name.stands_for x.name (part name_change h) ×
-        Priority.stands_for x.priority (part priority_change h) ×
-        Nodes.stands_for x.nodes (part nodes_change h) × Limit.stands_for x.limit (part limit_change h) ×
-        Account.stands_for x.account (part account_change h) };
+        Owner.stands_for x.owner (part owner_part h) × Name.stands_for x.name (part name_part h) ×
+        Priority.stands_for x.priority (part priority_part h) ×
+        Nodes.stands_for x.nodes (part nodes_part h) × Limit.stands_for x.limit (part limit_part h) ×
+        Account.stands_for x.account (part account_part h) };
 
     ghost is_inline = { Owner.is_inline × Name.is_inline × Priority.is_inline × Nodes.is_inline × Limit.is_inline ×
         Account.is_inline };
@@ -148,13 +132,13 @@ impl<
     fn apply(
         &mut self,
         at: Stamp,
-        change: &FieldChanges<
-            Owner::Change,
-            Name::Change,
-            Priority::Change,
-            Nodes::Change,
-            Limit::Change,
-            Account::Change,
+        change: &Fields<
+            Option<Owner::Change>,
+            Option<Name::Change>,
+            Option<Priority::Change>,
+            Option<Nodes::Change>,
+            Option<Limit::Change>,
+            Option<Account::Change>,
         >,
     ) -> Result<(), NoMemory> {
         apply_option(&mut self.owner, at, &change.owner);
@@ -250,35 +234,35 @@ impl<
     ) };
 
     ghost applied_stands = { λ x h s c p r k f i. (
-      part_adds_change owner_change _ _ _ _ Owner.applied_stands x.owner h s c p.0 r.0 k.0 f i.0,
-      part_adds_change name_change _ _ _ _ Name.applied_stands x.name h s c p.1 r.1 k.1 f i.1,
-      part_adds_change priority_change _ _ _ _ Priority.applied_stands x.priority h s c p.2 r.2 k.2 f i.2,
-      part_adds_change nodes_change _ _ _ _ Nodes.applied_stands x.nodes h s c p.3 r.3 k.3 f i.3,
-      part_adds_change limit_change _ _ _ _ Limit.applied_stands x.limit h s c p.4 r.4 k.4 f i.4,
-      part_adds_change account_change _ _ _ _ Account.applied_stands x.account h s c p.5 r.5 k.5 f i.5,
+      part_adds_change owner_part _ _ _ _ Owner.applied_stands x.owner h s c p.0 r.0 k.0 f i.0,
+      part_adds_change name_part _ _ _ _ Name.applied_stands x.name h s c p.1 r.1 k.1 f i.1,
+      part_adds_change priority_part _ _ _ _ Priority.applied_stands x.priority h s c p.2 r.2 k.2 f i.2,
+      part_adds_change nodes_part _ _ _ _ Nodes.applied_stands x.nodes h s c p.3 r.3 k.3 f i.3,
+      part_adds_change limit_part _ _ _ _ Limit.applied_stands x.limit h s c p.4 r.4 k.4 f i.4,
+      part_adds_change account_part _ _ _ _ Account.applied_stands x.account h s c p.5 r.5 k.5 f i.5,
     ) };
 
     ghost joined_stands = { λ x y v w g h p q rx ry a i j. (
-      part_joins_histories owner_change _ _ _ _ Owner.joined_stands x.owner y.owner v w g h
+      part_joins_histories owner_part _ _ _ _ Owner.joined_stands x.owner y.owner v w g h
           p.0 q.0 rx.0 ry.0 a i.0 j.0,
-      part_joins_histories name_change _ _ _ _ Name.joined_stands x.name y.name v w g h p.1 q.1 rx.1 ry.1 a i.1 j.1,
-      part_joins_histories priority_change _ _ _ _ Priority.joined_stands x.priority y.priority v w g h
+      part_joins_histories name_part _ _ _ _ Name.joined_stands x.name y.name v w g h p.1 q.1 rx.1 ry.1 a i.1 j.1,
+      part_joins_histories priority_part _ _ _ _ Priority.joined_stands x.priority y.priority v w g h
           p.2 q.2 rx.2 ry.2 a i.2 j.2,
-      part_joins_histories nodes_change _ _ _ _ Nodes.joined_stands x.nodes y.nodes v w g h
+      part_joins_histories nodes_part _ _ _ _ Nodes.joined_stands x.nodes y.nodes v w g h
           p.3 q.3 rx.3 ry.3 a i.3 j.3,
-      part_joins_histories limit_change _ _ _ _ Limit.joined_stands x.limit y.limit v w g h
+      part_joins_histories limit_part _ _ _ _ Limit.joined_stands x.limit y.limit v w g h
           p.4 q.4 rx.4 ry.4 a i.4 j.4,
-      part_joins_histories account_change _ _ _ _ Account.joined_stands x.account y.account v w g h
+      part_joins_histories account_part _ _ _ _ Account.joined_stands x.account y.account v w g h
           p.5 q.5 rx.5 ry.5 a i.5 j.5,
     ) };
 
     ghost stands_same = { λ x g h e p. (
-      part_stands_for_sets owner_change _ Owner.stands_same x.owner g h e p.0,
-      part_stands_for_sets name_change _ Name.stands_same x.name g h e p.1,
-      part_stands_for_sets priority_change _ Priority.stands_same x.priority g h e p.2,
-      part_stands_for_sets nodes_change _ Nodes.stands_same x.nodes g h e p.3,
-      part_stands_for_sets limit_change _ Limit.stands_same x.limit g h e p.4,
-      part_stands_for_sets account_change _ Account.stands_same x.account g h e p.5,
+      part_stands_for_sets owner_part _ Owner.stands_same x.owner g h e p.0,
+      part_stands_for_sets name_part _ Name.stands_same x.name g h e p.1,
+      part_stands_for_sets priority_part _ Priority.stands_same x.priority g h e p.2,
+      part_stands_for_sets nodes_part _ Nodes.stands_same x.nodes g h e p.3,
+      part_stands_for_sets limit_part _ Limit.stands_same x.limit g h e p.4,
+      part_stands_for_sets account_part _ Account.stands_same x.account g h e p.5,
     ) };
 }
 

@@ -2,17 +2,18 @@
 ghost use Rattle.std.specs.Prelude.{◌≡◌};
 ghost use Rattle.fed_lattice.specs.Part.{part};
 ghost use Rattle.fed_lattice.specs.Both.{applied_option};
-ghost use Rattle.fed_record.specs.Stages.{deleted_change, grant_change, begun_change, finished_change};
-ghost use Rattle.fed_record.specs.NamedPartLaws.{applied_well_formed, part_adds_change, part_joins_histories, part_stands_for_sets};
-ghost use Rattle.fed_record.specs.StagesLaws.{tells_stages};
+ghost use Rattle.fed_model.specs.Stages.{deleted_part, grant_part, begun_part, finished_part};
+ghost use Rattle.fed_model.specs.NamedPartLaws.{applied_well_formed, part_adds_change, part_joins_histories, part_stands_for_sets};
+ghost use Rattle.fed_model.specs.StagesLaws.{tells_stages};
 
 use crate::inlines::{Inline, apply_option, copy_inline, join_inline};
 use fed_lattice::{Causal, ExactEq, NoMemory};
 use fed_stamp::{Stamp, Version};
 use std::alloc::Global;
 
-/// How far a job has come, side by side: each part is a value that changes and joins by its own laws.
-#[derive(Drop, PartialEq, Eq, Debug)]
+/// Something of each stage of a job, side by side: how far it has come, or what changes in that. Stages of values that
+/// change and join do so part by part, by the laws of each.
+#[derive(Clone, Copy, Drop, PartialEq, Eq, Debug)]
 pub struct Stages<Deleted, Grant, Begun, Finished> {
     /// Whether it is deleted.
     pub deleted: Deleted,
@@ -22,19 +23,6 @@ pub struct Stages<Deleted, Grant, Begun, Finished> {
     pub begun: Begun,
     /// Whether it has finished.
     pub finished: Finished,
-}
-
-/// A change of the stages: of each that it has a change for.
-#[derive(Drop)]
-pub struct StageChanges<Deleted, Grant, Begun, Finished> {
-    /// The change of the deletion, if any.
-    pub deleted: Option<Deleted>,
-    /// The change of the grants, if any.
-    pub grant: Option<Grant>,
-    /// The change of the Begin, if any.
-    pub begun: Option<Begun>,
-    /// The change of the Finish, if any.
-    pub finished: Option<Finished>,
 }
 
 /// Two are identical exactly where their parts are equal.
@@ -51,7 +39,12 @@ impl<
     Begun: Inline + Drop,
     Finished: Inline + Drop,
 > Causal for Stages<Deleted, Grant, Begun, Finished> {
-    type Change = StageChanges<Deleted::Change, Grant::Change, Begun::Change, Finished::Change>;
+    type Change = Stages<
+        Option<Deleted::Change>,
+        Option<Grant::Change>,
+        Option<Begun::Change>,
+        Option<Finished::Change>,
+    >;
 
     ghost well_formed = { λ x.
         Deleted.well_formed x.deleted × Grant.well_formed x.grant × Begun.well_formed x.begun ×
@@ -79,12 +72,12 @@ impl<
     } };
 
     ghost is_history = { λ h.
-        Deleted.is_history (part deleted_change h) × Grant.is_history (part grant_change h) ×
-        Begun.is_history (part begun_change h) × Finished.is_history (part finished_change h) };
+        Deleted.is_history (part deleted_part h) × Grant.is_history (part grant_part h) ×
+        Begun.is_history (part begun_part h) × Finished.is_history (part finished_part h) };
 
     ghost stands_for = { λ x h.
-        Deleted.stands_for x.deleted (part deleted_change h) × Grant.stands_for x.grant (part grant_change h) ×
-        Begun.stands_for x.begun (part begun_change h) × Finished.stands_for x.finished (part finished_change h) };
+        Deleted.stands_for x.deleted (part deleted_part h) × Grant.stands_for x.grant (part grant_part h) ×
+        Begun.stands_for x.begun (part begun_part h) × Finished.stands_for x.finished (part finished_part h) };
 
     ghost is_inline = { Deleted.is_inline × Grant.is_inline × Begun.is_inline × Finished.is_inline };
 
@@ -109,7 +102,12 @@ impl<
     fn apply(
         &mut self,
         at: Stamp,
-        change: &StageChanges<Deleted::Change, Grant::Change, Begun::Change, Finished::Change>,
+        change: &Stages<
+            Option<Deleted::Change>,
+            Option<Grant::Change>,
+            Option<Begun::Change>,
+            Option<Finished::Change>,
+        >,
     ) -> Result<(), NoMemory> {
         apply_option(&mut self.deleted, at, &change.deleted);
         apply_option(&mut self.grant, at, &change.grant);
@@ -184,28 +182,28 @@ impl<
     ) };
 
     ghost applied_stands = { λ x h s c p r k f i. (
-      part_adds_change deleted_change _ _ _ _ Deleted.applied_stands x.deleted h s c p.0 r.0 k.0 f i.0,
-      part_adds_change grant_change _ _ _ _ Grant.applied_stands x.grant h s c p.1 r.1 k.1 f i.1,
-      part_adds_change begun_change _ _ _ _ Begun.applied_stands x.begun h s c p.2 r.2 k.2 f i.2,
-      part_adds_change finished_change _ _ _ _ Finished.applied_stands x.finished h s c p.3 r.3 k.3 f i.3,
+      part_adds_change deleted_part _ _ _ _ Deleted.applied_stands x.deleted h s c p.0 r.0 k.0 f i.0,
+      part_adds_change grant_part _ _ _ _ Grant.applied_stands x.grant h s c p.1 r.1 k.1 f i.1,
+      part_adds_change begun_part _ _ _ _ Begun.applied_stands x.begun h s c p.2 r.2 k.2 f i.2,
+      part_adds_change finished_part _ _ _ _ Finished.applied_stands x.finished h s c p.3 r.3 k.3 f i.3,
     ) };
 
     ghost joined_stands = { λ x y v w g h p q rx ry a i j. (
-      part_joins_histories deleted_change _ _ _ _ Deleted.joined_stands x.deleted y.deleted v w g h
+      part_joins_histories deleted_part _ _ _ _ Deleted.joined_stands x.deleted y.deleted v w g h
           p.0 q.0 rx.0 ry.0 a i.0 j.0,
-      part_joins_histories grant_change _ _ _ _ Grant.joined_stands x.grant y.grant v w g h
+      part_joins_histories grant_part _ _ _ _ Grant.joined_stands x.grant y.grant v w g h
           p.1 q.1 rx.1 ry.1 a i.1 j.1,
-      part_joins_histories begun_change _ _ _ _ Begun.joined_stands x.begun y.begun v w g h
+      part_joins_histories begun_part _ _ _ _ Begun.joined_stands x.begun y.begun v w g h
           p.2 q.2 rx.2 ry.2 a i.2 j.2,
-      part_joins_histories finished_change _ _ _ _ Finished.joined_stands x.finished y.finished v w g h
+      part_joins_histories finished_part _ _ _ _ Finished.joined_stands x.finished y.finished v w g h
           p.3 q.3 rx.3 ry.3 a i.3 j.3,
     ) };
 
     ghost stands_same = { λ x g h e p. (
-      part_stands_for_sets deleted_change _ Deleted.stands_same x.deleted g h e p.0,
-      part_stands_for_sets grant_change _ Grant.stands_same x.grant g h e p.1,
-      part_stands_for_sets begun_change _ Begun.stands_same x.begun g h e p.2,
-      part_stands_for_sets finished_change _ Finished.stands_same x.finished g h e p.3,
+      part_stands_for_sets deleted_part _ Deleted.stands_same x.deleted g h e p.0,
+      part_stands_for_sets grant_part _ Grant.stands_same x.grant g h e p.1,
+      part_stands_for_sets begun_part _ Begun.stands_same x.begun g h e p.2,
+      part_stands_for_sets finished_part _ Finished.stands_same x.finished g h e p.3,
     ) };
 }
 

@@ -3,7 +3,7 @@ use Rattle.std.specs.Prelude.{Bool, ◌&&◌}
 use Rattle.std.proofs.Common.{ap}
 use Rattle.fed_lattice.specs.Exact.{TellsApart}
 use Rattle.fed_lattice.specs.ExactLaws.{tells_pairs}
-use Rattle.fed_record.specs.declared.stages.Stages.{Stages}
+use Rattle.fed_model.specs.declared.stages.Stages.{Stages}
 
 -- all parts are the same
 abbrev pub same_stages : {A B C D : Type 0} → (A → A → Bool) → (B → B → Bool) → (C → C → Bool) → (D → D → Bool)

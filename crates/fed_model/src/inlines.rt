@@ -24,7 +24,7 @@ impl Inline for Flag {
 }
 
 /// An equal value.
-pub(crate) fn copy_inline<T: Inline + Drop>(value: &T) -> T
+pub fn copy_inline<T: Inline + Drop>(value: &T) -> T
     ensures same { result ≡ value.now }
     ensures well_formed { T.well_formed value.now }
 {
@@ -32,7 +32,7 @@ pub(crate) fn copy_inline<T: Inline + Drop>(value: &T) -> T
 }
 
 /// The join of two values, each beside its version.
-pub(crate) fn join_inline<T: Inline + Drop>(
+pub fn join_inline<T: Inline + Drop>(
     value: &T,
     mine: &Version,
     other: &T,
@@ -45,7 +45,7 @@ pub(crate) fn join_inline<T: Inline + Drop>(
 }
 
 /// Changes the value in place.
-pub(crate) fn apply_inline<T: Inline>(value: &mut T, at: Stamp, change: &T::Change)
+pub fn apply_inline<T: Inline>(value: &mut T, at: Stamp, change: &T::Change)
     ensures { value.new ≡ T.applied value.old at change.now }
 {
     value.apply(at, change).unwrap()

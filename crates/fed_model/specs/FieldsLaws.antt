@@ -3,7 +3,7 @@ use Rattle.std.specs.Prelude.{Bool, ◌&&◌}
 use Rattle.std.proofs.Common.{ap}
 use Rattle.fed_lattice.specs.Exact.{TellsApart}
 use Rattle.fed_lattice.specs.ExactLaws.{tells_pairs}
-use Rattle.fed_record.specs.declared.fields.Fields.{Fields}
+use Rattle.fed_model.specs.declared.fields.Fields.{Fields}
 
 -- all parts are the same
 abbrev pub same_fields : {A B C D E F : Type 0} → (A → A → Bool) → (B → B → Bool) → (C → C → Bool) → (D → D → Bool) → (E → E → Bool) → (F → F → Bool)
