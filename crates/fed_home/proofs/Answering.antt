@@ -42,6 +42,7 @@ goes_on old mid new all rest line answers answer kept more_kept run said more =
             said.reply,
             said.keeps,
             said.complains,
+            said.begins,
             subst (λ (q : List (List ℕ × ℕ)). AreReplies q (site_says mid.roster (state_of mid.replica) line).after rest others) said.roster
                 (subst (λ (t : State). AreReplies new.roster t rest others) said.after h),
           ));

@@ -2,7 +2,7 @@
 use Rattle.std.specs.Prelude.{◌≡◌, ℕ, List, [], ◌∷◌, Option, Some, None, option_map, ⊤}
 use Rattle.fed_replica.specs.State.{State, empty_at, state_of}
 use Rattle.fed_script.specs.Forms.{◌>>=◌}
-use Rattle.fed_site.specs.Answered.{bytes_of, complaint_of, kept_of}
+use Rattle.fed_site.specs.Answered.{begun_of, bytes_of, complaint_of, kept_of}
 use Rattle.fed_site.specs.Journal.{after_lines}
 use Rattle.fed_site.specs.Known.{known_in}
 use Rattle.fed_site.specs.Rosters.{roster_after, roster_after_lines}
@@ -50,5 +50,6 @@ AreReplies roster s (line ∷ lines) (answer ∷ answers) =
     IsReply s (site_says roster s line).reply (bytes_of answer)
     × (kept_of answer ≡ (site_says roster s line).kept)
     × (complaint_of answer ≡ (site_says roster s line).complaint)
+    × (begun_of answer ≡ (site_says roster s line).begun)
     × AreReplies (roster_after roster line) (site_says roster s line).after lines answers
 AreReplies roster s _ _ = ⊥

@@ -32,12 +32,7 @@ pub fn copy_inline<T: Inline + Drop>(value: &T) -> T
 }
 
 /// The join of two values, each beside its version.
-pub fn join_inline<T: Inline + Drop>(
-    value: &T,
-    mine: &Version,
-    other: &T,
-    theirs: &Version,
-) -> T
+pub fn join_inline<T: Inline + Drop>(value: &T, mine: &Version, other: &T, theirs: &Version) -> T
     ensures joined { result ≡ T.joined value.now mine.now other.now theirs.now }
     ensures well_formed { T.well_formed value.now × T.well_formed other.now }
 {

@@ -22,8 +22,8 @@ pub mod reservations;
 
 pub use facts::tags_are_covered;
 pub use fed_model::{
-    Account, Beginning, Changes, Command, Ending, Fields, GrantStage, HoldKind, HoldKinds, JobValues,
-    Letter, Limit, MAX_END, MAX_LIMIT, MAX_MOMENT, MAX_PRIORITY, MAX_STATUS, MAX_TERM,
+    Account, Beginning, Changes, Command, Ending, Fields, GrantStage, HoldKind, HoldKinds,
+    JobValues, Letter, Limit, MAX_END, MAX_LIMIT, MAX_MOMENT, MAX_PRIORITY, MAX_STATUS, MAX_TERM,
     MIN_PRIORITY, Moment, Nodes, Priority, Refusal, Reply, Role, Stages, Term, Who, Window,
 };
 pub use job_parts::{FieldParts, JobParts, StageParts};

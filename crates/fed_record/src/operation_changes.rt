@@ -27,8 +27,12 @@ pub type JobFieldChanges = Fields<
 >;
 
 /// What changes in each stage of a job, if anything does.
-pub type JobStageChanges =
-    Stages<Option<()>, Option<GrantStage>, Option<Beginning>, Option<Ending>>;
+pub type JobStageChanges = Stages<
+    Option<()>,
+    Option<GrantStage>,
+    Option<Beginning>,
+    Option<Ending>,
+>;
 
 /// What the operation changes in the fields.
 pub(crate) fn field_changes(operation: &Operation) -> JobFieldChanges

@@ -87,7 +87,7 @@ replies_both : (roster : List (List ℕ × ℕ)) (s : State) (first second : Lis
 replies_both roster s [] second [] ys a b = b
 replies_both roster s [] second (x ∷ xs) ys a b = absurd a
 replies_both roster s (line ∷ first) second [] ys a b = absurd a
-replies_both roster s (line ∷ first) second (x ∷ xs) ys a b = (a.0, a.1, a.2, replies_both (roster_after roster line) (site_says roster s line).after first second xs ys a.3 b)
+replies_both roster s (line ∷ first) second (x ∷ xs) ys a b = (a.0, a.1, a.2, a.3, replies_both (roster_after roster line) (site_says roster s line).after first second xs ys a.4 b)
 
 -- ---- answers after answers, with words or without
 module _ (asked : Bool) (roster : List (List ℕ × ℕ)) where

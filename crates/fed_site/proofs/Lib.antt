@@ -1,5 +1,6 @@
 pub mod RosterLines
 pub mod Commands
+pub mod ShortNames
 pub mod Replays
 pub mod Openings
 pub mod Lines

@@ -2,7 +2,7 @@
 use Rattle.std.specs.Prelude.{◌≡◌, ℕ, Bool, List, [], ◌∷◌, ◌++◌, if◌then◌else◌}
 use Rattle.fed_replica.specs.State.{State, state_of}
 use Rattle.fed_site.specs.declared.site.Answered.{Answered}
-use Rattle.fed_site.specs.Answered.{bytes_of, kept_of, complaint_of}
+use Rattle.fed_site.specs.Answered.{begun_of, bytes_of, complaint_of, kept_of}
 use Rattle.fed_site.specs.Rosters.{roster_after}
 use Rattle.fed_site.specs.Site.{SiteValue}
 use Rattle.fed_site.specs.Says.{Said, site_says, IsReply}
@@ -14,6 +14,7 @@ pub record SaidAs (old new : SiteValue) (answer : Answered) (left : List (List �
   pub reply : IsReply (state_of old.replica) said.reply (bytes_of answer)
   pub keeps : kept_of answer ≡ said.kept
   pub complains : complaint_of answer ≡ said.complaint
+  pub begins : begun_of answer ≡ said.begun
 
 -- the state after lines, of a site that knows this roster
 abbrev pub after_lines : List (List ℕ × ℕ) → State → List (List ℕ) → State

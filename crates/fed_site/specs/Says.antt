@@ -17,6 +17,7 @@ use Rattle.fed_qstat.specs.Listed.{listed}
 use Rattle.fed_looks.specs.Look.{Look}
 use Rattle.fed_looks.specs.LookLine.{look_in_line}
 use Rattle.fed_looks.specs.LookText.{text_of_look}
+use Rattle.fed_site.specs.declared.answers.Begun.{Begun}
 use Rattle.fed_site.specs.declared.complaints.Complaint.{Complaint}
 use Rattle.fed_site.specs.Line.{packet_text}
 use Rattle.fed_site.specs.Packets.{is_foreign, is_forgotten, unread_text, IsPacketText}
@@ -32,13 +33,14 @@ abbrev pub IsReply : State → Reply → List ℕ → Type 0
 IsReply s (Text text) bytes = bytes ≡ text
 IsReply s (PacketFor to) bytes = (packet : List ℕ) × IsPacketText s to packet × (bytes ≡ answer_line packet)
 
--- what is left, what is replied, whether the line changed what the site holds, so that it is to be kept, and why it isn't
--- done as it asks, if so
+-- what is left, what is replied, whether the line changed what the site holds, so that it is to be kept, why it isn't
+-- done as it asks, if so, and the job that it began, if it did
 pub record Said : Type 0 where
   pub after : State
   pub reply : Reply
   pub kept : Bool
   pub complaint : Option Complaint
+  pub begun : Option Begun
 
 -- what was done, and the text that says so
 pub record Done : Type 0 where
@@ -46,23 +48,30 @@ pub record Done : Type 0 where
   pub text : List ℕ
   pub kept : Bool
   pub complaint : Option Complaint
+  pub begun : Option Begun
 
 abbrev pub said_of : Done → Said
-said_of d = record { after = d.after; reply = Text d.text; kept = d.kept; complaint = d.complaint }
+said_of d = record { after = d.after; reply = Text d.text; kept = d.kept; complaint = d.complaint; begun = d.begun }
 
 -- nothing changes
 abbrev pub only : State → List ℕ → Done
-only s text = record { after = s; text = text; kept = false; complaint = None }
+only s text = record { after = s; text = text; kept = false; complaint = None; begun = None }
 
 -- nor is it done as asked
 abbrev pub undone : State → List ℕ → Complaint → Done
-undone s text complaint = record { after = s; text = text; kept = false; complaint = Some complaint }
+undone s text complaint = record { after = s; text = text; kept = false; complaint = Some complaint; begun = None }
 
 -- ---- commands
--- why the command with this index in the line is not done
-abbrev pub refused_at : ℕ → Answer → Option Complaint
-refused_at index (Refuses refusal) = Some (Complaint.Refused index refusal)
-refused_at index (Replies reply new) = None
+-- why the command with this index in the line, which somebody asks for, is not done
+abbrev pub refused_at : Who → ℕ → Command → Answer → Option Complaint
+refused_at who index command (Refuses refusal) =
+    Some (Complaint.Refused (record { index = index; who = who; command = command; refusal = refusal }))
+refused_at who index command (Replies reply new) = None
+
+-- the job that a command begins, if it is done
+abbrev pub job_begun_by : Command → Option Begun
+job_begun_by (Command.Begin job moment) = Some (record { job = job; moment = moment })
+job_begun_by _ = None
 
 -- what is done next stands behind what was done first
 abbrev pub followed : (State → Done) → Done → Done
@@ -71,6 +80,7 @@ followed next first = record {
   text = first.text ++ (next first.after).text;
   kept = first.kept || (next first.after).kept;
   complaint = option_or first.complaint (next first.after).complaint;
+  begun = option_or first.begun (next first.after).begun;
 }
 
 -- ---- plans
@@ -79,17 +89,18 @@ after_plan s (Some text) = only s text
 after_plan s None = undone s (plan_or_none None) Complaint.NoPlan
 
 module _ (roster : List (List ℕ × ℕ)) where
-  abbrev pub does : State → ℕ → Answer → Done
-  does s index answer = record {
+  abbrev pub does : State → Who → ℕ → Command → Answer → Done
+  does s who index command answer = record {
     after = after_answer s answer;
     text = answer_line (text_of_outcome roster (outcome_of_answer answer));
     kept = adds answer;
-    complaint = refused_at index answer;
+    complaint = refused_at who index command answer;
+    begun = if adds answer then job_begun_by command else None;
   }
 
   -- the command with this index in the line
   abbrev pub after_command : State → Who → ℕ → Command → Done
-  after_command s who index command = does s index (answer_to s.view s.site who command)
+  after_command s who index command = does s who index command (answer_to s.view s.site who command)
 
   -- the commands from this index in the line on
   abbrev pub after_commands : State → Who → ℕ → List Command → Done
@@ -104,6 +115,7 @@ module _ (roster : List (List ℕ × ℕ)) where
     text = answer_line (text_of_outcome roster (outcome_of_packet_unless (lacking s p) s p));
     kept = is_none (lacking s p);
     complaint = option_map Complaint.Gap (lacking s p);
+    begun = None;
   }
 
   abbrev pub after_packet : State → PacketValue → Done
@@ -125,7 +137,7 @@ module _ (roster : List (List ℕ × ℕ)) where
   after_line s (acts site who commands) = said_of (after_commands s who 0 commands)
   after_line s (lists site full jobs) = said_of (only s (listed full roster s.view jobs))
   after_line s (misuses site fault) = said_of (undone s (line_of_usage fault) (Complaint.Misused fault))
-  after_line s (ships site to) = record { after = s; reply = PacketFor to; kept = false; complaint = None }
+  after_line s (ships site to) = record { after = s; reply = PacketFor to; kept = false; complaint = None; begun = None }
   after_line s (plans site moment) = said_of (after_plan s (plan_if_any roster s.view s.site moment))
   after_line s line = unreadable s
 
@@ -147,7 +159,7 @@ module _ (roster : List (List ℕ × ℕ)) where
   abbrev pub after_next : State → Option (List (List ℕ × ℕ)) → Done
   after_next s None = undone s (answer_line (codes "other roster")) Complaint.OtherRoster
   after_next s (Some sites) =
-      record { after = s; text = answer_line (codes "done"); kept = not (are_same roster sites); complaint = None }
+      record { after = s; text = answer_line (codes "done"); kept = not (are_same roster sites); complaint = None; begun = None }
 
   abbrev pub after_roster : State → List ℕ → Option (Option (List (List ℕ × ℕ))) → Said
   after_roster s line None = after_text s line (packet_text line)

@@ -1,101 +1,67 @@
 //! What a site does to commands.
-ghost use Rattle.std.specs.Prelude.{◌≡◌, ◌||◌, false, Some, None, IfOk, OnErr};
-ghost use Rattle.std.specs.Cow.{cow_str_bytes};
-ghost use Rattle.fed_board.specs.Board.{board_reads};
+ghost use Rattle.std.specs.Prelude.{◌≡◌, false, Some, None, IfOk, OnErr, if◌then◌else◌};
 ghost use Rattle.fed_model.specs.declared.outcomes.Outcome.{Outcome};
-ghost use Rattle.fed_qstat.specs.Outcome.{answer_line, text_of_outcome};
+ghost use Rattle.fed_qstat.specs.Outcome.{answer_line, text_of_outcome, text_of_reply};
 ghost use Rattle.fed_site.specs.declared.complaints.Complaint.{Complaint};
-ghost use Rattle.fed_site.specs.Acts.{DoneAs, line_for, next_line};
+ghost use Rattle.fed_site.specs.Acts.{DoneAs};
+ghost use Rattle.fed_site.specs.Answered.{text_of};
 ghost use Rattle.fed_replica.specs.State.{state_of};
-ghost use Rattle.fed_site.specs.Says.{after_command, after_commands};
+ghost use Rattle.fed_site.specs.Says.{after_command, after_commands, job_begun_by};
 
-use crate::complaints::Complaint;
-use fed_board::Board;
+use crate::answers::{Begun, LineText, TextAnswer, both, told, undone};
+use crate::complaints::{Complaint, RefusedCommand};
+use crate::identifier_lines::identifier_line;
 use fed_lattice::NoMemory;
 use fed_model::Outcome;
-use fed_qstat::{AnswerText, outcome_line};
-use fed_record::{Command, Refusal, Reply, Who};
+use fed_qstat::outcome_line;
+use fed_record::{Command, Reply, Who};
 use fed_replica::{Answered, Replica};
 use fed_stamp::{Roster, SiteId};
 use std::alloc::{AllocError, Global};
 use std::borrow::CowStr;
 
-/// What was done: the text that says so, whether it changed what the site holds, and why it isn't done as asked, if so.
-#[derive(Drop)]
-pub(crate) struct Done {
-    pub(crate) text: AnswerText,
-    pub(crate) kept: bool,
-    pub(crate) complaint: Option<Complaint>,
-}
-
-/// A text that says why nothing is done.
-pub(crate) fn undone(text: AnswerText, complaint: Complaint) -> Done
-    ensures text { cow_str_bytes result.text ≡ cow_str_bytes text.entry }
-    ensures kept { result.kept ≡ false }
-    ensures complaint { result.complaint ≡ Some complaint }
-{
-    Done {
-        text,
-        kept: false,
-        complaint: Some(complaint),
-    }
-}
-
-/// The line of the identifier that the command would make, if it makes one. It is made before the command is done, so
-/// that no memory is wanted for it then.
-fn ready_line(
-    alloc: Global,
-    roster: &Roster,
-    here: SiteId,
-    board: &Board,
-    command: &Command,
-) -> Result<AnswerText, NoMemory>
-    ensures { IfOk result (λ line.
-        cow_str_bytes line ≡ next_line roster.now (board_reads board.now).version here command.now) }
-{
-    match command {
-        Command::Submit { .. } | Command::Reserve { .. } => match board.version().next(here) {
-            Ok(stamp) => Ok(outcome_line(
-                alloc,
-                roster,
-                Outcome::Replied(Reply::Submitted(stamp)),
-            )?),
-            Err(_) => Ok(CowStr::Borrowed("")),
-        },
-        _ => Ok(CowStr::Borrowed("")),
-    }
-}
-
-/// The line of a reply: the one at hand where it has an identifier.
-fn reply_line(ready: AnswerText, reply: Reply) -> AnswerText
-    ensures { cow_str_bytes result ≡ line_for (cow_str_bytes ready.entry) reply }
+/// The line of a reply. It is made once the command is done, so it takes no memory.
+fn reply_line(roster: &Roster, reply: Reply) -> LineText
+    ensures { text_of result ≡ answer_line (text_of_reply roster.now reply) }
 {
     match reply {
-        Reply::Submitted(_) | Reply::Reserved(_) => ready,
-        Reply::Done => CowStr::Borrowed("done\n"),
-        Reply::Granted => CowStr::Borrowed("granted\n"),
-        Reply::Yours => CowStr::Borrowed("yours\n"),
+        Reply::Submitted(id) | Reply::Reserved(id) => {
+            LineText::Identifier(identifier_line(roster, id))
+        }
+        Reply::Done => LineText::Other(CowStr::Borrowed("done\n")),
+        Reply::Granted => LineText::Other(CowStr::Borrowed("granted\n")),
+        Reply::Yours => LineText::Other(CowStr::Borrowed("yours\n")),
     }
 }
 
-/// What is said where the command at this index of a line is refused.
+/// What is said of a command that is refused.
 fn refused(
     alloc: Global,
     roster: &Roster,
-    index: usize,
-    refusal: &Refusal,
-) -> Result<Done, AllocError>
-    ensures text { IfOk result (λ d. cow_str_bytes d.text ≡
-        answer_line (text_of_outcome roster.now (Outcome.Refused refusal.now))) }
-    ensures kept { IfOk result (λ d. d.kept ≡ false) }
-    ensures complaint { IfOk result (λ d. d.complaint ≡ Some (Complaint.Refused index refusal.now)) }
+    command: &RefusedCommand,
+) -> Result<TextAnswer, AllocError>
+    ensures text { IfOk result
+        (λ a. text_of a.text ≡ answer_line (text_of_outcome roster.now (Outcome.Refused command.now.refusal))) }
+    ensures kept { IfOk result (λ a. a.kept ≡ false) }
+    ensures complaint { IfOk result (λ a. a.complaint ≡ Some (Complaint.Refused command.now)) }
+    ensures begun { IfOk result (λ a. a.begun ≡ None) }
 {
-    let text = outcome_line(alloc, roster, Outcome::Refused(*refusal))?;
-    let complaint = Complaint::Refused {
-        index,
-        refusal: *refusal,
-    };
+    let text = outcome_line(alloc, roster, Outcome::Refused(command.refusal))?;
+    let complaint = Complaint::Refused(*command);
     Ok(undone(text, complaint))
+}
+
+/// The job that a command began, where it was done.
+fn job_begun(command: &Command, is_done: bool) -> Option<Begun>
+    ensures { result ≡ (if is_done then job_begun_by command.now else None) }
+{
+    match command {
+        Command::Begin { job, moment } if is_done => Some(Begun {
+            job: *job,
+            moment: *moment,
+        }),
+        _ => None,
+    }
 }
 
 /// Does the command at this index of a line. Where memory is refused, nothing changes.
@@ -107,30 +73,32 @@ fn ask(
     who: &Who,
     index: usize,
     command: &Command,
-) -> Result<Done, NoMemory>
+) -> Result<TextAnswer, NoMemory>
     requires { replica.old.site ≡ here }
-    ensures done { IfOk result (λ d. DoneAs replica.new (cow_str_bytes d.text) d.kept d.complaint
+    ensures done { IfOk result (λ a. DoneAs replica.new a
         (after_command roster.now (state_of replica.old) who.now index command.now)) }
     ensures site { replica.new.site ≡ here }
     ensures unchanged { OnErr result (replica.new ≡ replica.old) }
 {
-    let text = ready_line(alloc, roster, here, replica.board(), command)?;
     let answered = replica.answer(who, command)?;
     let Answered { said, added } = answered;
     match said {
-        Ok(reply) => Ok(Done {
-            text: reply_line(text, reply),
+        Ok(reply) => Ok(TextAnswer {
+            text: reply_line(roster, reply),
             kept: added,
             complaint: None,
+            begun: job_begun(command, added),
         }),
-        Err(refusal) => Ok(refused(alloc, roster, index, &refusal)?),
+        Err(refusal) => {
+            let command = RefusedCommand {
+                index,
+                who: *who,
+                command: *command,
+                refusal,
+            };
+            Ok(refused(alloc, roster, &command)?)
+        }
     }
-}
-
-fn is_either(a: bool, b: bool) -> bool
-    ensures { result ≡ (a || b) }
-{
-    a || b
 }
 
 /// Does commands, one after another. Where memory is refused, the first of them may have been done.
@@ -141,26 +109,18 @@ fn ask_each(
     replica: &mut Replica,
     who: &Who,
     commands: &[Command],
-) -> Result<Done, NoMemory>
+) -> Result<TextAnswer, NoMemory>
     requires { replica.old.site ≡ here }
-    ensures done { IfOk result (λ d. DoneAs replica.new (cow_str_bytes d.text) d.kept d.complaint
+    ensures done { IfOk result (λ a. DoneAs replica.new a
         (after_commands roster.now (state_of replica.old) who.now 0 commands.now)) }
     ensures site { replica.new.site ≡ here }
 {
-    let mut text = String::new(alloc);
-    let mut kept = false;
-    let mut complaint = None;
+    let mut all = told(CowStr::Borrowed(""));
     for (index, command) in commands.iter().enumerate() {
-        let done = ask(alloc, roster, here, replica, who, index, command)?;
-        text.push_str(done.text.as_str())?;
-        kept = is_either(kept, done.kept);
-        complaint = complaint.or(done.complaint);
+        let last = ask(alloc, roster, here, replica, who, index, command)?;
+        all = both(alloc, all, last)?;
     }
-    Ok(Done {
-        text: CowStr::Owned(text),
-        kept,
-        complaint,
-    })
+    Ok(all)
 }
 
 /// Does commands, one after another. Where memory is refused, nothing changes: for that the replica is copied where
@@ -172,9 +132,9 @@ pub(crate) fn act(
     replica: &mut Replica,
     who: &Who,
     commands: &[Command],
-) -> Result<Done, NoMemory>
+) -> Result<TextAnswer, NoMemory>
     requires { replica.old.site ≡ here }
-    ensures done { IfOk result (λ d. DoneAs replica.new (cow_str_bytes d.text) d.kept d.complaint
+    ensures done { IfOk result (λ a. DoneAs replica.new a
         (after_commands roster.now (state_of replica.old) who.now 0 commands.now)) }
     ensures site { replica.new.site ≡ here }
     ensures unchanged { OnErr result (replica.new ≡ replica.old) }

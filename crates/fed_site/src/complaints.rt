@@ -1,10 +1,23 @@
 //! Why lines aren't done as they ask.
 use crate::packets::part_text;
-use fed_record::Refusal;
+use fed_record::{Command, Refusal, Who};
 use fed_stamp::SiteId;
 use fed_wire::WireFault;
 use fed_words::UsageFault;
 use std::fmt;
+
+/// A command that is refused: which of its line it is, what it is, and why it isn't done.
+#[derive(Clone, Copy, PartialEq, Eq, Debug, Drop)]
+pub struct RefusedCommand {
+    /// Its index in the line, from 0.
+    pub index: usize,
+    /// Who asks for it.
+    pub who: Who,
+    /// The command.
+    pub command: Command,
+    /// Why it isn't done.
+    pub refusal: Refusal,
+}
 
 /// Why a line isn't done as it asks.
 #[derive(Clone, Copy, PartialEq, Eq, Debug, Drop)]
@@ -13,8 +26,8 @@ pub enum Complaint {
     Unreadable,
     /// The words of a utility ask nothing.
     Misused(UsageFault),
-    /// The command at this index of the line, from 0, is refused; it is the first that is.
-    Refused { index: usize, refusal: Refusal },
+    /// This command of the line is refused; it is the first that is.
+    Refused(RefusedCommand),
     /// The text is no packet's.
     Unread(WireFault),
     /// The packet tells of a site that the roster hasn't.
@@ -112,9 +125,9 @@ impl fmt::Display for Complaint {
                 let why = why_misused(*fault);
                 write!(f, "usage {number}: {why}")
             }
-            Complaint::Refused { refusal, .. } => {
-                let number = refusal.number();
-                let why = why_refused(*refusal);
+            Complaint::Refused(refused) => {
+                let number = refused.refusal.number();
+                let why = why_refused(refused.refusal);
                 write!(f, "refused {number}: {why}")
             }
             Complaint::Unread(fault) => write_unread(f, *fault),

@@ -4,8 +4,12 @@
 
 /// What a site does to commands.
 mod acts;
+/// Answers by a text.
+mod answers;
 /// Why lines aren't done as they ask.
 mod complaints;
+/// The line of an identifier, which takes no memory.
+mod identifier_lines;
 /// What a site holds, as text.
 mod knowing;
 /// Laws of what sites say and keep.
@@ -27,7 +31,9 @@ pub mod site;
 /// Answers, and what the user is told beside them.
 pub mod tellings;
 
-pub use complaints::Complaint;
+pub use answers::{Begun, LineText, TextAnswer};
+pub use complaints::{Complaint, RefusedCommand};
+pub use identifier_lines::IdentifierLine;
 pub use rosters::are_same_rosters;
 pub use site::{Answered, Site};
 pub use tellings::{Told, words_beside};

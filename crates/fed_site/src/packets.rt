@@ -12,7 +12,7 @@ ghost use Rattle.fed_site.specs.Packets.{is_foreign as tells_of_others, is_forgo
 ghost use Rattle.fed_site.specs.Says.{after_packet, after_reading, after_receipt};
 ghost use Rattle.fed_wire.specs.Reading.{packet_in};
 
-use crate::acts::{Done, undone};
+use crate::answers::{LineText, TextAnswer, undone};
 use crate::complaints::Complaint;
 use fed_lattice::NoMemory;
 use fed_model::Outcome;
@@ -120,17 +120,18 @@ fn take_known(
     roster: &Roster,
     replica: &mut Replica,
     packet: &Packet,
-) -> Result<Done, NoMemory>
-    ensures done { IfOk result (λ d. DoneAs replica.new (cow_str_bytes d.text) d.kept d.complaint
+) -> Result<TextAnswer, NoMemory>
+    ensures done { IfOk result (λ a. DoneAs replica.new a
         (after_receipt roster.now (state_of replica.old) packet.now)) }
     ensures site { replica.new.site ≡ replica.old.site }
     ensures unchanged { OnErr result (replica.new ≡ replica.old) }
 {
     match replica.receive(packet)? {
-        Received::Taken(taken) => Ok(Done {
-            text: taken_line(taken),
+        Received::Taken(taken) => Ok(TextAnswer {
+            text: LineText::Other(taken_line(taken)),
             kept: true,
             complaint: None,
+            begun: None,
         }),
         Received::Gap(missing) => {
             let text = outcome_line(alloc, roster, Outcome::Gap(missing))?;
@@ -146,9 +147,9 @@ fn take_packet(
     here: SiteId,
     replica: &mut Replica,
     packet: &Packet,
-) -> Result<Done, NoMemory>
+) -> Result<TextAnswer, NoMemory>
     requires { replica.old.site ≡ here }
-    ensures done { IfOk result (λ d. DoneAs replica.new (cow_str_bytes d.text) d.kept d.complaint
+    ensures done { IfOk result (λ a. DoneAs replica.new a
         (after_packet roster.now (state_of replica.old) packet.now)) }
     ensures site { replica.new.site ≡ here }
     ensures unchanged { OnErr result (replica.new ≡ replica.old) }
@@ -180,9 +181,9 @@ pub(crate) fn take(
     here: SiteId,
     replica: &mut Replica,
     text: &[u8],
-) -> Result<Done, NoMemory>
+) -> Result<TextAnswer, NoMemory>
     requires { replica.old.site ≡ here }
-    ensures done { IfOk result (λ d. DoneAs replica.new (cow_str_bytes d.text) d.kept d.complaint
+    ensures done { IfOk result (λ a. DoneAs replica.new a
         (after_reading roster.now (state_of replica.old) (packet_in text.now))) }
     ensures site { replica.new.site ≡ here }
     ensures unchanged { OnErr result (replica.new ≡ replica.old) }

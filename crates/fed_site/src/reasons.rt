@@ -1,5 +1,6 @@
 //! What the user is told of a line: why it isn't done as it asks, and what else there is to say.
 
+use crate::answers::Begun;
 use crate::complaints::Complaint;
 use crate::misused::misused_text;
 use crate::other_rosters::other_roster_text;
@@ -8,8 +9,6 @@ use crate::site::Site;
 use fed_easy::used_nodes;
 use fed_lattice::NoMemory;
 use fed_qstat::{identifier_text, site_text};
-use fed_record::{Command, Moment};
-use fed_script::{Line, first_word, read_own_line};
 use fed_stamp::SiteId;
 use std::alloc::Global;
 
@@ -35,7 +34,7 @@ pub fn reason_text(
     complaint: &Complaint,
 ) -> Result<String, NoMemory> {
     let told = match complaint {
-        Complaint::Refused { index, refusal } => refused_text(alloc, site, line, *index, *refusal)?,
+        Complaint::Refused(refused) => Some(refused_text(alloc, site, refused)?),
         Complaint::Misused(fault) => misused_text(alloc, site, line, *fault)?,
         Complaint::Gap(lacking) => Some(gap_text(alloc, site, *lacking)?),
         Complaint::OtherRoster => other_roster_text(alloc, site, line)?,
@@ -47,24 +46,16 @@ pub fn reason_text(
     }
 }
 
-/// That the site is beyond its nodes at the moment, where it is.
-fn beyond_text(
-    alloc: Global,
-    site: &Site,
-    command: &Command,
-    moment: Moment,
-) -> Result<Option<String>, NoMemory> {
+/// That the site is beyond its nodes where this job began, if it is.
+fn beyond_text(alloc: Global, site: &Site, begun: Begun) -> Result<Option<String>, NoMemory> {
     let roster = site.roster();
     let here = site.here();
-    let Command::Begin { job, .. } = command else {
-        return Ok(None);
-    };
     let nodes = roster.nodes(here).unwrap_or(0);
-    let used = used_nodes(site.board(), here, moment.get());
+    let used = used_nodes(site.board(), here, begun.moment.get());
     if used <= nodes {
         return Ok(None);
     }
-    let id = identifier_text(alloc, roster, *job)?;
+    let id = identifier_text(alloc, roster, begun.job)?;
     let name = site_text(alloc, roster, here)?;
     Ok(Some(format!(in alloc;
         "{id} has begun, and {name} is beyond its nodes: running jobs and reservations use {used} of {nodes}"
@@ -73,18 +64,13 @@ fn beyond_text(
 
 /// What is said of a line that was done: where it began a job, that the site is beyond its nodes, if so. A job begins
 /// whatever the use of the machine is.
-pub fn warning_text(alloc: Global, site: &Site, line: &[u8]) -> Result<Option<String>, NoMemory> {
-    if first_word(line) != Some(b"begin".as_slice()) {
-        return Ok(None);
-    }
-    match read_own_line(alloc, site.roster(), site.here(), line)? {
-        Some(Line::Act { commands, .. }) => match commands.first() {
-            Some(command) => match command {
-                Command::Begin { moment, .. } => beyond_text(alloc, site, command, *moment),
-                _ => Ok(None),
-            },
-            None => Ok(None),
-        },
-        _ => Ok(None),
+pub fn warning_text(
+    alloc: Global,
+    site: &Site,
+    begun: Option<Begun>,
+) -> Result<Option<String>, NoMemory> {
+    match begun {
+        Some(begun) => beyond_text(alloc, site, begun),
+        None => Ok(None),
     }
 }

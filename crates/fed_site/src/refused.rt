@@ -1,10 +1,9 @@
 //! What the user is told of a command that is refused: what was asked of what, and why it isn't done.
 
+use crate::complaints::RefusedCommand;
 use crate::site::Site;
-use fed_lattice::NoMemory;
 use fed_qstat::{hold_letters, identifier_text, site_text};
 use fed_record::{Command, JobRecord, MAX_MOMENT, Refusal, Role, Who, Window};
-use fed_script::{Line, read_own_line};
 use fed_stamp::{JobId, MAX_NODES, Roster, SiteId};
 use std::alloc::{AllocError, Global};
 
@@ -113,53 +112,56 @@ fn begun_text(
     }
 }
 
-/// A command that names a job of the board.
+/// A job of the board that a command names.
 #[derive(Drop)]
-struct RefusedCommand<'a> {
-    who: &'a Who,
-    command: &'a Command,
+struct NamedJob<'a> {
     id: &'a str,
     job: JobId,
     known: &'a JobRecord,
 }
 
 /// That the asker's role forbids it.
-fn not_permitted_text(alloc: Global, asked: &RefusedCommand<'_>) -> Result<String, AllocError> {
-    let asker = asker_text(alloc, asked.who)?;
-    let deed = deed_text(alloc, asked.command, asked.id)?;
-    if !asked.known.is_submitted() {
+fn not_permitted_text(
+    alloc: Global,
+    refused: &RefusedCommand,
+    named: &NamedJob<'_>,
+) -> Result<String, AllocError> {
+    let asker = asker_text(alloc, &refused.who)?;
+    let deed = deed_text(alloc, &refused.command, named.id)?;
+    if !named.known.is_submitted() {
         return format!(in alloc; "{asker} may not {deed}");
     }
-    let owner = asked.known.owner().1;
+    let owner = named.known.owner().1;
     let owner = owner.as_str();
     format!(in alloc; "{asker} may not {deed}, whose owner is {owner}")
 }
 
-/// Why the command that somebody asks of a job that the site knows isn't done.
+/// Why a command that names a job that the site knows isn't done.
 fn why_of_job(
     alloc: Global,
     site: &Site,
-    asked: &RefusedCommand<'_>,
-    refusal: Refusal,
+    refused: &RefusedCommand,
+    named: &NamedJob<'_>,
 ) -> Result<String, AllocError> {
     let roster = site.roster();
-    let (id, known) = (asked.id, asked.known);
+    let refusal = refused.refusal;
+    let (id, known) = (named.id, named.known);
     match refusal {
-        Refusal::NotPermitted => not_permitted_text(alloc, asked),
+        Refusal::NotPermitted => not_permitted_text(alloc, refused, named),
         Refusal::Gone => gone_text(alloc, id, known),
         Refusal::Granted => granted_text(alloc, roster, id, known.holder()),
         Refusal::TakenBy(holder) => granted_text(alloc, roster, id, Some(holder)),
         Refusal::NotOrigin => {
-            let origin = site_text(alloc, roster, asked.job.site())?;
+            let origin = site_text(alloc, roster, named.job.site())?;
             format!(in alloc; "{id} was submitted at {origin}, which alone grants it")
         }
         Refusal::Held => {
             let kinds = hold_letters(known.holds());
             format!(in alloc; "{id} is held (kinds {kinds})")
         }
-        Refusal::NotEligible => match asked.command {
+        Refusal::NotEligible => match refused.command {
             Command::Grant { asker, .. } => {
-                let name = site_text(alloc, roster, *asker)?;
+                let name = site_text(alloc, roster, asker)?;
                 format!(in alloc; "{id} may not run at {name}")
             }
             _ => format!(in alloc; "{id} may not run there"),
@@ -192,16 +194,11 @@ fn why_no_window(alloc: Global, window: &Window) -> Result<String, AllocError> {
 }
 
 /// Why a command that names no job isn't done.
-fn why_of_site(
-    alloc: Global,
-    site: &Site,
-    who: &Who,
-    command: &Command,
-    refusal: Refusal,
-) -> Result<String, AllocError> {
+fn why_of_site(alloc: Global, site: &Site, refused: &RefusedCommand) -> Result<String, AllocError> {
     let here = site_text(alloc, site.roster(), site.here())?;
-    let asker = asker_text(alloc, who)?;
-    match (refusal, command) {
+    let asker = asker_text(alloc, &refused.who)?;
+    let refusal = refused.refusal;
+    match (refusal, &refused.command) {
         (Refusal::NotPermitted, Command::Reserve { .. }) => {
             format!(in alloc; "{asker} may not reserve nodes: operators and administrators may")
         }
@@ -225,27 +222,19 @@ fn why_of_site(
 }
 
 /// Why the command isn't done.
-fn why_refused(
-    alloc: Global,
-    site: &Site,
-    who: &Who,
-    command: &Command,
-    refusal: Refusal,
-) -> Result<String, AllocError> {
-    let Some(job) = job_of(command) else {
-        return why_of_site(alloc, site, who, command, refusal);
+fn why_refused(alloc: Global, site: &Site, refused: &RefusedCommand) -> Result<String, AllocError> {
+    let Some(job) = job_of(&refused.command) else {
+        return why_of_site(alloc, site, refused);
     };
     let id = identifier_text(alloc, site.roster(), job)?;
     match site.board().job(job) {
-        Some(known) if refusal != Refusal::UnknownJob => {
-            let asked = RefusedCommand {
-                who,
-                command,
+        Some(known) if refused.refusal != Refusal::UnknownJob => {
+            let named = NamedJob {
                 id: id.as_str(),
                 job,
                 known,
             };
-            why_of_job(alloc, site, &asked, refusal)
+            why_of_job(alloc, site, refused, &named)
         }
         _ => {
             let here = site_text(alloc, site.roster(), site.here())?;
@@ -254,24 +243,14 @@ fn why_refused(
     }
 }
 
-/// Why the command at this index of a line is refused. `None` where the line has no such command.
+/// What was asked of what by a command that is refused, and why it isn't done.
 pub fn refused_text(
     alloc: Global,
     site: &Site,
-    line: &[u8],
-    index: usize,
-    refusal: Refusal,
-) -> Result<Option<String>, NoMemory> {
-    match read_own_line(alloc, site.roster(), site.here(), line)? {
-        Some(Line::Act { who, commands, .. }) => match commands.get(index) {
-            Some(command) => {
-                let number = refusal.number();
-                let name = name_of(refusal);
-                let why = why_refused(alloc, site, &who, command, refusal)?;
-                Ok(Some(format!(in alloc; "refused {number} ({name}): {why}")?))
-            }
-            None => Ok(None),
-        },
-        _ => Ok(None),
-    }
+    refused: &RefusedCommand,
+) -> Result<String, AllocError> {
+    let number = refused.refusal.number();
+    let name = name_of(refused.refusal);
+    let why = why_refused(alloc, site, refused)?;
+    format!(in alloc; "refused {number} ({name}): {why}")
 }

@@ -9,7 +9,7 @@ ghost use Rattle.fed_replica.specs.State.{empty_at, state_of};
 ghost use Rattle.fed_qstat.specs.Outcome.{answer_line};
 ghost use Rattle.fed_qstat.specs.Planned.{plan_or_none};
 ghost use Rattle.fed_site.specs.declared.complaints.Complaint.{Complaint};
-ghost use Rattle.fed_site.specs.Answered.{bytes_of, kept_of, complaint_of};
+ghost use Rattle.fed_site.specs.Answered.{begun_of, bytes_of, complaint_of, kept_of, text_of};
 ghost use Rattle.fed_site.specs.Journal.{SaidAs, after_lines};
 ghost use Rattle.fed_site.specs.Known.{heard_line as line_of_heard, known_in, unheard};
 ghost use Rattle.fed_site.specs.Line.{packet_text as packet_text_in};
@@ -17,7 +17,8 @@ ghost use Rattle.fed_site.specs.Packets.{IsPacketText};
 ghost use Rattle.fed_site.specs.Rosters.{next_roster, roster_after, roster_after_lines, roster_told};
 ghost use Rattle.fed_site.specs.Says.{after_line, after_look, after_next, after_text, after_told, said_of, site_says};
 
-use crate::acts::{Done, act, undone};
+use crate::acts::act;
+use crate::answers::{Begun, LineText, TextAnswer, told, undone};
 use crate::complaints::Complaint;
 use crate::knowing::{heard_line, known, known_text};
 use crate::packets::{ship, take};
@@ -36,17 +37,10 @@ use std::marker::Model;
 /// What a site answers to a line.
 #[derive(Drop)]
 pub enum Answered {
-    /// A text, whether the line changed what the site holds, so that it is to be kept, and why the line isn't done as it
-    /// asks, if so.
-    Text {
-        text: AnswerText,
-        kept: bool,
-        complaint: Option<Complaint>,
-    },
+    /// A text.
+    Text(TextAnswer),
     /// The line of a packet.
-    Packet {
-        text: Vec<u8>,
-    },
+    Packet { text: Vec<u8> },
 }
 
 impl Answered {
@@ -55,7 +49,7 @@ impl Answered {
         ensures { result.now ≡ bytes_of self.now }
     {
         match self {
-            Answered::Text { text, .. } => text.as_str().as_bytes(),
+            Answered::Text(answer) => answer.text.as_str().as_bytes(),
             Answered::Packet { text } => text,
         }
     }
@@ -65,7 +59,7 @@ impl Answered {
         ensures { result ≡ kept_of self.now }
     {
         match self {
-            Answered::Text { kept, .. } => *kept,
+            Answered::Text(answer) => answer.kept,
             Answered::Packet { .. } => false,
         }
     }
@@ -75,7 +69,17 @@ impl Answered {
         ensures { result ≡ complaint_of self.now }
     {
         match self {
-            Answered::Text { complaint, .. } => *complaint,
+            Answered::Text(answer) => answer.complaint,
+            Answered::Packet { .. } => None,
+        }
+    }
+
+    /// The job that the line began, if it did.
+    pub fn begun(&self) -> Option<Begun>
+        ensures { result ≡ begun_of self.now }
+    {
+        match self {
+            Answered::Text(answer) => answer.begun,
             Answered::Packet { .. } => None,
         }
     }
@@ -100,64 +104,37 @@ impl Model for Site {
     ghost invariant = { λ s. (s.replica.site ≡ s.here) × (s.here < length s.roster) };
 }
 
-fn done_answer(done: Done) -> Answered
-    ensures bytes { bytes_of result ≡ cow_str_bytes done.text }
-    ensures kept { kept_of result ≡ done.kept }
-    ensures complaint { complaint_of result ≡ done.complaint }
-{
-    let Done {
-        text,
-        kept,
-        complaint,
-    } = done;
-    Answered::Text {
-        text,
-        kept,
-        complaint,
-    }
-}
-
-/// The answer of a text that tells of no change.
-fn told(text: AnswerText) -> Answered
-    ensures bytes { bytes_of result ≡ cow_str_bytes text.entry }
-    ensures kept { kept_of result ≡ false }
-    ensures complaint { complaint_of result ≡ None }
-{
-    Answered::Text {
-        text,
-        kept: false,
-        complaint: None,
-    }
-}
-
 /// The answer of a plan, or that there is none.
-fn plan_answer(plan: Option<AnswerText>) -> Answered
-    ensures bytes { bytes_of result ≡ plan_or_none (option_map cow_str_bytes plan.entry) }
-    ensures kept { kept_of result ≡ false }
-    ensures complaint { complaint_of result ≡ (if is_none plan.entry then Some Complaint.NoPlan else None) }
+fn plan_answer(plan: Option<AnswerText>) -> TextAnswer
+    ensures text { text_of result.text ≡ plan_or_none (option_map cow_str_bytes plan.entry) }
+    ensures kept { result.kept ≡ false }
+    ensures complaint { result.complaint ≡ (if is_none plan.entry then Some Complaint.NoPlan else None) }
+    ensures begun { result.begun ≡ None }
 {
     match plan {
         Some(text) => told(text),
-        None => done_answer(undone(CowStr::Borrowed("no plan\n"), Complaint::NoPlan)),
+        None => undone(CowStr::Borrowed("no plan\n"), Complaint::NoPlan),
     }
 }
 
 /// The answer to a line that can't be read.
-fn unreadable() -> Answered
-    ensures bytes { bytes_of result ≡ answer_line (codes "cannot be read") }
-    ensures kept { kept_of result ≡ false }
-    ensures complaint { complaint_of result ≡ Some Complaint.Unreadable }
+fn unreadable() -> TextAnswer
+    ensures text { text_of result.text ≡ answer_line (codes "cannot be read") }
+    ensures kept { result.kept ≡ false }
+    ensures complaint { result.complaint ≡ Some Complaint.Unreadable }
+    ensures begun { result.begun ≡ None }
 {
-    done_answer(undone(CowStr::Borrowed("cannot be read\n"), Complaint::Unreadable))
+    undone(CowStr::Borrowed("cannot be read\n"), Complaint::Unreadable)
 }
 
 /// The answer to a roster that doesn't go on with the one that is known.
-fn other_roster() -> Answered
-    ensures bytes { bytes_of result ≡ answer_line (codes "other roster") }
-    ensures kept { kept_of result ≡ false }
-    ensures complaint { complaint_of result ≡ Some Complaint.OtherRoster }
+fn other_roster() -> TextAnswer
+    ensures text { text_of result.text ≡ answer_line (codes "other roster") }
+    ensures kept { result.kept ≡ false }
+    ensures complaint { result.complaint ≡ Some Complaint.OtherRoster }
+    ensures begun { result.begun ≡ None }
 {
-    done_answer(undone(CowStr::Borrowed("other roster\n"), Complaint::OtherRoster))
+    undone(CowStr::Borrowed("other roster\n"), Complaint::OtherRoster)
 }
 
 /// Whether the line has a line feed.
@@ -230,26 +207,26 @@ impl Site {
         let here = self.here;
         match line {
             Line::Act { who, commands, .. } => {
-                let done = act(alloc, roster, here, &mut self.replica, &who, &commands)?;
-                Ok(done_answer(done))
+                let answer = act(alloc, roster, here, &mut self.replica, &who, &commands)?;
+                Ok(Answered::Text(answer))
             }
-            Line::Skip => Ok(told(CowStr::Borrowed(""))),
+            Line::Skip => Ok(Answered::Text(told(CowStr::Borrowed("")))),
             Line::List { full, jobs, .. } => {
                 let text = listing_text(alloc, roster, self.replica.board(), full, &jobs)?;
-                Ok(told(CowStr::Owned(text)))
+                Ok(Answered::Text(told(CowStr::Owned(text))))
             }
             Line::Misuse { fault, .. } => {
                 let text = CowStr::Owned(usage_line(alloc, fault)?);
-                Ok(done_answer(undone(text, Complaint::Misused(fault))))
+                Ok(Answered::Text(undone(text, Complaint::Misused(fault))))
             }
             Line::Ship { to, .. } => Ok(Answered::Packet {
                 text: ship(alloc, &self.replica, to)?,
             }),
             Line::Plan { moment, .. } => {
                 let plan = plan_lines(alloc, roster, self.replica.board(), here, moment)?;
-                Ok(plan_answer(plan))
+                Ok(Answered::Text(plan_answer(plan)))
             }
-            _ => Ok(unreadable()),
+            _ => Ok(Answered::Text(unreadable())),
         }
     }
 
@@ -261,7 +238,7 @@ impl Site {
     {
         match line {
             Some(line) => self.do_line(alloc, line),
-            None => Ok(unreadable()),
+            None => Ok(Answered::Text(unreadable())),
         }
     }
 
@@ -279,7 +256,7 @@ impl Site {
         match look {
             Some(look) => {
                 let seen = look_text(alloc, self.roster.get(), &self.replica, &look)?;
-                Ok(told(CowStr::Owned(seen)))
+                Ok(Answered::Text(told(CowStr::Owned(seen))))
             }
             None => {
                 let told = read_own_line(alloc, self.roster.get(), self.here, line)?;
@@ -296,8 +273,8 @@ impl Site {
     {
         match packet_text(line) {
             Some(text) => {
-                let done = take(alloc, self.roster.get(), self.here, &mut self.replica, text)?;
-                Ok(done_answer(done))
+                let answer = take(alloc, self.roster.get(), self.here, &mut self.replica, text)?;
+                Ok(Answered::Text(answer))
             }
             None => {
                 let look = look_of_line(alloc, self.roster.get(), self.here, line)?;
@@ -312,18 +289,19 @@ impl Site {
             (said_of (after_next self.old.roster (state_of self.old.replica) (next_roster self.old.roster told))) }
     {
         let Some(roster) = told else {
-            return other_roster();
+            return Answered::Text(other_roster());
         };
         if !begins(self.roster.get(), roster.get()) {
-            return other_roster();
+            return Answered::Text(other_roster());
         }
         let kept = !are_same_rosters(self.roster.get(), roster.get());
         self.roster = roster;
-        Answered::Text {
-            text: CowStr::Borrowed("done\n"),
+        Answered::Text(TextAnswer {
+            text: LineText::Other(CowStr::Borrowed("done\n")),
             kept,
             complaint: None,
-        }
+            begun: None,
+        })
     }
 
     /// Answers a line. Where memory is refused, the site holds what it held.

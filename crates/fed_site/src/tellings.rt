@@ -28,7 +28,7 @@ pub fn words_beside(
 {
     match answer.complaint() {
         Some(complaint) => Ok(Some(reason_text(alloc, site, line, &complaint)?)),
-        None if answer.is_kept() => warning_text(alloc, site, line),
+        None if answer.is_kept() => warning_text(alloc, site, answer.begun()),
         None => Ok(None),
     }
 }

@@ -35,7 +35,7 @@ pub record IsStepped (roster : List (List ℕ × ℕ)) (i : ℕ) (w : World) (s 
   pub text : done.text ≡ answer_line (text_of_outcome roster s.outcome)
 
 module _ (n : ℕ) (few : n ≤ 16) (roster : List (List ℕ × ℕ)) (i : ℕ) (small : i < n) (who : Who) where
-  does_stepped : (w : World) → Reached n w → (index : ℕ) (command : Command) (a : Answer) → answer (w.site i).set i who command ≡ a → IsStepped roster i w (does w i a) (does_at roster (state_at i (w.site i)) index a)
+  does_stepped : (w : World) → Reached n w → (index : ℕ) (command : Command) (a : Answer) → answer (w.site i).set i who command ≡ a → IsStepped roster i w (does w i a) (does_at roster (state_at i (w.site i)) who index command a)
   does_stepped w r index command (Refuses refusal) is = record { after = refl; others = λ j apart. refl; packets = refl; text = refl }
   does_stepped w r index command (Replies reply None) is = record { after = refl; others = λ j apart. refl; packets = refl; text = refl }
   does_stepped w r index command (Replies reply (Some new)) is =
@@ -52,7 +52,7 @@ module _ (n : ℕ) (few : n ≤ 16) (roster : List (List ℕ × ℕ)) (i : ℕ) 
   stepped : (w : World) → Reached n w → (index : ℕ) (command : Command) → IsStepped roster i w (step n w (Do i who command)) (after_command roster (state_at i (w.site i)) who index command)
   stepped w r index command =
       let a : Answer = answer (w.site i).set i who command in
-      subst (λ s. IsStepped roster i w s (does_at roster (state_at i (w.site i)) index a)) (sym (do_here n w i who command small)) (does_stepped w r index command a refl)
+      subst (λ s. IsStepped roster i w s (does_at roster (state_at i (w.site i)) who index command a)) (sym (do_here n w i who command small)) (does_stepped w r index command a refl)
 
   pub acted : (commands : List Command) (index : ℕ) (w : World) → Reached n w → All (IsRanged who) commands
       → IsActed roster i w (run_from n w (map (Do i who) commands)) (outcomes_from n w (map (Do i who) commands)) (after_commands roster (state_at i (w.site i)) who index commands)

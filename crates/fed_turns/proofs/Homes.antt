@@ -63,7 +63,7 @@ module _ (whole : List (List ℕ × ℕ)) where
         replies_may i lines answers (after_turn c t)
             (subst (λ (r : List (List ℕ × ℕ)). i < length r) knows (still_own roster line i small))
             (subst (λ (r : List (List ℕ × ℕ)). AreBeginnings whole r lines) knows parts.1)
-            (subst (λ (r : List (List ℕ × ℕ)). AreReplies r ((after_turn c t).site i) lines answers) knows (subst (λ (s : State). AreReplies next s lines answers) here replies.3))
+            (subst (λ (r : List (List ℕ × ℕ)). AreReplies r ((after_turn c t).site i) lines answers) knows (subst (λ (s : State). AreReplies next s lines answers) here replies.4))
             (subst (λ (r : List (List ℕ × ℕ)). AreCarried r (c.shipped ++ more) ((after_turn c t).site i) lines) knows (subst (λ (s : State). AreCarried next (c.shipped ++ more) s lines) here later)),
       )
 
@@ -78,7 +78,7 @@ module _ (i : ℕ) where
   turn_lines roster s [] [] replies = refl
   turn_lines roster s [] (answer ∷ answers) replies = refl
   turn_lines roster s (line ∷ lines) [] replies = absurd replies
-  turn_lines roster s (line ∷ lines) (answer ∷ answers) replies = ap (λ l. line ∷ l) (turn_lines (roster_after roster line) (site_says roster s line).after lines answers replies.3)
+  turn_lines roster s (line ∷ lines) (answer ∷ answers) replies = ap (λ l. line ∷ l) (turn_lines (roster_after roster line) (site_says roster s line).after lines answers replies.4)
 
   lines_of : (roster : List (List ℕ × ℕ)) (s : State) (lines : List (List ℕ)) (answers : List Answered) → AreReplies roster s lines answers → lines_all i (map answered (turns_at i lines answers)) ≡ lines
   lines_of roster s lines answers replies = lines_answered i (turns_at i lines answers) (turn_sites lines answers) ∙ turn_lines roster s lines answers replies

@@ -129,6 +129,7 @@ module _ (n : ℕ) (few : n ≤ 16) (w : World) (r : Reached n w) (i : ℕ)
       text = answer_line (text_of_outcome roster (outcome_of_packet_unless lacks here c));
       kept = is_none lacks;
       complaint = option_map Complaint.Gap lacks;
+      begun = None;
     }
 
     received : (lacks : Option ℕ) → missing p.need (version_of (w.site i).set) ≡ lacks → IsStepped roster i w (receives w i (takes_unless lacks (w.site i) p)) (receipt lacks)

@@ -5,8 +5,9 @@ ghost use Rattle.fed_model.specs.Letter.{is_submitted as is_job_submitted};
 
 use fed_lattice::{Causal, NoMemory};
 use fed_record::{
-    Account, Beginning, Changes, Ending, Fields, GrantStage, HoldKind, HoldKinds, JobParts, JobRecord,
-    JobValues, Letter, Limit, Moment, Nodes, Operation, Priority, Progress, Stages, Term,
+    Account, Beginning, Changes, Ending, Fields, GrantStage, HoldKind, HoldKinds, JobParts,
+    JobRecord, JobValues, Letter, Limit, Moment, Nodes, Operation, Priority, Progress, Stages,
+    Term,
 };
 use fed_stamp::{JobId, SiteId, SiteSet, Stamp, Version, Word};
 use std::alloc::Global;

@@ -1,5 +1,5 @@
 //! Commands and lines that can't be read.
-use crate::sites::{says, site_of};
+use crate::sites::{begun, says, site_of};
 use std::process::Abort;
 
 #[test]
@@ -53,6 +53,18 @@ fn commands_are_answered(rt: HostRuntime) {
             false
         )
     );
+}
+
+#[test]
+fn answers_have_what_was_begun(rt: HostRuntime) {
+    let mut argonne = site_of(&rt, 0);
+    assert!(rt; begun(&rt, &mut argonne, b"ann qsub").is_none());
+    assert!(rt; begun(&rt, &mut argonne, b"begin 1 10").is_none());
+    assert!(rt; begun(&rt, &mut argonne, b"grant 1 argonne").is_none());
+    let first = begun(&rt, &mut argonne, b"begin 1 10").expect(&rt, "a job");
+    assert!(rt; first.job.counter() == 1 && first.moment.get() == 10);
+    // it has begun
+    assert!(rt; begun(&rt, &mut argonne, b"begin 1 11").is_none());
 }
 
 #[test]

@@ -1,18 +1,38 @@
 //! Complaints and their words.
 use crate::sites::{complaint, site_of, taking};
 use crate::texts::{BEHIND_OTHERS, OF_A_MEMORY, OF_A_THIRD};
-use fed_record::Refusal;
-use fed_site::Complaint;
-use fed_stamp::SiteId;
+use fed_record::{Command, Refusal, Role, Who};
+use fed_site::{Complaint, RefusedCommand};
+use fed_stamp::{JobId, SiteId, Word};
 use fed_wire::{Part, Place, WireFault};
 use fed_words::UsageFault;
 use std::process::Abort;
+
+/// What ann, a user, is refused at this index of a line: to delete the first site's job of this counter.
+fn undeleted(
+    rt: &(impl Abort + AllocGlobal),
+    index: usize,
+    counter: u64,
+    refusal: Refusal,
+) -> RefusedCommand {
+    let site = SiteId::new(0).expect(rt, "a site");
+    RefusedCommand {
+        index,
+        who: Who {
+            user: Word::new("ann").expect(rt, "a name"),
+            role: Role::User,
+        },
+        command: Command::Delete {
+            job: JobId::new(counter, site).expect(rt, "an identifier"),
+        },
+        refusal,
+    }
+}
 
 #[test]
 fn complaints_tell_why(rt: HostRuntime) {
     let mut argonne = site_of(&rt, 0);
     let lemont = SiteId::new(1).expect(&rt, "a site");
-    let refused = |index: usize, refusal: Refusal| Some(Complaint::Refused { index, refusal });
     let unread = |fault: WireFault| Some(Complaint::Unread(fault));
     assert!(rt; complaint(&rt, &mut argonne, b"take") == Some(Complaint::Unreadable));
     assert!(rt;
@@ -20,13 +40,15 @@ fn complaints_tell_why(rt: HostRuntime) {
             == Some(Complaint::Misused(UsageFault::UnknownUtility))
     );
     assert!(rt;
-        complaint(&rt, &mut argonne, b"ann qalter -p 5 9") == refused(0, Refusal::UnknownJob)
+        complaint(&rt, &mut argonne, b"ann qdel 9")
+            == Some(Complaint::Refused(undeleted(&rt, 0, 9, Refusal::UnknownJob)))
     );
     assert!(rt; complaint(&rt, &mut argonne, b"ann qsub").is_none());
     assert!(rt; complaint(&rt, &mut argonne, b"bob qsub").is_none());
     // the first of two complaints, behind a command that is done
     assert!(rt;
-        complaint(&rt, &mut argonne, b"ann qdel 1 2 9") == refused(1, Refusal::NotPermitted)
+        complaint(&rt, &mut argonne, b"ann qdel 1 2 9")
+            == Some(Complaint::Refused(undeleted(&rt, 1, 2, Refusal::NotPermitted)))
     );
     assert!(rt; complaint(&rt, &mut argonne, b"take nothing") == unread(WireFault::NotJson));
     assert!(rt;
@@ -73,10 +95,7 @@ fn complaints_have_words(rt: HostRuntime) {
     };
     let told = [
         (
-            Complaint::Refused {
-                index: 0,
-                refusal: Refusal::Granted,
-            },
+            Complaint::Refused(undeleted(&rt, 0, 1, Refusal::Granted)),
             "refused 4: the job is granted",
         ),
         (

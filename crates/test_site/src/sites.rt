@@ -2,7 +2,7 @@
 ghost use Rattle.std.specs.Prelude.{◌≡◌};
 
 use fed_script::BoxedRoster;
-use fed_site::{Complaint, Site};
+use fed_site::{Begun, Complaint, Site};
 use fed_stamp::{Roster, SiteId};
 use std::process::Abort;
 
@@ -63,6 +63,16 @@ pub(crate) fn complaint(
 ) -> Option<Complaint> {
     let answered = site.answer(rt.alloc(), line).expect(rt, "memory");
     answered.complaint()
+}
+
+/// The job that a line begins.
+pub(crate) fn begun(
+    rt: &(impl Abort + AllocGlobal),
+    site: &mut Site,
+    line: &[u8],
+) -> Option<Begun> {
+    let answered = site.answer(rt.alloc(), line).expect(rt, "memory");
+    answered.begun()
 }
 
 /// `take` and the text of the packet for a site.
