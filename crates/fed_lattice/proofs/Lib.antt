@@ -3,6 +3,7 @@ pub mod EntryJoins
 pub mod EntryLoops
 pub mod EntryValues
 pub mod FilterLaws
+pub mod ResultLaws
 pub mod StampedLaws
 pub mod TableLoops
 pub mod TableValues
