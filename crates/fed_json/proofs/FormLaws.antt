@@ -7,11 +7,13 @@ use Rattle.std.proofs.lemmas.Slice.Eq.{bytes_eq-Decides}
 use Rattle.serde_json.specs.Data.{Data, null, boolean, number, string, array, object, Items, no_items, item}
 use Rattle.serde_json.specs.Find.{as_null}
 use Rattle.serde_json.specs.View.{items_of}
+use Rattle.fed_lattice.specs.Results.{◌>>=◌, mapped}
+use Rattle.fed_lattice.proofs.ResultLaws.{bind_ok, mapped_ok, when_ok, ok_is}
 use Rattle.fed_json.specs.declared.flaws.Flaw.TheVariants.{Shape}
-use Rattle.fed_json.specs.Reading.{Reading, ◌>>=◌, mapped, both, where_true}
+use Rattle.fed_json.specs.Reading.{Reading, both, where_true}
 use Rattle.fed_json.specs.Values.{list_value, list_of, elements_of, text_of, truth_of, is_word, pair_from, pair_of, pair_value, all_of, array_of, row_of, or_null, null_or}
 use Rattle.fed_json.proofs.Forms.{IsForm}
-use Rattle.fed_json.proofs.Steps.{when_ok, bind_ok, mapped_ok, both_ok, where_true_ok, ok_is}
+use Rattle.fed_json.proofs.Steps.{both_ok, where_true_ok}
 
 -- ---- arrays
 

@@ -5,8 +5,9 @@ use Rattle.std.proofs.lemmas.List.{drop_all, append-nil}
 use Rattle.serde_json.specs.Data.{Data}
 use Rattle.serde_json.specs.View.{view}
 use Rattle.serde_json.specs.declared.value.Value.{Value}
+use Rattle.fed_lattice.specs.Results.{mapped}
 use Rattle.fed_json.specs.declared.flaws.Flaw.TheVariants.{Shape, Range}
-use Rattle.fed_json.specs.Reading.{Reading, mapped, both}
+use Rattle.fed_json.specs.Reading.{Reading, both}
 use Rattle.fed_json.specs.Values.{all_of}
 
 -- what a list is read as, by whether those read so far are in range, those themselves, and what the rest is read as

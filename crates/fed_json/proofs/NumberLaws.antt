@@ -3,11 +3,11 @@ use Rattle.std.proofs.Common.{◌≡◌, ℕ, ◌≤◌, true, leb, Ok, refl, ar
 use Rattle.std.specs.Prelude.{ℤ, pos, negsuc, ◌&&◌}
 use Rattle.std.proofs.lemmas.Bool.{and_parts}
 use Rattle.serde_json.specs.Data.{Data, null, boolean, number, string, array, object, unsigned, negative, float}
+use Rattle.fed_lattice.proofs.ResultLaws.{when_ok}
 use Rattle.fed_json.specs.declared.flaws.Flaw.TheVariants.{Range}
 use Rattle.fed_json.specs.Numbers.{natural_value, integer_value, natural_in, integer_of}
 use Rattle.fed_model.specs.Ranges.{IsFrom}
 use Rattle.fed_json.proofs.Forms.{IsForm}
-use Rattle.fed_json.proofs.Steps.{when_ok}
 
 le_from_test : (n m : ℕ) → leb n m ≡ true → n ≤ m
 le_from_test n m e = grind arith

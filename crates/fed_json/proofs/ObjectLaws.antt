@@ -12,10 +12,12 @@ use Rattle.std.proofs.lemmas.Bool.{and_parts}
 use Rattle.std.proofs.lemmas.Slice.Eq.{bytes_eq-Decides, slice_eq-Decides}
 use Rattle.serde_json.specs.Data.{Data, null, boolean, number, string, array, object, Members, no_members, member}
 use Rattle.serde_json.specs.Find.{get, get_member}
-use Rattle.fed_json.specs.Reading.{Reading, mapped, both, or_shape}
+use Rattle.fed_lattice.specs.Results.{mapped}
+use Rattle.fed_lattice.proofs.ResultLaws.{bind_ok, mapped_ok}
+use Rattle.fed_json.specs.Reading.{Reading, both, or_shape}
 use Rattle.fed_json.specs.Objects.{Named, members_from, object_value, names_of, has_names, member_of}
 use Rattle.fed_json.proofs.Forms.{HasMembers, IsForm, IsPartForm}
-use Rattle.fed_json.proofs.Steps.{bind_ok, mapped_ok, both_ok, or_shape_ok}
+use Rattle.fed_json.proofs.Steps.{both_ok, or_shape_ok}
 
 -- ---- parts of objects
 

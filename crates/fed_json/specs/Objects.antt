@@ -4,7 +4,8 @@ use Rattle.std.specs.Cmp.Lexicographic.{pointwise}
 use Rattle.std.specs.Str.{bytes_eq}
 use Rattle.serde_json.specs.Data.{Data, object, Members, no_members, member}
 use Rattle.serde_json.specs.Find.{get}
-use Rattle.fed_json.specs.Reading.{Reading, ◌>>=◌, or_shape}
+use Rattle.fed_lattice.specs.Results.{◌>>=◌}
+use Rattle.fed_json.specs.Reading.{Reading, or_shape}
 
 -- names with their values
 abbrev pub Named : Type 0

@@ -6,15 +6,6 @@ use Rattle.fed_json.specs.declared.flaws.Flaw.TheVariants.{Shape, Range}
 abbrev pub Reading : Type 0 → Type 0
 Reading A = Result A Flaw
 
-infixl 10 ◌>>=◌
-abbrev pub ◌>>=◌ : {A B : Type 0} → Reading A → (A → Reading B) → Reading B
-(Ok x) >>= f = f x
-(Err e) >>= f = Err e
-
-abbrev pub mapped : {A B : Type 0} → (A → B) → Reading A → Reading B
-mapped f (Ok x) = Ok (f x)
-mapped f (Err e) = Err e
-
 -- two pieces beside each other: a fault of shape of either comes before one of range
 abbrev pub both : {A B : Type 0} → Reading A → Reading B → Reading (A × B)
 both (Ok x) (Ok y) = Ok (x, y)

@@ -4,8 +4,9 @@ use Rattle.std.specs.Str.{bytes_eq}
 use Rattle.serde_json.specs.Data.{Data, null, string, array, Items, no_items, item}
 use Rattle.serde_json.specs.Find.{as_null, as_bool, as_str}
 use Rattle.serde_json.specs.View.{items_of}
+use Rattle.fed_lattice.specs.Results.{◌>>=◌, mapped}
 use Rattle.fed_json.specs.declared.flaws.Flaw.TheVariants.{Shape}
-use Rattle.fed_json.specs.Reading.{Reading, ◌>>=◌, mapped, both, or_shape}
+use Rattle.fed_json.specs.Reading.{Reading, both, or_shape}
 
 abbrev pub list_value : List Data → Data
 list_value ds = array (items_of ds)

@@ -1,7 +1,8 @@
 //! Arrays, texts and truth values.
 ghost use Rattle.std.specs.Prelude.{◌≡◌, map};
 ghost use Rattle.serde_json.specs.View.{view};
-ghost use Rattle.fed_json.specs.Reading.{mapped, or_shape};
+ghost use Rattle.fed_lattice.specs.Results.{mapped};
+ghost use Rattle.fed_json.specs.Reading.{or_shape};
 ghost use Rattle.fed_json.specs.Values.{elements_of, is_word as is_the_word, text_of, truth_of};
 
 use crate::flaws::Flaw;

@@ -4,7 +4,8 @@ ghost use Rattle.std.specs.Bool.{OnTrue};
 ghost use Rattle.std.specs.List.{zip};
 ghost use Rattle.serde_json.specs.View.{view};
 ghost use Rattle.serde_json.specs.Find.{get};
-ghost use Rattle.fed_json.specs.Reading.{mapped, or_shape};
+ghost use Rattle.fed_lattice.specs.Results.{mapped};
+ghost use Rattle.fed_json.specs.Reading.{or_shape};
 ghost use Rattle.fed_json.specs.Objects.{has_names as has_just_names, object_value};
 
 use crate::flaws::Flaw;

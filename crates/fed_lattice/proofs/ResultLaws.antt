@@ -19,7 +19,8 @@ pub ok_is : {A E : Type 0} (x y : A) → ◌≡◌ {A = Result A E} (Ok x) (Ok y
 ok_is x y e = cc
 
 -- what holds of each that is said holds of all
-pub each_all : {A B E : Type 0} (says : A → Result B E) (P : B → Type 0) → ((x : A) (y : B) → says x ≡ Ok y → P y) → (xs : List A) (ys : List B) → each says xs ≡ Ok ys → All P ys
+pub each_all : {A B E : Type 0} (says : A → Result B E) (P : B → Type 0) → ((x : A) (y : B) → says x ≡ Ok y → P y)
+    → (xs : List A) (ys : List B) → each says xs ≡ Ok ys → All P ys
 each_all says P h [] ys e = let nothing : [] ≡ ys = cc in rw (← nothing) (All-nil P)
 each_all says P h (x ∷ xs) ys e =
     let first = bind_ok (says x) _ ys e in
