@@ -5,7 +5,8 @@ use Rattle.std.specs.List.{All, after_first, before_first, join_with_byte, list_
 use Rattle.std.proofs.lemmas.Bool.Decides.{nat_tests}
 use Rattle.std.proofs.lemmas.List.Elements.{All-cons, All-head, All-tail}
 use Rattle.std.proofs.lemmas.Bool.{eq-eqb}
-use Rattle.fed_words.specs.Fault.{OrFault, each}
+use Rattle.fed_lattice.specs.Results.{each}
+use Rattle.fed_words.specs.Fault.{OrFault}
 
 -- no byte passes
 abbrev pub Free : (ℕ → Bool) → List ℕ → Type 0

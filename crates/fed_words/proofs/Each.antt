@@ -2,24 +2,25 @@
 use Rattle.std.proofs.Common.{◌≡◌, ℕ, suc, inl, inr, ◌⊎◌, ◌+◌, ◌<◌, ◌≤◌, List, [], ◌∷◌, ◌++◌, length, get_or, drop, Option, Some, None, Ok, Err, refl, ap, sym, ◌∙◌, add-one, append-nil, append_assoc, drop-cons}
 use Rattle.std.specs.Option.{option_or}
 use Rattle.std.specs.Result.{IsErrAnd}
+use Rattle.fed_lattice.specs.Results.{◌>>=◌, mapped, each}
 use Rattle.fed_words.specs.declared.faults.UsageFault.TheVariants.{NoMemory}
 use Rattle.std.proofs.lemmas.List.{at_drop_all}
 use Rattle.fed_words.specs.declared.faults.UsageFault.{UsageFault}
-use Rattle.fed_words.specs.Fault.{OrFault, ◌>>=◌, Gives, answer_map, each}
+use Rattle.fed_words.specs.Fault.{OrFault, Gives}
 use Rattle.fed_words.specs.Last.{last_of}
 
 -- what was found, and then what each of the rest says
 abbrev pub each_after : {A B : Type 0} → (A → OrFault B) → List B → List A → OrFault (List B)
-each_after says done rest = answer_map (λ ys. done ++ ys) (each says rest)
+each_after says done rest = mapped (λ ys. done ++ ys) (each says rest)
 
-answer_map-itself : {A : Type 0} (a : OrFault A) → answer_map (λ x. x) a ≡ a
-answer_map-itself (Ok x) = refl
-answer_map-itself (Err fault) = refl
+mapped-itself : {A : Type 0} (a : OrFault A) → mapped (λ x. x) a ≡ a
+mapped-itself (Ok x) = refl
+mapped-itself (Err fault) = refl
 
 pub each-start : {A B : Type 0} (says : A → OrFault B) (all : List A) → each says all ≡ each_after says [] all
-each-start says all = sym (answer_map-itself (each says all))
+each-start says all = sym (mapped-itself (each says all))
 
-one_more : {B : Type 0} (done : List B) (y : B) (rest : OrFault (List B)) → answer_map (λ ys. done ++ ys) (rest >>= λ ys. Ok (y ∷ ys)) ≡ answer_map (λ ys. (done ++ y ∷ []) ++ ys) rest
+one_more : {B : Type 0} (done : List B) (y : B) (rest : OrFault (List B)) → mapped (λ ys. done ++ ys) (rest >>= λ ys. Ok (y ∷ ys)) ≡ mapped (λ ys. (done ++ y ∷ []) ++ ys) rest
 one_more done y (Ok ys) = ap Ok (sym (append_assoc done (y ∷ []) ys))
 one_more done y (Err fault) = refl
 

@@ -10,6 +10,8 @@ use Rattle.std.proofs.lemmas.List.Elements.{All-append, All-cons, All-from_recur
 use Rattle.std.proofs.lemmas.List.Splits.{length-slice_split}
 use Rattle.fed_stamp.specs.declared.rosters.TheConstants.{MAX_NODES}
 use Rattle.fed_stamp.specs.declared.stamps.TheConstants.{MAX_COUNTER}
+use Rattle.fed_lattice.specs.Results.{mapped, each}
+use Rattle.fed_lattice.proofs.ResultLaws.{bind_ok, mapped_ok, when_ok, each_all}
 use Rattle.fed_model.specs.declared.limits.TheConstants.{MAX_LIMIT}
 use Rattle.fed_stamp.specs.Roster.{is_named, is_site_name}
 use Rattle.fed_stamp.specs.SiteSet.{set_of}
@@ -27,7 +29,7 @@ use Rattle.fed_words.specs.declared.settings.Settings.{Settings}
 use Rattle.fed_words.specs.declared.utilities.Choice.{Choice}
 use Rattle.fed_words.specs.declared.utilities.Utility.{Utility}
 use Rattle.fed_words.specs.declared.utilities.Utility.TheVariants.{Qsub, Qalter, Qhold, Qrls, Qdel, Qstat}
-use Rattle.fed_words.specs.Fault.{OrFault, ◌>>=◌, answer_map, each}
+use Rattle.fed_words.specs.Fault.{OrFault}
 use Rattle.fed_words.specs.Identifier.{is_dot, job_in, place_in, sequence_in}
 use Rattle.fed_words.specs.Kinds.{has_letter, is_kind_letter, kinds_in}
 use Rattle.fed_words.specs.Number.{is_numeral, is_within, number_in}
@@ -44,21 +46,9 @@ use Rattle.fed_words.proofs.Each.{each-length}
 use Rattle.fed_words.proofs.Given.{option_map_some, when_some}
 use Rattle.fed_words.proofs.SiteNames.{found_in_range}
 
-bind_ok : {A B : Type 0} (a : OrFault A) (f : A → OrFault B) (y : B) → (a >>= f) ≡ Ok y → (x : A) × (a ≡ Ok x) × (f x ≡ Ok y)
-bind_ok (Ok x) f y e = (x, refl, e)
-bind_ok (Err fault) f y e = absurd cc
-
-map_ok : {A B : Type 0} (f : A → B) (a : OrFault A) (y : B) → answer_map f a ≡ Ok y → (x : A) × (a ≡ Ok x) × (f x ≡ y)
-map_ok f (Ok x) y e = (x, refl, cc)
-map_ok f (Err fault) y e = absurd cc
-
 ok_or_ok : {A : Type 0} (o : Option A) (fault : UsageFault) (y : A) → ok_or o fault ≡ Ok y → o ≡ Some y
 ok_or_ok (Some x) fault y e = let same : x ≡ y = cc in ap Some same
 ok_or_ok None fault y e = absurd cc
-
-when_ok : {A : Type 0} (test : Bool) (a : OrFault A) (fault : UsageFault) (y : A) → (if test then a else Err fault) ≡ Ok y → (test ≡ true) × (a ≡ Ok y)
-when_ok true a fault y e = (refl, e)
-when_ok false a fault y e = absurd cc
 
 -- each value found is of a argument
 pub each_found : {W A B : Type 0} (says : A → OrFault B) (means : W → B) (Q : W → Type 0) → ((x : A) (y : B) → says x ≡ Ok y → (w : W) × Q w × (means w ≡ y)) → (xs : List A) (ys : List B) → each says xs ≡ Ok ys → (ws : List W) × All Q ws × (map means ws ≡ ys)
@@ -87,13 +77,13 @@ answer n = Ok n
 module _ (roster : List (List ℕ × ℕ)) where
   site_found : (malformed : UsageFault) (text : List ℕ) (site : ℕ) → site_in malformed roster text ≡ Ok site → site < length roster
   site_found malformed text site e =
-      let formed = when_ok (is_site_name text) (ok_or (find (is_named roster text) (range_with_len 0 (length roster))) UnknownSite) malformed site e in
+      let formed = when_ok (is_site_name text) malformed (ok_or (find (is_named roster text) (range_with_len 0 (length roster))) UnknownSite) site e in
       let found = found_in_range (is_named roster text) 0 (length roster) site (ok_or_ok (find (is_named roster text) (range_with_len 0 (length roster))) UnknownSite site formed.1) in
       let below = found.1 in omega arith
 
   sites_found : (text : List ℕ) (set : List Bool) → sites_in roster text ≡ Ok set → (argument : ResourceArgument) × IsResourceInRange roster argument × (resource_of argument ≡ Resource.Sites set)
   sites_found text set e =
-      let found = map_ok set_of (each (site_in BadValue roster) (slice_split is_plus text)) set e in
+      let found = mapped_ok (each (site_in BadValue roster) (slice_split is_plus text)) set_of set e in
       let ids = each_found (site_in BadValue roster) (λ site. site) (λ site. site < length roster) (λ part site f. (site, site_found BadValue part site f, refl)) (slice_split is_plus text) found.0 found.1 in
       let same : ids.0 ≡ found.0 = sym (map-itself ids.0) ∙ ids.2 in
       let count = each-length (site_in BadValue roster) (slice_split is_plus text) found.0 found.1 in
@@ -109,8 +99,8 @@ module _ (roster : List (List ℕ × ℕ)) where
           let read = option_map_some Resource.Limit (number_in 1 MAX_LIMIT value) resource (ok_or_ok (option_map Resource.Limit (number_in 1 MAX_LIMIT value)) BadValue resource (rw (no_nodes, is_limit) at e)) in
           (walltime read.0, number_found 1 MAX_LIMIT read.0 value read.1, read.2)
       | inr no_limit ↦
-          let read = when_ok (bytes_eq front (codes "sites")) (answer_map Resource.Sites (sites_in roster value)) BadValue resource (rw (no_nodes, no_limit) at e) in
-          let set = map_ok Resource.Sites (sites_in roster value) resource read.1 in
+          let read = when_ok (bytes_eq front (codes "sites")) BadValue (mapped Resource.Sites (sites_in roster value)) resource (rw (no_nodes, no_limit) at e) in
+          let set = mapped_ok (sites_in roster value) Resource.Sites resource read.1 in
           let argument = sites_found value set.0 set.1 in
           (argument.0, argument.1, argument.2 ∙ set.2)
     ]
@@ -118,12 +108,12 @@ module _ (roster : List (List ℕ × ℕ)) where
 
   resource_found : (pair : List ℕ) (resource : Resource) → resource_in roster pair ≡ Ok resource → (argument : ResourceArgument) × IsResourceInRange roster argument × (resource_of argument ≡ resource)
   resource_found pair resource e =
-      let read = when_ok (is_some (position is_equals pair)) (value_in roster (before_first is_equals pair) (after_first is_equals pair)) BadValue resource e in
+      let read = when_ok (is_some (position is_equals pair)) BadValue (value_in roster (before_first is_equals pair) (after_first is_equals pair)) resource e in
       value_found (before_first is_equals pair) (after_first is_equals pair) resource read.1
 
   resources_found : (text : List ℕ) (given : Resources) → resources_in roster text ≡ Ok given → (arguments : List ResourceArgument) × (0 < length arguments) × All (IsResourceInRange roster) arguments × (last_resources (map resource_of arguments) ≡ given)
   resources_found text given e =
-      let found = map_ok last_resources (each (resource_in roster) (slice_split is_comma text)) given e in
+      let found = mapped_ok (each (resource_in roster) (slice_split is_comma text)) last_resources given e in
       let arguments = each_found (resource_in roster) resource_of (IsResourceInRange roster) resource_found (slice_split is_comma text) found.0 found.1 in
       let count = each-length (resource_in roster) (slice_split is_comma text) found.0 found.1 in
       let same = length-mapped arguments.0 in
@@ -150,7 +140,7 @@ module _ (roster : List (List ℕ × ℕ)) where
       let sequence = bind_ok (sequence_in (before_first is_dot word)) _ job e in
       let place = bind_ok (place_in roster here word) _ job sequence.2 in
       let parts : record { counter = sequence.0; site = place.0 } ≡ job = cc (place.2) in
-      let read = when_ok (nat_le (length (before_first is_dot word)) MAX_SEQUENCE_DIGITS) (ok_or (number_in 1 MAX_COUNTER (before_first is_dot word)) BadIdentifier) BadIdentifier sequence.0 sequence.1 in
+      let read = when_ok (nat_le (length (before_first is_dot word)) MAX_SEQUENCE_DIGITS) BadIdentifier (ok_or (number_in 1 MAX_COUNTER (before_first is_dot word)) BadIdentifier) sequence.0 sequence.1 in
       let counted = number_found 1 MAX_COUNTER sequence.0 (before_first is_dot word) (ok_or_ok (number_in 1 MAX_COUNTER (before_first is_dot word)) BadIdentifier sequence.0 read.1) in
       let placed = place_found here inside word place.0 place.1 in
       of_parts sequence.0 place.0 job parts counted placed
@@ -176,17 +166,17 @@ module _ (roster : List (List ℕ × ℕ)) where
       )
 
   setting_found : (option : Choice) (text : List ℕ) (setting : Setting) → setting_in roster option text ≡ Ok setting → (argument : OptionArgument) × IsInRange roster argument × (setting_of argument ≡ setting) × ((item_of roster argument).0 ≡ option)
-  setting_found Choice.Account text setting e = let read = when_ok (is_name text) (Ok (Setting.Account (Some text))) BadValue setting e in let same : Setting.Account (Some text) ≡ setting = cc (read.1) in (account text, read.0, same, refl)
+  setting_found Choice.Account text setting e = let read = when_ok (is_name text) BadValue (Ok (Setting.Account (Some text))) setting e in let same : Setting.Account (Some text) ≡ setting = cc (read.1) in (account text, read.0, same, refl)
   setting_found Choice.Held text setting e = let same : Setting.Held ≡ setting = cc in (held, tt, same, refl)
   setting_found Choice.Kinds text setting e =
       let read = option_map_some Setting.Kinds (kinds_in text) setting (ok_or_ok (option_map Setting.Kinds (kinds_in text)) BadValue setting e) in
       let argument = kinds_found text read.0 read.1 in
       (argument.0, argument.1, argument.2 ∙ read.2, argument.3)
   setting_found Choice.Resources text setting e =
-      let read = map_ok Setting.Resources (resources_in roster text) setting e in
+      let read = mapped_ok (resources_in roster text) Setting.Resources setting e in
       let arguments = resources_found text read.0 read.1 in
       (resources arguments.0, (arguments.1, arguments.2), ap Setting.Resources arguments.3 ∙ read.2, refl)
-  setting_found Choice.Name text setting e = let read = when_ok (is_name text) (Ok (Setting.Name text)) BadValue setting e in let same : Setting.Name text ≡ setting = cc (read.1) in (name text, read.0, same, refl)
+  setting_found Choice.Name text setting e = let read = when_ok (is_name text) BadValue (Ok (Setting.Name text)) setting e in let same : Setting.Name text ≡ setting = cc (read.1) in (name text, read.0, same, refl)
   setting_found Choice.Priority text setting e =
       let read = option_map_some Setting.Priority (priority_in text) setting (ok_or_ok (option_map Setting.Priority (priority_in text)) BadValue setting e) in
       (priority read.0, priority_found read.0 text read.1, read.2, refl)
@@ -263,18 +253,10 @@ each_found_of says means P Q h (x ∷ xs) ys all e =
     let whole : first.0 ∷ others.0 ≡ ys = cc (others.2) in
     (argument.0 ∷ arguments.0, All-cons Q argument.0 arguments.0 argument.1 arguments.1, rw (argument.2, arguments.2) whole)
 
-each_all : {A B : Type 0} (says : A → OrFault B) (P : B → Type 0) → ((x : A) (y : B) → says x ≡ Ok y → P y) → (xs : List A) (ys : List B) → each says xs ≡ Ok ys → All P ys
-each_all says P h [] ys e = let nothing : [] ≡ ys = cc in rw (← nothing) (All-nil P)
-each_all says P h (x ∷ xs) ys e =
-    let first = bind_ok (says x) _ ys e in
-    let others = bind_ok (each says xs) _ ys first.2 in
-    let whole : first.0 ∷ others.0 ≡ ys = cc (others.2) in
-    rw (← whole) (All-cons P first.0 others.0 (h x first.0 first.1) (each_all says P h xs others.0 others.1))
-
 module _ (roster : List (List ℕ × ℕ)) (here : ℕ) (inside : here < length roster) where
   named_found : (operands : List (List ℕ)) (jobs : List StampValue) → named_jobs roster here operands ≡ Ok jobs → (found : List StampValue) × All (IsJob roster) found × (length found ≡ length operands) × (once found ≡ jobs)
   named_found operands jobs e =
-      let found = map_ok once (each (job_in roster here) operands) jobs e in
+      let found = mapped_ok (each (job_in roster here) operands) once jobs e in
       (found.0, each_all (job_in roster here) (IsJob roster) (job_found roster here inside) operands found.0 found.1, each-length (job_in roster here) operands found.0 found.1, found.2)
 
   jobs_found : (utility : Utility) (settings : Settings) (operands : List (List ℕ)) (jobs : List StampValue) → jobs_in roster here utility operands ≡ Ok jobs → (found : List StampValue) × All (IsJob roster) found × HasJobs utility found × (request_of roster utility settings jobs ≡ request_of roster utility settings (once found))
@@ -302,7 +284,7 @@ module _ (roster : List (List ℕ × ℕ)) (here : ℕ) (inside : here < length 
       let settings = bind_ok (settings_in roster (spelling utility.0 None words).items) _ request utility.2 in
       let operands = bind_ok (spelling utility.0 None words).rest _ request settings.2 in
       let jobs = bind_ok (jobs_in roster here utility.0 operands.0) _ request operands.2 in
-      let given = map_ok last_settings (each (λ item. setting_in roster item.0 item.1) (spelling utility.0 None words).items) settings.0 settings.1 in
+      let given = mapped_ok (each (λ item. setting_in roster item.0 item.1) (spelling utility.0 None words).items) last_settings settings.0 settings.1 in
       let arguments = each_found_of (λ item. setting_in roster item.0 item.1) setting_of (KnownItem utility.0) (λ argument. IsOption roster utility.0 argument × IsInRange roster argument) (argument_found utility.0) (spelling utility.0 None words).items given.0 (spelling_known utility.0 None words (λ option f. absurd cc)) given.1 in
       let found = jobs_found utility.0 settings.0 operands.0 jobs.0 jobs.1 in
       let whole : request_of roster utility.0 settings.0 jobs.0 ≡ request = cc (jobs.2) in

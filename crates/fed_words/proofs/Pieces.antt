@@ -10,7 +10,8 @@ use Rattle.std.proofs.lemmas.Iterator.{YieldsList}
 use Rattle.std.proofs.lemmas.Iterator.Splits.{YieldsList-from_str_split}
 use Rattle.std.proofs.lemmas.List.Splits.{length-slice_split}
 use Rattle.fed_stamp.specs.SiteSet.{set_of}
-use Rattle.fed_words.specs.Fault.{OrFault, each}
+use Rattle.fed_lattice.specs.Results.{each}
+use Rattle.fed_words.specs.Fault.{OrFault}
 use Rattle.fed_words.proofs.Each.{each-length}
 
 pub pieces : {s t : _} (c : ℕ) (text : List ℕ) → c < 128 → t ≡ s → split_text s ≡ text → split_has_more s ≡ true → split_pattern s ≡ c → YieldsList (split_steps FindsChar (λ a b. b ≡ a)) (λ x. x.now) t (slice_split (λ b. eqb b c) text)

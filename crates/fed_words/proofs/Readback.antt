@@ -9,6 +9,7 @@ use Rattle.std.proofs.lemmas.Bool.Decides.{nat_tests}
 use Rattle.std.proofs.lemmas.Fmt.{length-decimal-le}
 use Rattle.fed_stamp.specs.declared.rosters.TheConstants.{MAX_NODES}
 use Rattle.fed_stamp.specs.declared.stamps.TheConstants.{MAX_COUNTER}
+use Rattle.fed_lattice.specs.Results.{mapped, each}
 use Rattle.fed_model.specs.declared.limits.TheConstants.{MAX_LIMIT}
 use Rattle.fed_stamp.specs.Roster.{IsRoster, is_named, is_site_name, name_at}
 use Rattle.fed_stamp.specs.SiteSet.{set_of}
@@ -16,7 +17,6 @@ use Rattle.fed_stamp.specs.Stamp.{StampValue}
 use Rattle.fed_words.specs.declared.faults.UsageFault.{UsageFault}
 use Rattle.fed_words.specs.declared.faults.UsageFault.TheVariants.{BadIdentifier, BadValue}
 use Rattle.fed_words.specs.declared.identifiers.TheConstants.{MAX_SEQUENCE_DIGITS}
-use Rattle.fed_words.specs.Fault.{answer_map, each}
 use Rattle.fed_words.specs.Identifier.{is_dot, job_in, sequence_in}
 use Rattle.fed_words.specs.Number.{is_within}
 use Rattle.fed_words.specs.Resource.{is_equals, last_resources, resource_in, resources_in, sites_in, value_in}
@@ -93,8 +93,8 @@ module _ (roster : List (List ℕ × ℕ)) (lawful : IsRoster roster) where
   names_read ids some all =
       let free = all-map (Free (λ b. b == 43)) (name_at roster) (λ site. site < length roster) (λ site within. free-site_name (λ b. b == 43) (name_at roster site) no_plus_sign (name_formed site within)) ids all in
       let parts = split-join 43 (map (name_at roster) ids) (some_names ids some) free in
-      ap (λ names. answer_map set_of (each (site_in BadValue roster) names)) parts
-      ∙ ap (answer_map set_of) (each-said (site_in BadValue roster) (name_at roster) (λ site. site) (λ site. site < length roster) (site_in-name BadValue) ids all)
+      ap (λ names. mapped set_of (each (site_in BadValue roster) names)) parts
+      ∙ ap (mapped set_of) (each-said (site_in BadValue roster) (name_at roster) (λ site. site) (λ site. site < length roster) (site_in-name BadValue) ids all)
       ∙ ap (λ found. Ok (set_of found)) (map-itself ids)
 
   pub resource_in-text : (argument : ResourceArgument) → IsResourceInRange roster argument → resource_in roster (resource_text roster argument) ≡ Ok (resource_of argument)
@@ -118,8 +118,8 @@ module _ (roster : List (List ℕ × ℕ)) (lawful : IsRoster roster) where
   pub resources_in-texts : (arguments : List ResourceArgument) → 0 < length arguments → All (IsResourceInRange roster) arguments → resources_in roster (join_with_byte 44 (map (resource_text roster) arguments)) ≡ Ok (last_resources (map resource_of arguments))
   resources_in-texts arguments some all =
       let parts = split-join 44 (map (resource_text roster) arguments) (some_texts arguments some) (all-map (Free (λ b. b == 44)) (resource_text roster) (IsResourceInRange roster) text_free arguments all) in
-      ap (λ texts. answer_map last_resources (each (resource_in roster) texts)) parts
-      ∙ ap (answer_map last_resources) (each-said (resource_in roster) (resource_text roster) resource_of (IsResourceInRange roster) resource_in-text arguments all)
+      ap (λ texts. mapped last_resources (each (resource_in roster) texts)) parts
+      ∙ ap (mapped last_resources) (each-said (resource_in roster) (resource_text roster) resource_of (IsResourceInRange roster) resource_in-text arguments all)
 
   setting_read : (argument : OptionArgument) → IsInRange roster argument → setting_in roster (item_of roster argument).0 (item_of roster argument).1 ≡ Ok (setting_of argument)
   setting_read (account text) h = rw h refl
@@ -151,11 +151,11 @@ module _ (roster : List (List ℕ × ℕ)) (lawful : IsRoster roster) where
       (all-map (IsItem utility) (item_of roster) (IsOption roster utility) (λ argument known. record { choice = known; none = takes argument }) arguments options)
 
   settings_read : (arguments : List OptionArgument) → All (IsInRange roster) arguments → settings_in roster (map (item_of roster) arguments) ≡ Ok (last_settings (map setting_of arguments))
-  settings_read arguments in_range = ap (answer_map last_settings) (each-said (λ item. setting_in roster item.0 item.1) (item_of roster) setting_of (IsInRange roster) setting_read arguments in_range)
+  settings_read arguments in_range = ap (mapped last_settings) (each-said (λ item. setting_in roster item.0 item.1) (item_of roster) setting_of (IsInRange roster) setting_read arguments in_range)
 
   jobs_named : (here : ℕ) (jobs : List StampValue) → All (IsJob roster) jobs → named_jobs roster here (map (identifier_text roster) jobs) ≡ Ok (once jobs)
   jobs_named here jobs known =
-      ap (answer_map once) (each-said (job_in roster here) (identifier_text roster) (λ job. job) (IsJob roster) (job_in-identifier here) jobs known)
+      ap (mapped once) (each-said (job_in roster here) (identifier_text roster) (λ job. job) (IsJob roster) (job_in-identifier here) jobs known)
       ∙ ap (λ found. Ok (once found)) (map-itself jobs)
 
   named : (utility : Utility) → utility_named (name_of utility) ≡ Some utility
@@ -167,17 +167,17 @@ module _ (roster : List (List ℕ × ℕ)) (lawful : IsRoster roster) where
   named Qstat = refl
 
   -- the jobs of a request, those of `qsub` being none
-  answered : (here : ℕ) (utility : Utility) (settings : Settings) (jobs : List StampValue) → HasJobs utility jobs → All (IsJob roster) jobs → answer_map (request_of roster utility settings) (jobs_in roster here utility (map (identifier_text roster) jobs)) ≡ Ok (request_of roster utility settings (once jobs))
+  answered : (here : ℕ) (utility : Utility) (settings : Settings) (jobs : List StampValue) → HasJobs utility jobs → All (IsJob roster) jobs → mapped (request_of roster utility settings) (jobs_in roster here utility (map (identifier_text roster) jobs)) ≡ Ok (request_of roster utility settings (once jobs))
   answered here Qsub settings jobs some known = refl
-  answered here Qstat settings jobs some known = ap (answer_map (request_of roster Qstat settings)) (jobs_named here jobs known)
+  answered here Qstat settings jobs some known = ap (mapped (request_of roster Qstat settings)) (jobs_named here jobs known)
   answered here Qalter settings [] some known = absurd (omega arith)
-  answered here Qalter settings (job ∷ jobs) some known = ap (answer_map (request_of roster Qalter settings)) (jobs_named here (job ∷ jobs) known)
+  answered here Qalter settings (job ∷ jobs) some known = ap (mapped (request_of roster Qalter settings)) (jobs_named here (job ∷ jobs) known)
   answered here Qhold settings [] some known = absurd (omega arith)
-  answered here Qhold settings (job ∷ jobs) some known = ap (answer_map (request_of roster Qhold settings)) (jobs_named here (job ∷ jobs) known)
+  answered here Qhold settings (job ∷ jobs) some known = ap (mapped (request_of roster Qhold settings)) (jobs_named here (job ∷ jobs) known)
   answered here Qrls settings [] some known = absurd (omega arith)
-  answered here Qrls settings (job ∷ jobs) some known = ap (answer_map (request_of roster Qrls settings)) (jobs_named here (job ∷ jobs) known)
+  answered here Qrls settings (job ∷ jobs) some known = ap (mapped (request_of roster Qrls settings)) (jobs_named here (job ∷ jobs) known)
   answered here Qdel settings [] some known = absurd (omega arith)
-  answered here Qdel settings (job ∷ jobs) some known = ap (answer_map (request_of roster Qdel settings)) (jobs_named here (job ∷ jobs) known)
+  answered here Qdel settings (job ∷ jobs) some known = ap (mapped (request_of roster Qdel settings)) (jobs_named here (job ∷ jobs) known)
 
   pub asking_is_read : (here : ℕ) (utility : Utility) (arguments : List OptionArgument) (jobs : List StampValue) → IsAsked roster utility arguments jobs → request_in roster here (asking roster utility arguments jobs) ≡ Ok (request_of roster utility (last_settings (map setting_of arguments)) (once jobs))
   asking_is_read here utility arguments jobs asked =

@@ -3,12 +3,13 @@ use Rattle.std.proofs.Common.{◌≡◌, ℕ, ◌+◌, ◌<◌, Bool, true, fals
 use Rattle.std.specs.Prelude.{if◌then◌else◌, option_map}
 use Rattle.std.specs.Option.{ok_or, option_or}
 use Rattle.std.specs.Str.{bytes_eq}
+use Rattle.fed_lattice.specs.Results.{◌>>=◌, mapped, each}
 use Rattle.fed_words.specs.declared.faults.UsageFault.{UsageFault}
 use Rattle.fed_words.specs.declared.settings.Setting.{Setting}
 use Rattle.fed_words.specs.declared.settings.Settings.{Settings}
 use Rattle.fed_words.specs.declared.utilities.Choice.{Choice}
 use Rattle.fed_words.specs.declared.utilities.Utility.{Utility}
-use Rattle.fed_words.specs.Fault.{OrFault, ◌>>=◌, answer_map, each}
+use Rattle.fed_words.specs.Fault.{OrFault}
 use Rattle.fed_words.specs.Reading.{reading}
 use Rattle.fed_words.specs.Setting.{account_in, is_full, is_held, kinds_of, last_settings, name_in, priority_of, resources_of, setting_in, settings_in}
 use Rattle.fed_words.specs.Spelling.{Item, Spelling, before, group, is_options, spelling, with_item}
@@ -30,11 +31,11 @@ put s old = record {
   full = is_full s || old.full;
 }
 
-given_of : (said : OrFault (List Setting)) (old : Settings) → answer_map last_settings said ≡ Ok old → (given : List Setting) × (said ≡ Ok given) × (old ≡ last_settings given)
+given_of : (said : OrFault (List Setting)) (old : Settings) → mapped last_settings said ≡ Ok old → (given : List Setting) × (said ≡ Ok given) × (old ≡ last_settings given)
 given_of (Ok given) old e = (given, refl, cc)
 given_of (Err fault) old e = absurd cc
 
-fault_of : (said : OrFault (List Setting)) (fault : UsageFault) → answer_map last_settings said ≡ Err fault → said ≡ Err fault
+fault_of : (said : OrFault (List Setting)) (fault : UsageFault) → mapped last_settings said ≡ Err fault → said ≡ Err fault
 fault_of (Ok given) fault e = absurd cc
 fault_of (Err other) fault e = let same : other ≡ fault = cc in ap Err same
 
@@ -92,7 +93,7 @@ both a r = do
 
 pub parts : {R : Type 0} (a : OrFault Settings) (r : OrFault R) (settings : Settings) (rest : R) → both a r ≡ Ok (settings, rest) → (a ≡ Ok settings) × (r ≡ Ok rest)
 parts {R = R} (Ok s) (Ok x) settings rest e =
-    (ap (answer_map (λ (p : Settings × R). p.0)) e, ap (answer_map (λ (p : Settings × R). p.1)) e)
+    (ap (mapped (λ (p : Settings × R). p.0)) e, ap (mapped (λ (p : Settings × R). p.1)) e)
 parts (Ok s) (Err fault) settings rest e = absurd cc
 parts (Err fault) r settings rest e = absurd cc
 

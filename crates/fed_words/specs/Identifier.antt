@@ -4,9 +4,10 @@ use Rattle.std.specs.List.{before_first, after_first}
 use Rattle.std.specs.Option.{ok_or}
 use Rattle.fed_stamp.specs.declared.stamps.TheConstants.{MAX_COUNTER}
 use Rattle.fed_stamp.specs.Stamp.{StampValue}
+use Rattle.fed_lattice.specs.Results.{◌>>=◌}
 use Rattle.fed_words.specs.declared.faults.UsageFault.TheVariants.{BadIdentifier}
 use Rattle.fed_words.specs.declared.identifiers.TheConstants.{MAX_SEQUENCE_DIGITS}
-use Rattle.fed_words.specs.Fault.{OrFault, ◌>>=◌}
+use Rattle.fed_words.specs.Fault.{OrFault}
 use Rattle.fed_words.specs.Number.{number_in}
 use Rattle.fed_words.specs.Site.{site_in}
 

@@ -1,7 +1,8 @@
 -- What words set that are read one after another.
 use Rattle.std.specs.Prelude.{ℕ, List, ◌++◌, Ok}
+use Rattle.fed_lattice.specs.Results.{◌>>=◌}
 use Rattle.fed_words.specs.declared.settings.Settings.{Settings}
-use Rattle.fed_words.specs.Fault.{OrFault, ◌>>=◌}
+use Rattle.fed_words.specs.Fault.{OrFault}
 use Rattle.fed_words.specs.Setting.{settings_in}
 use Rattle.fed_words.specs.Spelling.{Item, Spelling}
 

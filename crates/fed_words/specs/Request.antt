@@ -4,6 +4,7 @@ use Rattle.std.specs.List.{range_with_len}
 use Rattle.std.specs.Option.{ok_or}
 use Rattle.fed_stamp.specs.SiteSet.{set_of}
 use Rattle.fed_stamp.specs.Stamp.{StampValue, same_stamp}
+use Rattle.fed_lattice.specs.Results.{◌>>=◌, mapped, each}
 use Rattle.fed_model.specs.declared.commands.Command.{Command}
 use Rattle.fed_model.specs.declared.commands.Command.TheVariants.{Submit, Alter, Hold, Release, Delete}
 use Rattle.fed_model.specs.declared.holds.HoldKinds.{HoldKinds}
@@ -16,7 +17,7 @@ use Rattle.fed_words.specs.declared.resources.Resources.{Resources}
 use Rattle.fed_words.specs.declared.settings.Settings.{Settings}
 use Rattle.fed_words.specs.declared.utilities.Utility.{Utility}
 use Rattle.fed_words.specs.declared.utilities.Utility.TheVariants.{Qsub, Qalter, Qhold, Qrls, Qdel, Qstat}
-use Rattle.fed_words.specs.Fault.{OrFault, ◌>>=◌, answer_map, each}
+use Rattle.fed_words.specs.Fault.{OrFault}
 use Rattle.fed_words.specs.Identifier.{job_in}
 use Rattle.fed_words.specs.Resource.{last_resources}
 use Rattle.fed_words.specs.Setting.{settings_in}
@@ -75,7 +76,7 @@ once [] = []
 once (job ∷ jobs) = job ∷ filter (λ other. not (same_stamp job other)) (once jobs)
 
 abbrev pub named_jobs : List (List ℕ × ℕ) → ℕ → List (List ℕ) → OrFault (List StampValue)
-named_jobs roster here operands = answer_map once (each (job_in roster here) operands)
+named_jobs roster here operands = mapped once (each (job_in roster here) operands)
 
 -- the jobs that operands name; those of `qsub` name none, and only `qstat` may have none
 abbrev pub jobs_in : List (List ℕ × ℕ) → ℕ → Utility → List (List ℕ) → OrFault (List StampValue)

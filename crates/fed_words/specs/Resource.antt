@@ -6,12 +6,13 @@ use Rattle.std.specs.Option.{ok_or}
 use Rattle.std.specs.Str.{byte, bytes_eq}
 use Rattle.fed_stamp.specs.declared.rosters.TheConstants.{MAX_NODES}
 use Rattle.fed_stamp.specs.SiteSet.{set_of}
+use Rattle.fed_lattice.specs.Results.{mapped, each}
 use Rattle.fed_model.specs.declared.limits.TheConstants.{MAX_LIMIT}
 use Rattle.fed_words.specs.declared.faults.UsageFault.TheVariants.{BadValue}
 use Rattle.fed_words.specs.declared.resources.Resource.{Resource}
 use Rattle.fed_words.specs.declared.resources.Resource.TheVariants.{Nodes, Limit, Sites}
 use Rattle.fed_words.specs.declared.resources.Resources.{Resources}
-use Rattle.fed_words.specs.Fault.{OrFault, answer_map, each}
+use Rattle.fed_words.specs.Fault.{OrFault}
 use Rattle.fed_words.specs.Last.{last_of}
 use Rattle.fed_words.specs.Number.{number_in}
 use Rattle.fed_words.specs.Site.{site_in}
@@ -27,14 +28,14 @@ is_equals b = b == byte "="
 
 -- the set of the sites that are named
 abbrev pub sites_in : List (List ℕ × ℕ) → List ℕ → OrFault (List Bool)
-sites_in roster value = answer_map set_of (each (site_in BadValue roster) (slice_split is_plus value))
+sites_in roster value = mapped set_of (each (site_in BadValue roster) (slice_split is_plus value))
 
 -- the value of a resource
 abbrev pub value_in : List (List ℕ × ℕ) → List ℕ → List ℕ → OrFault Resource
 value_in roster name value = if bytes_eq name (codes "nodes")
     then ok_or (option_map Nodes (number_in 1 MAX_NODES value)) BadValue
     else (if bytes_eq name (codes "walltime") then ok_or (option_map Limit (number_in 1 MAX_LIMIT value)) BadValue
-    else (if bytes_eq name (codes "sites") then answer_map Sites (sites_in roster value)
+    else (if bytes_eq name (codes "sites") then mapped Sites (sites_in roster value)
     else Err BadValue))
 
 -- `resource=value`
@@ -61,4 +62,4 @@ last_resources given =
 
 -- a list of resources
 abbrev pub resources_in : List (List ℕ × ℕ) → List ℕ → OrFault Resources
-resources_in roster text = answer_map last_resources (each (resource_in roster) (slice_split is_comma text))
+resources_in roster text = mapped last_resources (each (resource_in roster) (slice_split is_comma text))

@@ -2,6 +2,7 @@
 use Rattle.std.specs.Prelude.{ℕ, ℤ, Bool, true, false, List, Option, Some, None, option_map, Ok, Err, if◌then◌else◌}
 use Rattle.std.specs.List.{list_any}
 use Rattle.std.specs.Option.{ok_or}
+use Rattle.fed_lattice.specs.Results.{mapped, each}
 use Rattle.fed_model.specs.declared.holds.HoldKinds.{HoldKinds}
 use Rattle.fed_stamp.specs.Word.{is_name}
 use Rattle.fed_words.specs.declared.faults.UsageFault.TheVariants.{BadValue}
@@ -9,7 +10,7 @@ use Rattle.fed_words.specs.declared.resources.Resources.{Resources}
 use Rattle.fed_words.specs.declared.settings.Setting.{Setting}
 use Rattle.fed_words.specs.declared.settings.Settings.{Settings}
 use Rattle.fed_words.specs.declared.utilities.Choice.{Choice}
-use Rattle.fed_words.specs.Fault.{OrFault, answer_map, each}
+use Rattle.fed_words.specs.Fault.{OrFault}
 use Rattle.fed_words.specs.Kinds.{kinds_in}
 use Rattle.fed_words.specs.Last.{last_of}
 use Rattle.fed_words.specs.Priority.{priority_in}
@@ -20,7 +21,7 @@ abbrev pub setting_in : List (List ℕ × ℕ) → Choice → List ℕ → OrFau
 setting_in roster Choice.Account text = if is_name text then Ok (Setting.Account (Some text)) else Err BadValue
 setting_in roster Choice.Held text = Ok Setting.Held
 setting_in roster Choice.Kinds text = ok_or (option_map Setting.Kinds (kinds_in text)) BadValue
-setting_in roster Choice.Resources text = answer_map Setting.Resources (resources_in roster text)
+setting_in roster Choice.Resources text = mapped Setting.Resources (resources_in roster text)
 setting_in roster Choice.Name text = if is_name text then Ok (Setting.Name text) else Err BadValue
 setting_in roster Choice.Priority text = ok_or (option_map Setting.Priority (priority_in text)) BadValue
 setting_in roster Choice.Full text = Ok Setting.Full
@@ -67,4 +68,4 @@ last_settings given = record {
 
 -- what options with their arguments set
 abbrev pub settings_in : List (List ℕ × ℕ) → List (Choice × List ℕ) → OrFault Settings
-settings_in roster items = answer_map last_settings (each (λ item. setting_in roster item.0 item.1) items)
+settings_in roster items = mapped last_settings (each (λ item. setting_in roster item.0 item.1) items)

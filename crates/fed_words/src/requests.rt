@@ -1,7 +1,8 @@
 //! What words ask.
 ghost use Rattle.std.specs.Prelude.{◌≡◌, ◌∷◌, [], IfOk, map};
+ghost use Rattle.fed_lattice.specs.Results.{mapped};
 ghost use Rattle.fed_model.specs.declared.commands.Command.{Command};
-ghost use Rattle.fed_words.specs.Fault.{Gives, answer_map};
+ghost use Rattle.fed_words.specs.Fault.{Gives};
 ghost use Rattle.fed_words.specs.Item.{words_of};
 ghost use Rattle.fed_words.specs.Request.{all_sites as set_of_all, changes_of, jobs_in, kinds_given, request_in, request_of, resources_given, values_of};
 ghost use Rattle.fed_words.specs.RequestView.{asked_by};
@@ -193,7 +194,7 @@ fn answer(
     operands: &[&str],
 ) -> Result<Request, UsageFault>
     ensures { let named = jobs_in roster.now here utility (words_of operands.now) in
-        Gives asked_by result (answer_map (request_of roster.now utility settings.now) named) }
+        Gives asked_by result (mapped (request_of roster.now utility settings.now) named) }
 {
     let jobs = read_jobs(alloc, roster, here, utility, operands)?;
     Ok(make_request(alloc, roster, utility, settings, jobs.as_slice())?)

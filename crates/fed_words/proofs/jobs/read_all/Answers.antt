@@ -1,7 +1,7 @@
 use Rattle.std.proofs.Common.{◌≡◌, ◌++◌, ◌∷◌, [], true, false, sym, ap, ◌∙◌}
 use Rattle.std.specs.List.{list_any}
 use Rattle.std.proofs.lemmas.Bool.{not-false, not-true}
-use Rattle.fed_words.specs.Fault.{answer_map}
+use Rattle.fed_lattice.specs.Results.{mapped}
 use Rattle.fed_words.specs.Identifier.{job_in}
 use Rattle.fed_words.specs.Item.{words_of}
 use Rattle.fed_words.specs.Request.{once}
@@ -16,7 +16,7 @@ pub returns-in_err-job : goal.returns-in_err-job
 returns-in_err-job c =
     let here = word_at c.args.operands.now c.loop-operand.operand-index (record { ref_ptr = (0, 0); now = [] }) c.loop-operand-test.true in
     gives-fault (λ jobs. jobs.items) c.from_residual.result _ c.in_err-job.field-0.0 c.from_residual.ensures.1
-    (ap (answer_map once) (c.loop-operand.invariant.3 ∙ each-fault (job_in c.args.roster.now c.args.here) c.loop-operand.invariant.0 (words_of c.args.operands.now) c.loop-operand.operand-index _ here.0 here.1 c.in_err-job.field-0.0 (sym c.in_err-job.ensures)))
+    (ap (mapped once) (c.loop-operand.invariant.3 ∙ each-fault (job_in c.args.roster.now c.args.here) c.loop-operand.invariant.0 (words_of c.args.operands.now) c.loop-operand.operand-index _ here.0 here.1 c.in_err-job.field-0.0 (sym c.in_err-job.ensures)))
 
 pub loop-operand-preserved : goal.loop-operand-preserved
 loop-operand-preserved c =

@@ -1,6 +1,6 @@
 use Rattle.std.proofs.Common.{◌≡◌, List, drop, map}
 use Rattle.fed_stamp.specs.Stamp.{StampValue}
-use Rattle.fed_words.specs.Fault.{each}
+use Rattle.fed_lattice.specs.Results.{each}
 use Rattle.fed_words.specs.Identifier.{job_in}
 use Rattle.fed_words.specs.Item.{words_of}
 use Rattle.fed_words.specs.Request.{once}

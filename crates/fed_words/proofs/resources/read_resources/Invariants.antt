@@ -1,7 +1,7 @@
 use Rattle.std.proofs.Common.{◌≡◌, List, drop, length}
 use Rattle.std.specs.List.{slice_split}
+use Rattle.fed_lattice.specs.Results.{each}
 use Rattle.fed_words.specs.declared.resources.Resource.{Resource}
-use Rattle.fed_words.specs.Fault.{each}
 use Rattle.fed_words.specs.Resource.{is_comma, last_resources, resource_in}
 use Rattle.fed_words.proofs.Each.{each_after}
 use Rattle.fed_words.proofs.resources.read_resources.Given as goal

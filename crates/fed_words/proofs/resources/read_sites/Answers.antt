@@ -3,8 +3,8 @@ use Rattle.std.specs.List.{slice_split}
 use Rattle.std.proofs.lemmas.Iterator.Consumers.{YieldsList-turn, YieldsList-end}
 use Rattle.std.proofs.lemmas.List.{length_push}
 use Rattle.fed_stamp.specs.SiteSet.{set_of}
+use Rattle.fed_lattice.specs.Results.{mapped, each}
 use Rattle.fed_words.specs.declared.faults.UsageFault.TheVariants.{BadValue}
-use Rattle.fed_words.specs.Fault.{answer_map, each}
 use Rattle.fed_words.specs.Resource.{is_plus}
 use Rattle.fed_words.specs.Site.{site_in}
 use Rattle.fed_words.proofs.Each.{each-start, each-more, each-fault, each-end, gives-fault, gives-no_memory}
@@ -19,7 +19,7 @@ returns-in_err-site c =
     let road = pieces {t = c.into_iter-name-iterator.result} 43 c.args.value.now (lit< tt) c.into_iter-name-iterator.ensures.into_iter_gives c.split-name-items.ensures.text c.split-name-items.ensures.has_more c.split-name-items.ensures.pattern in
     let turn = YieldsList-turn road c.loop-name.yielded _ c.loop-name.yielded_by _ _ c.in-Some.name c.in-Some.is c.next.ensures.steps in
     gives-fault (λ set. set) c.from_residual.result _ c.in_err-site.field-0.0 c.from_residual.ensures.1
-    (ap (answer_map set_of) (c.loop-name.invariant ∙ each-fault (site_in BadValue c.args.roster.now) c.loop-name.sites.items (slice_split is_plus c.args.value.now) (length c.loop-name.yielded) c.in-Some.name.now turn.0 turn.1 c.in_err-site.field-0.0 (sym c.in_err-site.ensures)))
+    (ap (mapped set_of) (c.loop-name.invariant ∙ each-fault (site_in BadValue c.args.roster.now) c.loop-name.sites.items (slice_split is_plus c.args.value.now) (length c.loop-name.yielded) c.in-Some.name.now turn.0 turn.1 c.in_err-site.field-0.0 (sym c.in_err-site.ensures)))
 
 pub returns-in_err-push : goal.returns-in_err-push
 returns-in_err-push c = gives-no_memory (λ set. set) c.from_residual-in_err-push.result _ c.from_residual-in_err-push.ensures.1
@@ -48,4 +48,4 @@ returns c =
     let found : c.new.result ≡ Some (set_of c.loop-name.sites.items) = c.new.ensures.same ∙ rw c.deref.ensures.value (named_set (site_in BadValue c.args.roster.now) is_plus c.args.value.now c.loop-name.sites.items whole) in
     let taken : Some (set_of c.loop-name.sites.items) ≡ Some c.unwrap.result = sym found ∙ c.unwrap.ensures in
     let set : set_of c.loop-name.sites.items ≡ c.unwrap.result = cc in
-    ap (answer_map set_of) whole ∙ ap Ok set
+    ap (mapped set_of) whole ∙ ap Ok set

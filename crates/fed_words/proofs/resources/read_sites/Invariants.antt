@@ -1,7 +1,7 @@
 use Rattle.std.proofs.Common.{◌≡◌, drop, length}
 use Rattle.std.specs.List.{slice_split}
+use Rattle.fed_lattice.specs.Results.{each}
 use Rattle.fed_words.specs.declared.faults.UsageFault.TheVariants.{BadValue}
-use Rattle.fed_words.specs.Fault.{each}
 use Rattle.fed_words.specs.Resource.{is_plus}
 use Rattle.fed_words.specs.Site.{site_in}
 use Rattle.fed_words.proofs.Each.{each_after}
