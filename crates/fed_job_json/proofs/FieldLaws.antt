@@ -3,13 +3,13 @@ use Rattle.std.proofs.Common.{◌≡◌, ℕ, Bool, true, false, cond, List, [],
 use Rattle.serde_json.specs.Data.{Data, string}
 use Rattle.fed_stamp.specs.Stamp.{StampValue}
 use Rattle.fed_stamp.specs.Word.{is_name}
+use Rattle.fed_lattice.proofs.ResultLaws.{bind_ok, ok_is}
 use Rattle.fed_model.specs.Account.{account_of, text_of as text_of_account}
 use Rattle.fed_json.specs.Reading.{Reading, or_range}
 use Rattle.fed_json.specs.Values.{text_of, pair_of, pair_value}
 use Rattle.fed_json.specs.Numbers.{natural_value, integer_value, integer_of}
 use Rattle.fed_model.specs.Ranges.{IsFrom, IsStamp, IsName, is_priority, IsPriority, IsAccount}
 use Rattle.fed_json.proofs.Forms.{IsForm}
-use Rattle.fed_json.proofs.Steps.{bind_ok, ok_is}
 use Rattle.fed_json.proofs.NumberLaws.{natural_form, integer_form}
 use Rattle.fed_json.proofs.FormLaws.{pair_form, mapped_form, tested_form, ranged_form, text_form}
 use Rattle.fed_stamp.specs.declared.rosters.TheConstants.{MAX_NODES}

@@ -3,6 +3,7 @@ use Rattle.std.proofs.Common.{◌≡◌, length, ℕ, false, List, [], ◌∷◌
 use Rattle.std.specs.Prelude.{codes, is_some}
 use Rattle.serde_json.specs.Find.{as_null}
 use Rattle.serde_json.specs.Data.{Data}
+use Rattle.fed_lattice.proofs.ResultLaws.{bind_ok, mapped_ok, when_ok}
 use Rattle.fed_model.specs.declared.grants.GrantStage.{GrantStage}
 use Rattle.fed_model.specs.declared.grants.GrantStage.TheVariants.{Open, Returned}
 use Rattle.fed_model.specs.declared.terms.TheConstants.{MAX_TERM}
@@ -10,7 +11,7 @@ use Rattle.fed_json.specs.declared.flaws.Flaw.TheVariants.{Shape}
 use Rattle.fed_json.specs.Reading.{both}
 use Rattle.fed_json.specs.Values.{list_value, elements_of, is_word}
 use Rattle.fed_json.proofs.Forms.{IsForm}
-use Rattle.fed_json.proofs.Steps.{bind_ok, mapped_ok, both_ok, when_ok}
+use Rattle.fed_json.proofs.Steps.{both_ok}
 use Rattle.fed_json.proofs.NumberLaws.{natural_form}
 use Rattle.fed_json.proofs.FormLaws.{elements_takes, word_takes, or_null_form}
 use Rattle.fed_job_json.specs.declared.formats.Format.{Format}

@@ -6,19 +6,21 @@ use Rattle.serde_json.specs.Data.{Data, null, boolean, string}
 use Rattle.serde_json.specs.Find.{get}
 use Rattle.fed_stamp.specs.Stamp.{StampValue}
 use Rattle.fed_stamp.specs.declared.rosters.TheConstants.{MAX_NODES}
+use Rattle.fed_lattice.specs.Results.{◌>>=◌}
+use Rattle.fed_lattice.proofs.ResultLaws.{bind_ok, when_ok, ok_is}
 use Rattle.fed_model.specs.declared.limits.TheConstants.{MAX_LIMIT}
 use Rattle.fed_model.specs.declared.holds.HoldKind.{HoldKind}
 use Rattle.fed_model.specs.Hold.{kind_cmp}
 use Rattle.fed_model.specs.JobView.{JobFields, JobStages}
 use Rattle.fed_record.specs.JobRecord.{job_reads}
 use Rattle.fed_json.specs.declared.flaws.Flaw.TheVariants.{Shape}
-use Rattle.fed_json.specs.Reading.{◌>>=◌, where_true}
+use Rattle.fed_json.specs.Reading.{where_true}
 use Rattle.fed_json.specs.Numbers.{natural_value, integer_value}
 use Rattle.fed_model.specs.Ranges.{IsFrom, IsStamp, IsSite, IsName, IsPriority, IsAccount}
 use Rattle.fed_json.specs.Values.{truth_of}
 use Rattle.fed_json.specs.Objects.{Named, has_names, member_of}
 use Rattle.fed_json.proofs.Forms.{HasMembers, IsForm, IsPartForm}
-use Rattle.fed_json.proofs.Steps.{bind_ok, when_ok, where_true_ok, ok_is}
+use Rattle.fed_json.proofs.Steps.{where_true_ok}
 use Rattle.fed_json.proofs.FormLaws.{truth_form}
 use Rattle.fed_json.proofs.ObjectLaws.{member_part, both_part, mapped_part, object_is, object_has, object_named, names_in, are_distinct}
 use Rattle.fed_job_json.specs.declared.formats.Format.{Format}

@@ -10,7 +10,8 @@ use Rattle.serde_json.specs.Data.{Data}
 use Rattle.serde_json.specs.Find.{get}
 use Rattle.serde_json.specs.View.{view}
 use Rattle.serde_json.specs.declared.value.Value.{Value}
-use Rattle.fed_json.specs.Reading.{Reading, ◌>>=◌, mapped, or_shape}
+use Rattle.fed_lattice.specs.Results.{◌>>=◌, mapped}
+use Rattle.fed_json.specs.Reading.{Reading, or_shape}
 use Rattle.fed_json.specs.Objects.{Named, object_value, member_of}
 use Rattle.fed_json.proofs.ObjectLaws.{other}
 use Rattle.fed_job_json.specs.declared.formats.Format.{Format}

@@ -8,6 +8,7 @@ use Rattle.std.specs.declared.cmp.Ordering.TheVariants.{Less, Equal, Greater}
 use Rattle.std.specs.Ordering.{is_lt, nat_cmp}
 use Rattle.std.proofs.lemmas.Bool.{and_parts}
 use Rattle.serde_json.specs.Data.{Data}
+use Rattle.fed_lattice.proofs.ResultLaws.{ok_is}
 use Rattle.fed_tags.specs.Tags.{pair_cmp}
 use Rattle.fed_model.specs.declared.holds.HoldKind.{HoldKind}
 use Rattle.fed_model.specs.declared.holds.HoldKind.TheVariants.{User, Operator, System}
@@ -17,7 +18,6 @@ use Rattle.fed_json.specs.Reading.{Reading}
 use Rattle.fed_json.specs.Numbers.{natural_value}
 use Rattle.fed_json.specs.Values.{is_word, pair_of, pair_value, array_of}
 use Rattle.fed_json.proofs.Forms.{IsForm}
-use Rattle.fed_json.proofs.Steps.{ok_is}
 use Rattle.fed_json.proofs.FormLaws.{pair_form, array_form, tested_form, word_takes}
 use Rattle.fed_job_json.specs.Stamps.{stamp_value, stamp_of, site_of}
 use Rattle.fed_model.specs.Ranges.{IsStamp, IsSite}

@@ -3,6 +3,7 @@ use Rattle.std.proofs.Common.{◌≡◌, ℕ, Bool, List, Option, Some, Ok, Err,
 use Rattle.std.specs.Prelude.{ℤ, codes}
 use Rattle.serde_json.specs.Data.{Data}
 use Rattle.fed_stamp.specs.Stamp.{StampValue}
+use Rattle.fed_lattice.specs.Results.{mapped}
 use Rattle.fed_model.specs.declared.grants.GrantStage.{GrantStage}
 use Rattle.fed_model.specs.declared.holds.HoldKind.{HoldKind}
 use Rattle.fed_record.specs.declared.job_readers.Progress.{Progress}
@@ -10,7 +11,7 @@ use Rattle.fed_model.specs.JobView.{JobFields, JobStages}
 use Rattle.fed_record.specs.JobParts.{FieldValues, fields_set}
 use Rattle.fed_json.specs.declared.flaws.Flaw.TheVariants.{Shape, Range}
 use Rattle.fed_json.specs.Values.{truth_of}
-use Rattle.fed_json.specs.Reading.{Reading, mapped, both}
+use Rattle.fed_json.specs.Reading.{Reading, both}
 use Rattle.fed_json.specs.Objects.{member_of}
 use Rattle.fed_json.proofs.ListLaws.{both-mapped, mapped-mapped}
 use Rattle.fed_job_json.specs.declared.formats.Format.{Format}

@@ -5,14 +5,16 @@ use Rattle.std.proofs.lemmas.Bool.{ltb-true, lt-ltb}
 use Rattle.serde_json.specs.Data.{Data, string}
 use Rattle.serde_json.specs.Find.{as_null}
 use Rattle.fed_stamp.specs.declared.rosters.TheConstants.{MAX_NODES}
+use Rattle.fed_lattice.specs.Results.{mapped}
+use Rattle.fed_lattice.proofs.ResultLaws.{bind_ok, mapped_ok, when_ok}
 use Rattle.fed_model.specs.declared.moments.TheConstants.{MAX_END, MAX_MOMENT}
 use Rattle.fed_model.specs.declared.beginnings.TheConstants.{MAX_STATUS}
 use Rattle.fed_json.specs.declared.flaws.Flaw.TheVariants.{Shape}
-use Rattle.fed_json.specs.Reading.{mapped, both, where_true}
+use Rattle.fed_json.specs.Reading.{both, where_true}
 use Rattle.fed_json.specs.Values.{list_value, elements_of, is_word, or_null, null_or}
 use Rattle.fed_json.specs.Numbers.{natural_value, natural_in}
 use Rattle.fed_json.proofs.Forms.{IsForm}
-use Rattle.fed_json.proofs.Steps.{bind_ok, mapped_ok, both_ok, when_ok, where_true_ok}
+use Rattle.fed_json.proofs.Steps.{both_ok, where_true_ok}
 use Rattle.fed_json.proofs.NumberLaws.{natural_form}
 use Rattle.fed_json.proofs.FormLaws.{elements_takes, word_takes, or_null_form, mapped_form}
 use Rattle.fed_job_json.specs.Stamps.{stamp_value, stamp_of}

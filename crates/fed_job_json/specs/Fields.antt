@@ -4,9 +4,10 @@ use Rattle.serde_json.specs.Data.{Data, null, string}
 use Rattle.fed_stamp.specs.Stamp.{StampValue}
 use Rattle.fed_stamp.specs.Word.{is_name}
 use Rattle.fed_stamp.specs.declared.rosters.TheConstants.{MAX_NODES}
+use Rattle.fed_lattice.specs.Results.{◌>>=◌, mapped}
 use Rattle.fed_model.specs.declared.limits.TheConstants.{MAX_LIMIT}
 use Rattle.fed_model.specs.Account.{account_of, text_of as text_of_account}
-use Rattle.fed_json.specs.Reading.{Reading, ◌>>=◌, mapped, where_true, or_range}
+use Rattle.fed_json.specs.Reading.{Reading, where_true, or_range}
 use Rattle.fed_json.specs.Numbers.{natural_in, integer_of}
 use Rattle.fed_json.specs.Values.{list_value, pair_of, text_of}
 use Rattle.fed_model.specs.Ranges.{is_priority, IsStamp}

@@ -1,11 +1,12 @@
 -- The stage of a job's grants as a JSON value. In format 1 an open grant is one of term 1.
 use Rattle.std.specs.Prelude.{◌≡◌, ℕ, List, [], ◌∷◌, codes, if◌then◌else◌, Option, IfSome, Err}
 use Rattle.serde_json.specs.Data.{Data, string}
+use Rattle.fed_lattice.specs.Results.{◌>>=◌, mapped}
 use Rattle.fed_model.specs.declared.grants.GrantStage.{GrantStage}
 use Rattle.fed_model.specs.declared.grants.GrantStage.TheVariants.{Open, Returned}
 use Rattle.fed_model.specs.declared.terms.TheConstants.{MAX_TERM}
 use Rattle.fed_json.specs.declared.flaws.Flaw.TheVariants.{Shape}
-use Rattle.fed_json.specs.Reading.{Reading, ◌>>=◌, mapped, both}
+use Rattle.fed_json.specs.Reading.{Reading, both}
 use Rattle.fed_json.specs.Numbers.{natural_value, natural_in}
 use Rattle.fed_model.specs.Ranges.{IsFrom, IsStamp, IsSite}
 use Rattle.fed_json.specs.Values.{list_value, elements_of, is_word, or_null, null_or}

@@ -3,11 +3,12 @@ use Rattle.std.specs.Prelude.{◌≡◌, ℕ, true, List, [], ◌∷◌, ◌++�
 use Rattle.std.specs.Ordering.{nat_cmp}
 use Rattle.serde_json.specs.Data.{Data, boolean, string}
 use Rattle.fed_stamp.specs.Stamp.{StampValue}
+use Rattle.fed_lattice.specs.Results.{◌>>=◌, mapped}
 use Rattle.fed_model.specs.Hold.{kind_cmp}
 use Rattle.fed_model.specs.JobView.{JobFields, JobStages}
 use Rattle.fed_record.specs.JobRecord.{JobRecordValue, job_reads}
 use Rattle.fed_json.specs.declared.flaws.Flaw.TheVariants.{Shape}
-use Rattle.fed_json.specs.Reading.{Reading, ◌>>=◌, mapped, both, where_true}
+use Rattle.fed_json.specs.Reading.{Reading, both, where_true}
 use Rattle.fed_json.specs.Numbers.{natural_value, integer_value}
 use Rattle.fed_model.specs.Ranges.{IsFrom, IsStamp, IsSite, IsName, IsPriority, IsAccount}
 use Rattle.fed_json.specs.Values.{truth_of}

@@ -5,12 +5,13 @@ use Rattle.std.specs.declared.cmp.Ordering.{Ordering}
 use Rattle.std.specs.Ordering.{is_lt, nat_cmp}
 use Rattle.serde_json.specs.Data.{Data, string}
 use Rattle.fed_stamp.specs.Stamp.{StampValue}
+use Rattle.fed_lattice.specs.Results.{◌>>=◌}
 use Rattle.fed_tags.specs.Tags.{pair_cmp}
 use Rattle.fed_model.specs.declared.holds.HoldKind.{HoldKind}
 use Rattle.fed_model.specs.declared.holds.HoldKind.TheVariants.{User, Operator, System}
 use Rattle.fed_model.specs.Hold.{kind_cmp}
 use Rattle.fed_json.specs.declared.flaws.Flaw.TheVariants.{Shape}
-use Rattle.fed_json.specs.Reading.{Reading, ◌>>=◌, where_true}
+use Rattle.fed_json.specs.Reading.{Reading, where_true}
 use Rattle.fed_json.specs.Numbers.{natural_value}
 use Rattle.fed_json.specs.Values.{list_value, is_word, pair_of, pair_value, array_of}
 use Rattle.fed_job_json.specs.Stamps.{stamp_value, stamp_of, site_of}

@@ -3,12 +3,13 @@ use Rattle.std.specs.Prelude.{◌<◌, Bool, nat_lt, List, [], ◌∷◌, codes,
 use Rattle.serde_json.specs.Data.{Data, null, string}
 use Rattle.fed_stamp.specs.Stamp.{StampValue}
 use Rattle.fed_stamp.specs.declared.rosters.TheConstants.{MAX_NODES}
+use Rattle.fed_lattice.specs.Results.{◌>>=◌, mapped}
 use Rattle.fed_model.specs.declared.moments.TheConstants.{MAX_END, MAX_MOMENT}
 use Rattle.fed_model.specs.declared.beginnings.TheConstants.{MAX_STATUS}
 use Rattle.fed_model.specs.declared.beginnings.Beginning.{Beginning}
 use Rattle.fed_model.specs.declared.beginnings.Ending.{Ending}
 use Rattle.fed_json.specs.declared.flaws.Flaw.TheVariants.{Shape}
-use Rattle.fed_json.specs.Reading.{Reading, ◌>>=◌, mapped, both, where_true}
+use Rattle.fed_json.specs.Reading.{Reading, both, where_true}
 use Rattle.fed_json.specs.Numbers.{natural_value, natural_in}
 use Rattle.fed_model.specs.Ranges.{IsFrom, IsStamp}
 use Rattle.fed_json.specs.Values.{list_value, elements_of, is_word, or_null}

@@ -5,7 +5,8 @@ use Rattle.fed_stamp.specs.declared.sites.TheConstants.{SITES}
 use Rattle.serde_json.specs.Data.{Data}
 use Rattle.fed_stamp.specs.Stamp.{StampValue}
 use Rattle.fed_stamp.specs.declared.stamps.TheConstants.{MAX_COUNTER}
-use Rattle.fed_json.specs.Reading.{Reading, mapped}
+use Rattle.fed_lattice.specs.Results.{mapped}
+use Rattle.fed_json.specs.Reading.{Reading}
 use Rattle.fed_json.specs.Numbers.{natural_value, natural_in}
 use Rattle.fed_model.specs.Ranges.{IsFrom}
 use Rattle.fed_json.specs.Values.{list_value, pair_of, row_of}

@@ -1,7 +1,7 @@
 //! The fields of a job read from JSON values.
 ghost use Rattle.std.specs.Prelude.{◌≡◌, Some};
 ghost use Rattle.serde_json.specs.View.{view};
-ghost use Rattle.fed_json.specs.Reading.{mapped};
+ghost use Rattle.fed_lattice.specs.Results.{mapped};
 ghost use Rattle.fed_job_json.specs.Fields.{field_of, name_of, priority_of, nodes_of, limit_of, account_in};
 ghost use Rattle.fed_job_json.specs.Job.{account_of, fields_of};
 ghost use Rattle.fed_job_json.specs.Members.{members_value};

@@ -1,7 +1,8 @@
 //! The stage of a job's grants read from a JSON value.
 ghost use Rattle.std.specs.Prelude.{◌≡◌, length, map};
 ghost use Rattle.serde_json.specs.View.{view};
-ghost use Rattle.fed_json.specs.Reading.{mapped, both as read_both};
+ghost use Rattle.fed_lattice.specs.Results.{mapped};
+ghost use Rattle.fed_json.specs.Reading.{both as read_both};
 ghost use Rattle.fed_job_json.specs.Stamps.{stamp_of, site_of};
 ghost use Rattle.fed_job_json.specs.Grants.{term_of, open_of, returned_of, stage_from, stage_of, grant_of};
 

@@ -2,9 +2,9 @@
 ghost use Rattle.std.specs.Prelude.{◌≡◌, IfOk, map};
 ghost use Rattle.std.specs.Ordering.{nat_cmp};
 ghost use Rattle.serde_json.specs.View.{view};
+ghost use Rattle.fed_lattice.specs.Results.{mapped};
 ghost use Rattle.fed_tags.specs.Tags.{pair_cmp};
 ghost use Rattle.fed_model.specs.Hold.{kind_cmp};
-ghost use Rattle.fed_json.specs.Reading.{mapped};
 ghost use Rattle.fed_json.specs.Values.{pair_of, all_of};
 ghost use Rattle.fed_job_json.specs.Stamps.{site_of, stamp_of};
 ghost use Rattle.fed_job_json.specs.Pairs.{kind_of, holds_of, sites_of, ascends};

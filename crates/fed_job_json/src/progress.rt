@@ -1,7 +1,8 @@
 //! The Begin and the Finish of a job read from a JSON value.
 ghost use Rattle.std.specs.Prelude.{◌≡◌, None, Some, length, map};
 ghost use Rattle.serde_json.specs.View.{view};
-ghost use Rattle.fed_json.specs.Reading.{mapped, both as read_both};
+ghost use Rattle.fed_lattice.specs.Results.{mapped};
+ghost use Rattle.fed_json.specs.Reading.{both as read_both};
 ghost use Rattle.fed_json.specs.Numbers.{natural_in};
 ghost use Rattle.fed_job_json.specs.Progress.{begun_of, finished_of, done_from, done_of, progress_of};
 

@@ -2,10 +2,10 @@
 ghost use Rattle.std.specs.Prelude.{◌≡◌, ◌≤◌, map, length, All, OnErr};
 ghost use Rattle.std.specs.List.{AllByRecursion};
 ghost use Rattle.serde_json.specs.View.{view};
+ghost use Rattle.fed_lattice.specs.Results.{mapped};
 ghost use Rattle.fed_json.specs.Numbers.{natural_in};
 ghost use Rattle.fed_model.specs.Ranges.{IsFrom};
 ghost use Rattle.fed_json.specs.Values.{all_of};
-ghost use Rattle.fed_json.specs.Reading.{mapped};
 ghost use Rattle.fed_job_json.specs.Stamps.{site_of, stamp_of, version_of};
 
 use fed_json::{Flaw, both, elements, natural};

@@ -1,7 +1,7 @@
 use Rattle.std.proofs.Common.{◌≡◌, map, true, sym, ap, ◌∙◌}
 use Rattle.serde_json.specs.View.{view}
+use Rattle.fed_lattice.specs.Results.{mapped}
 use Rattle.fed_model.specs.Hold.{kind_cmp}
-use Rattle.fed_json.specs.Reading.{mapped}
 use Rattle.fed_job_json.specs.Pairs.{kind_of}
 use Rattle.fed_job_json.proofs.JobReads.{pairs_then, pairs_else}
 use Rattle.fed_job_json.proofs.live_pairs.holds.Goals as goal
