@@ -2,9 +2,9 @@
 ghost use Rattle.std.specs.Prelude.{◌≡◌, true, IfOk};
 ghost use Rattle.std.specs.Ordering.{nat_cmp};
 ghost use Rattle.serde_json.specs.View.{view};
+ghost use Rattle.fed_lattice.specs.Results.{mapped};
 ghost use Rattle.fed_model.specs.Hold.{kind_cmp};
 ghost use Rattle.fed_model.specs.Ranges.{IsSite};
-ghost use Rattle.fed_json.specs.Reading.{mapped};
 ghost use Rattle.fed_job_json.specs.Pairs.{ArePairs};
 ghost use Rattle.fed_job_json.specs.Covers.{covers_tags};
 ghost use Rattle.fed_job_json.specs.Job.{parts_of, job_of};

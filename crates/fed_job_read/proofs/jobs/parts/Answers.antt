@@ -1,6 +1,7 @@
 use Rattle.std.proofs.Common.{◌≡◌, ap, sym, ◌∙◌, refl}
 use Rattle.std.specs.Prelude.{codes}
-use Rattle.fed_json.specs.Reading.{mapped, both}
+use Rattle.fed_lattice.specs.Results.{mapped}
+use Rattle.fed_json.specs.Reading.{both}
 use Rattle.fed_job_json.specs.Stamps.{stamp_of, version_of}
 use Rattle.fed_job_json.specs.Pairs.{holds_of, sites_of}
 use Rattle.fed_job_json.specs.Members.{members_value}

@@ -1,9 +1,9 @@
 use Rattle.std.proofs.Common.{◌≡◌, true, false, ◌&&◌, Ok, sym, ap, ap₂, ◌∙◌}
+use Rattle.fed_lattice.specs.Results.{mapped}
 use Rattle.fed_record.specs.CoveredJob.{covers_stamps}
 use Rattle.fed_record.specs.JobRecord.{JobRecordValue, job_reads}
 use Rattle.fed_job_json.specs.Covers.{covers_tags}
 use Rattle.serde_json.specs.View.{view}
-use Rattle.fed_json.specs.Reading.{mapped}
 use Rattle.fed_job_json.specs.Job.{parts_of}
 use Rattle.fed_job_json.specs.Parts.{job_from}
 use Rattle.fed_job_json.proofs.JobLaws.{parts_part}

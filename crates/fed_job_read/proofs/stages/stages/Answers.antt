@@ -1,6 +1,7 @@
 use Rattle.std.proofs.Common.{◌≡◌, Bool, Option, ap, sym, ◌∙◌, refl}
 use Rattle.std.specs.Prelude.{codes}
-use Rattle.fed_json.specs.Reading.{mapped, both}
+use Rattle.fed_lattice.specs.Results.{mapped}
+use Rattle.fed_json.specs.Reading.{both}
 use Rattle.fed_json.specs.Values.{truth_of}
 use Rattle.fed_job_json.specs.Grants.{grant_of}
 use Rattle.fed_job_json.specs.Progress.{progress_of}
