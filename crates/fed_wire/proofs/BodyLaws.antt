@@ -4,6 +4,7 @@ use Rattle.std.proofs.lemmas.Bool.{le-leb}
 use Rattle.serde_json.specs.Data.{Data}
 use Rattle.serde_json.specs.View.{view}
 use Rattle.fed_stamp.specs.Version.{IsFirstAbove}
+use Rattle.fed_lattice.specs.Results.{◌>>=◌}
 use Rattle.fed_board.specs.Board.{IsBoard}
 use Rattle.fed_job_json.specs.declared.formats.Format.{Format}
 use Rattle.fed_job_json.specs.Stamps.{site_of}
@@ -15,7 +16,7 @@ use Rattle.fed_wire.specs.declared.faults.WireFault.TheVariants.{Range}
 use Rattle.fed_wire.specs.declared.members.PacketMembers.{PacketMembers}
 use Rattle.fed_wire.specs.Members.{AreMembers}
 use Rattle.fed_wire.specs.Packet.{PacketValue, job_stands, reservation_stands}
-use Rattle.fed_wire.specs.Reading.{◌>>=◌, place, at, array_in, version_in, least_above, unless_above, sender_in, need_in, reached_in, jobs_in, reservations_in, body_in}
+use Rattle.fed_wire.specs.Reading.{place, at, array_in, version_in, least_above, unless_above, sender_in, need_in, reached_in, jobs_in, reservations_in, body_in}
 use Rattle.fed_wire.specs.Reservations.{Reserved, reservation_of, reservation_value, IsReservation}
 use Rattle.fed_wire.proofs.BoardLaws.{board_of}
 use Rattle.fed_wire.proofs.PacketLaws.{array_takes}

@@ -7,13 +7,15 @@ use Rattle.std.proofs.lemmas.List.{append-nil}
 use Rattle.serde_json.specs.Data.{Data, null, boolean, number, string, array, object, unsigned, negative, float}
 use Rattle.serde_json.specs.Find.{get, as_number, as_u64}
 use Rattle.fed_stamp.specs.Version.{is_below}
+use Rattle.fed_lattice.specs.Results.{◌>>=◌}
+use Rattle.fed_lattice.proofs.ResultLaws.{bind_ok, when_ok, ok_is}
 use Rattle.fed_json.specs.declared.flaws.Flaw.TheVariants.{Shape as Misshapen, Range as OutOfRange}
-use Rattle.fed_json.specs.Reading.{Reading, where_true, ◌>>=◌ as ◌>>-◌}
+use Rattle.fed_json.specs.Reading.{Reading, where_true}
 use Rattle.fed_json.specs.Numbers.{natural_value}
 use Rattle.fed_json.specs.Values.{list_value, elements_of}
 use Rattle.fed_json.specs.Objects.{has_names}
 use Rattle.fed_json.proofs.Forms.{HasMembers, IsForm}
-use Rattle.fed_json.proofs.Steps as reading
+use Rattle.fed_json.proofs.Steps.{where_true_ok}
 use Rattle.fed_json.proofs.FormLaws.{elements_takes, list_of-items_of}
 use Rattle.fed_json.proofs.ObjectLaws.{object_is, object_has}
 use Rattle.fed_job_json.specs.declared.formats.Format.{Format}
@@ -29,28 +31,17 @@ use Rattle.fed_wire.specs.declared.faults.WireFault.{WireFault}
 use Rattle.fed_wire.specs.declared.faults.WireFault.TheVariants.{NotJson, Version, Shape}
 use Rattle.fed_wire.specs.Reservations.{reservation_of, reservation_value, IsReservation}
 use Rattle.fed_wire.specs.Packet.{PacketValue, number_of, packet_members, packet_value, job_stands, reservation_stands, AllStand, IsPacket}
-use Rattle.fed_wire.specs.Reading.{◌>>=◌, place, or_fault, at, each_in, array_in, first_bad_in, version_in, least_above, unless_above, member_in, body_in, format_from, format_in, packet_names, packet_of, text_value, packet_in}
+use Rattle.fed_wire.specs.Reading.{place, or_fault, at, each_in, array_in, first_bad_in, version_in, least_above, unless_above, member_in, body_in, format_from, format_in, packet_names, packet_of, text_value, packet_in}
 use Rattle.fed_wire.proofs.ReservationLaws.{reservation_form}
 
 -- ---- steps
 
-pub bind_ok : {A B : Type 0} (r : Result A WireFault) (f : A → Result B WireFault) (y : B) → (r >>= f) ≡ Ok y → (x : A) × (r ≡ Ok x) × (f x ≡ Ok y)
-bind_ok (Ok x) f y e = (x, refl, e)
-bind_ok (Err d) f y e = absurd cc
-
 bind_again : {A B : Type 0} (r : Result A WireFault) (f : A → Result B WireFault) (x : A) (y : B) → r ≡ Ok x → f x ≡ Ok y → (r >>= f) ≡ Ok y
 bind_again r f x y p q = rw p q
-
-when_ok : {A : Type 0} (b : Bool) (d : WireFault) (r : Result A WireFault) (y : A) → cond b r (Err d) ≡ Ok y → (b ≡ true) × (r ≡ Ok y)
-when_ok true d r y e = (refl, e)
-when_ok false d r y e = absurd cc
 
 or_fault_ok : {A : Type 0} (d : WireFault) (o : Option A) (y : A) → or_fault d o ≡ Ok y → o ≡ Some y
 or_fault_ok d (Some x) y e = cc
 or_fault_ok d None y e = absurd cc
-
-ok_is : {A : Type 0} (x y : A) → ◌≡◌ {A = Result A WireFault} (Ok x) (Ok y) → x ≡ y
-ok_is x y e = cc
 
 at_ok : {A : Type 0} (p q : Place) (r : Reading A) (y : A) → at p q r ≡ Ok y → r ≡ Ok y
 at_ok p q (Ok x) y e = ap (λ x. Ok x) (ok_is x y e)
@@ -63,10 +54,10 @@ module _ {A : Type 0} (part : Part) (read : Data → Reading A) (value : A → D
   next : (a : Data) (ds : List Data) (x : A) (xs : List A) → a ≡ value x → ds ≡ map value xs → a ∷ ds ≡ value x ∷ map value xs
   next a ds x xs p q = rw (p, q) refl
 
-  one : IsForm read value P → (before : List A) (d : Data) (x : A) → (read d >>- where_true (stands before)) ≡ Ok x → (d ≡ value x) × P x × (stands before x ≡ true)
+  one : IsForm read value P → (before : List A) (d : Data) (x : A) → (read d >>= where_true (stands before)) ≡ Ok x → (d ≡ value x) × P x × (stands before x ≡ true)
   one F before d x e =
-      let y = reading.bind_ok (read d) (where_true (stands before)) x e in
-      let t = reading.where_true_ok (stands before) y.0 x (stands before y.0) refl y.2 in
+      let y = bind_ok (read d) (where_true (stands before)) x e in
+      let t = where_true_ok (stands before) y.0 x (stands before y.0) refl y.2 in
       let r = F.takes d y.0 y.1 in
       let fits : stands before x ≡ true = ap (stands before) (sym t.0) ∙ t.1 in
       (subst (λ (x : A). d ≡ value x) t.0 r.0, subst P t.0 r.1, fits)
@@ -76,8 +67,8 @@ module _ {A : Type 0} (part : Part) (read : Data → Reading A) (value : A → D
   each_takes F before [] xs e = ([], sym (ok_is before xs e) ∙ sym (append-nil before), refl, tt, tt)
   each_takes F before (d ∷ ds) xs e =
       let here : Place = place part (length before) in
-      let s = bind_ok (at here here (read d >>- where_true (stands before))) (λ x. each_in part read stands (before ++ x ∷ []) ds) xs e in
-      let x = one F before d s.0 (at_ok here here (read d >>- where_true (stands before)) s.0 s.1) in
+      let s = bind_ok (at here here (read d >>= where_true (stands before))) (λ x. each_in part read stands (before ++ x ∷ []) ds) xs e in
+      let x = one F before d s.0 (at_ok here here (read d >>= where_true (stands before)) s.0 s.1) in
       let rest = each_takes F (before ++ s.0 ∷ []) ds xs s.2 in
       (s.0 ∷ rest.0, rest.1 ∙ append_assoc before (s.0 ∷ []) rest.0, next d ds s.0 rest.0 x.0 rest.2, (x.1, rest.3), (x.2, rest.4))
 

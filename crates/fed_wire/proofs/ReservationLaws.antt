@@ -4,15 +4,17 @@ use Rattle.std.specs.Prelude.{codes, IfSome}
 use Rattle.std.proofs.lemmas.Bool.{ltb-true, lt-ltb}
 use Rattle.serde_json.specs.Data.{Data}
 use Rattle.fed_stamp.specs.declared.rosters.TheConstants.{MAX_NODES}
+use Rattle.fed_lattice.specs.Results.{mapped}
+use Rattle.fed_lattice.proofs.ResultLaws.{bind_ok, mapped_ok, when_ok}
 use Rattle.fed_model.specs.declared.moments.TheConstants.{MAX_MOMENT}
 use Rattle.fed_model.specs.declared.windows.Window.{Window}
 use Rattle.fed_json.specs.declared.flaws.Flaw.TheVariants.{Shape}
-use Rattle.fed_json.specs.Reading.{mapped, both, where_true}
+use Rattle.fed_json.specs.Reading.{both, where_true}
 use Rattle.fed_json.specs.Numbers.{natural_in}
 use Rattle.fed_json.specs.Values.{list_value, elements_of}
 use Rattle.fed_json.specs.Objects.{has_names, member_of}
 use Rattle.fed_json.proofs.Forms.{IsForm, IsPartForm}
-use Rattle.fed_json.proofs.Steps.{bind_ok, mapped_ok, both_ok, when_ok, where_true_ok}
+use Rattle.fed_json.proofs.Steps.{both_ok, where_true_ok}
 use Rattle.fed_json.proofs.NumberLaws.{natural_form}
 use Rattle.fed_json.proofs.FormLaws.{elements_takes, or_null_form}
 use Rattle.fed_json.proofs.ObjectLaws.{member_part, both_part, object_is, object_has}

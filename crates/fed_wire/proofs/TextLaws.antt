@@ -5,12 +5,13 @@ use Rattle.std.proofs.Common.{◌≡◌, ℕ, List, Bool, true, false, cond, Opt
 use Rattle.std.proofs.lemmas.Str.{IsUtf8-from_is_utf8, is_utf8-from_IsUtf8}
 use Rattle.serde_json.specs.Data.{Data}
 use Rattle.serde_json.specs.Read.{read}
+use Rattle.fed_lattice.specs.Results.{◌>>=◌}
 use Rattle.fed_job_json.specs.declared.formats.Format.{Format}
 use Rattle.fed_wire.specs.declared.faults.WireFault.{WireFault}
 use Rattle.fed_wire.specs.declared.faults.WireFault.TheVariants.{NotJson}
 use Rattle.fed_wire.specs.Faults.{Gives}
 use Rattle.fed_wire.specs.Packet.{PacketValue, IsPacket, packet_value}
-use Rattle.fed_wire.specs.Reading.{◌>>=◌, or_fault, packet_of, text_value, packet_in}
+use Rattle.fed_wire.specs.Reading.{or_fault, packet_of, text_value, packet_in}
 use Rattle.fed_wire.proofs.PacketLaws.{found, again}
 
 pub text_some : (bytes : List ℕ) (d : Data) → IsUtf8 bytes → read bytes ≡ Some d → text_value bytes ≡ Some d

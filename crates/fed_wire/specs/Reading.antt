@@ -5,8 +5,9 @@ use Rattle.serde_json.specs.Data.{Data, array}
 use Rattle.serde_json.specs.Read.{read}
 use Rattle.serde_json.specs.Find.{get, as_number, as_u64}
 use Rattle.fed_stamp.specs.declared.stamps.TheConstants.{MAX_COUNTER}
+use Rattle.fed_lattice.specs.Results.{◌>>=◌}
 use Rattle.fed_json.specs.declared.flaws.Flaw.TheVariants.{Shape as Misshapen, Range as OutOfRange}
-use Rattle.fed_json.specs.Reading.{◌>>=◌ as ◌>>-◌, Reading, where_true}
+use Rattle.fed_json.specs.Reading.{Reading, where_true}
 use Rattle.fed_json.specs.Numbers.{natural_in}
 use Rattle.fed_json.specs.Values.{elements_of, list_of}
 use Rattle.fed_json.specs.Objects.{has_names}
@@ -21,11 +22,6 @@ use Rattle.fed_wire.specs.declared.faults.WireFault.{WireFault}
 use Rattle.fed_wire.specs.declared.faults.WireFault.TheVariants.{NotJson, Version, Shape, Range}
 use Rattle.fed_wire.specs.Reservations.{Reserved, reservation_of}
 use Rattle.fed_wire.specs.Packet.{PacketValue, job_stands, reservation_stands}
-
-infixl 10 ◌>>=◌
-abbrev pub ◌>>=◌ : {A B : Type 0} → Result A WireFault → (A → Result B WireFault) → Result B WireFault
-(Ok x) >>= f = f x
-(Err e) >>= f = Err e
 
 abbrev pub place : Part → ℕ → Place
 place part index = record { part = part; index = index }
@@ -45,7 +41,7 @@ abbrev pub each_in : {A : Type 0} → Part → (Data → Reading A) → (List A 
 each_in part read stands before [] = Ok before
 each_in part read stands before (d ∷ ds) =
     let here : Place = place part (length before) in
-    at here here (read d >>- where_true (stands before)) >>= λ x. each_in part read stands (before ++ x ∷ []) ds
+    at here here (read d >>= where_true (stands before)) >>= λ x. each_in part read stands (before ++ x ∷ []) ds
 
 abbrev pub array_in : {A : Type 0} → Part → (Data → Reading A) → (List A → A → Bool) → Data → Result (List A) WireFault
 array_in part read stands d = at (place part 0) (place part 0) (elements_of d) >>= each_in part read stands []

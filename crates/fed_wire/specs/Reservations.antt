@@ -3,11 +3,12 @@ use Rattle.std.specs.Prelude.{ℕ, Bool, nat_lt, List, [], ◌∷◌, codes, if�
 use Rattle.serde_json.specs.Data.{Data}
 use Rattle.fed_stamp.specs.Stamp.{StampValue}
 use Rattle.fed_stamp.specs.declared.rosters.TheConstants.{MAX_NODES}
+use Rattle.fed_lattice.specs.Results.{◌>>=◌, mapped}
 use Rattle.fed_model.specs.Reservation.{ReservationView}
 use Rattle.fed_model.specs.declared.moments.TheConstants.{MAX_MOMENT}
 use Rattle.fed_model.specs.declared.windows.Window.{Window}
 use Rattle.fed_json.specs.declared.flaws.Flaw.TheVariants.{Shape}
-use Rattle.fed_json.specs.Reading.{Reading, ◌>>=◌, mapped, both, where_true}
+use Rattle.fed_json.specs.Reading.{Reading, both, where_true}
 use Rattle.fed_json.specs.Numbers.{natural_value, natural_in}
 use Rattle.fed_model.specs.Ranges.{IsStamp, IsWindow}
 use Rattle.fed_json.specs.Values.{list_value, elements_of, or_null, null_or}

@@ -1,8 +1,8 @@
 //! Reservations read from JSON values.
 ghost use Rattle.std.specs.Prelude.{◌≡◌, ◌&&◌, [], map, Some, IsSome};
 ghost use Rattle.serde_json.specs.View.{view};
+ghost use Rattle.fed_lattice.specs.Results.{mapped};
 ghost use Rattle.fed_json.specs.Numbers.{natural_in};
-ghost use Rattle.fed_json.specs.Reading.{mapped};
 ghost use Rattle.fed_job_json.specs.Fields.{field_of};
 ghost use Rattle.fed_stamp.specs.Version.{covers};
 ghost use Rattle.fed_wire.specs.declared.faults.Part.TheVariants.{Reservations as TheReservations};
