@@ -1,6 +1,6 @@
 -- What words are read as can be asked.
 use Rattle.std.proofs.Common.{◌≡◌, ℕ, suc, ◌<◌, ℤ, Bool, true, false, ◌&&◌, ◌||◌, List, [], ◌∷◌, length, drop, map, Option, Some, None, Ok, Err, refl, ap, sym, ◌∙◌, arith, inl, inr}
-use Rattle.std.specs.Prelude.{◌==◌, codes, if◌then◌else◌, is_some, nat_le, nat_lt, option_map, position}
+use Rattle.std.specs.Prelude.{◌==◌, codes, is_some, nat_le, nat_lt, option_map, position}
 use Rattle.std.specs.List.{All, after_first, before_first, find, list_all, range_with_len, slice_split}
 use Rattle.std.specs.Option.{ok_or}
 use Rattle.std.specs.Str.{bytes_eq}
