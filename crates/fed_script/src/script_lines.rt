@@ -1,6 +1,6 @@
 //! What a line of a script says.
 ghost use Rattle.std.specs.Prelude.{◌≡◌, IfOk, IsErr, OnErr, option_map};
-ghost use Rattle.fed_words.specs.Fault.{answer_map};
+ghost use Rattle.fed_lattice.specs.Results.{mapped};
 ghost use Rattle.fed_words.specs.Item.{words_of as texts_of};
 ghost use Rattle.fed_script.specs.Forms.{one, two};
 ghost use Rattle.fed_script.specs.Line.{act as act_of, asked_at, compares, first_line, first_line_in, is_comment as are_of_comment, later_line, later_line_in, own_line, own_line_in, plans, ships, site_line, takes, told, user_line, verb_line, words_in};
@@ -93,7 +93,7 @@ fn act(
 
 /// The line of what the words of a utility were read as, but for want of memory.
 fn asked_line(site: SiteId, who: Who, read: Result<Request, UsageFault>) -> Result<Line, NoMemory>
-    ensures ok { IfOk result (λ line. said_by line ≡ asked_at site who (answer_map asked_by read)) }
+    ensures ok { IfOk result (λ line. said_by line ≡ asked_at site who (mapped asked_by read)) }
     ensures told { read ≡ Err UsageFault.NoMemory → IsErr result }
     ensures err { OnErr result (read ≡ Err UsageFault.NoMemory) }
 {
