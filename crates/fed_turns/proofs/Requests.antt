@@ -5,10 +5,12 @@ use Rattle.std.specs.Option.{ok_or, option_or}
 use Rattle.std.specs.Str.{bytes_eq}
 use Rattle.std.proofs.Common.{◌≡◌, ℕ, List, [], ◌∷◌, Bool, true, false, All, Option, Some, None, Ok, Err, refl, subst, arith}
 use Rattle.std.proofs.lemmas.Bool.{and_parts, leb-true}
-use Rattle.std.proofs.lemmas.List.Elements.{All-cons, All-map, All-nil}
+use Rattle.std.proofs.lemmas.List.Elements.{All-cons, All-map, All-nil, recursion_from_All}
 use Rattle.fed_stamp.specs.Stamp.{StampValue}
 use Rattle.fed_stamp.specs.declared.rosters.TheConstants.{MAX_NODES}
 use Rattle.fed_stamp.specs.Word.{is_name}
+use Rattle.fed_lattice.specs.Results.{◌>>=◌, mapped, each}
+use Rattle.fed_lattice.proofs.ResultLaws.{mapped_ok, each_all}
 use Rattle.fed_model.specs.declared.askers.Who.{Who}
 use Rattle.fed_model.specs.declared.commands.Command.TheVariants.{Submit, Alter, Hold, Release, Delete}
 use Rattle.fed_model.specs.declared.limits.TheConstants.{MAX_LIMIT}
@@ -23,7 +25,7 @@ use Rattle.fed_words.specs.declared.settings.Settings.{Settings}
 use Rattle.fed_words.specs.declared.utilities.Choice.{Choice}
 use Rattle.fed_words.specs.declared.utilities.Utility.{Utility}
 use Rattle.fed_words.specs.declared.utilities.Utility.TheVariants.{Qsub, Qalter, Qhold, Qrls, Qdel, Qstat}
-use Rattle.fed_words.specs.Fault.{OrFault, ◌>>=◌, answer_map, each}
+use Rattle.fed_words.specs.Fault.{OrFault}
 use Rattle.fed_words.specs.Kinds.{kinds_in}
 use Rattle.fed_words.specs.Last.{last_of}
 use Rattle.fed_words.specs.Number.{number_in}
@@ -42,16 +44,6 @@ in_range least most word k e =
     let within = and_parts _ _ (and_parts _ _ told.0).1 in
     subst (IsFrom least most) told.1 (leb-true least _ within.0, leb-true _ most within.1)
 
--- what holds of each that is said holds of all
-each_all : {A B : Type 0} (says : A → OrFault B) (R : B → Type 0) → ((x : A) (y : B) → says x ≡ Ok y → R y) → (xs : List A) (ys : List B) → each says xs ≡ Ok ys → AllByRecursion R ys
-each_all says R h [] ys e = let none : [] ≡ ys = cc in subst (AllByRecursion R) none tt
-each_all {A} {B} says R h (x ∷ xs) ys e = go (says x) refl (each says xs) (each_all says R h xs) e
-  where
-    go : (o : OrFault B) → says x ≡ o → (p : OrFault (List B)) → ((zs : List B) → p ≡ Ok zs → AllByRecursion R zs) → (o >>= λ y. p >>= λ zs. Ok (y ∷ zs)) ≡ Ok ys → AllByRecursion R ys
-    go (Err fault) is p rest f = cc
-    go (Ok y) is (Err fault) rest f = cc
-    go (Ok y) is (Ok zs) rest f = let same : y ∷ zs ≡ ys = cc in subst (AllByRecursion R) same (h x y is, rest zs refl)
-
 either_some : {B : Type 0} (Q : B → Type 0) (o p : Option B) → IfSome o Q → IfSome p Q → IfSome (option_or o p) Q
 either_some Q None p h k = k
 either_some Q (Some x) p h k = h
@@ -69,9 +61,8 @@ ok_made : {A B : Type 0} (Q : B → Type 0) (o : Option A) (make : A → B) (fau
 ok_made Q None make fault y h e = cc
 ok_made Q (Some a) make fault y h e = let same : make a ≡ y = cc in subst Q same (h a refl)
 
-ok_mapped : {A B : Type 0} (Q : B → Type 0) (o : OrFault A) (make : A → B) (y : B) → ((a : A) → o ≡ Ok a → Q (make a)) → answer_map make o ≡ Ok y → Q y
-ok_mapped Q (Err fault) make y h e = cc
-ok_mapped Q (Ok a) make y h e = let same : make a ≡ y = cc in subst Q same (h a refl)
+ok_mapped : {A B : Type 0} (Q : B → Type 0) (o : OrFault A) (make : A → B) (y : B) → ((a : A) → o ≡ Ok a → Q (make a)) → mapped make o ≡ Ok y → Q y
+ok_mapped Q o make y h e = let m = mapped_ok o make y e in subst Q m.2 (h m.0 m.1)
 
 -- ---- resources
 abbrev IsRangedResource : Resource → Type 0
@@ -100,7 +91,7 @@ last_ranged given all = record {
 }
 
 value_ranged : (a b c : Bool) (o p : Option ℕ) (sites : OrFault (List Bool)) (r : Resource) → ((n : ℕ) → o ≡ Some n → IsFrom 1 MAX_NODES n) → ((n : ℕ) → p ≡ Some n → IsFrom 1 MAX_LIMIT n)
-    → (if a then ok_or (option_map Nodes o) BadValue else (if b then ok_or (option_map Limit p) BadValue else (if c then answer_map Sites sites else Err BadValue))) ≡ Ok r → IsRangedResource r
+    → (if a then ok_or (option_map Nodes o) BadValue else (if b then ok_or (option_map Limit p) BadValue else (if c then mapped Sites sites else Err BadValue))) ≡ Ok r → IsRangedResource r
 value_ranged true b c o p sites r h k e = ok_made IsRangedResource o Nodes BadValue r h e
 value_ranged false true c o p sites r h k e = ok_made IsRangedResource p Limit BadValue r k e
 value_ranged false false true o p sites r h k e = ok_mapped IsRangedResource sites Sites r (λ set is. tt) e
@@ -121,7 +112,7 @@ module _ (roster : List (List ℕ × ℕ)) where
   resources_ranged : (text : List ℕ) (r : Resources) → resources_in roster text ≡ Ok r → AreRangedResources r
   resources_ranged text r e =
       ok_mapped AreRangedResources (each (resource_in roster) (slice_split is_comma text)) last_resources r
-      (λ given is. last_ranged given (each_all (resource_in roster) IsRangedResource resource_ranged (slice_split is_comma text) given is)) e
+      (λ given is. last_ranged given (recursion_from_All IsRangedResource given (each_all (resource_in roster) IsRangedResource resource_ranged (slice_split is_comma text) given is))) e
 
 -- ---- settings
 abbrev IsRangedSetting : Setting → Type 0
@@ -200,7 +191,7 @@ module _ (roster : List (List ℕ × ℕ)) where
   settings_ranged : (items : List (Choice × List ℕ)) (s : Settings) → settings_in roster items ≡ Ok s → AreRangedSettings s
   settings_ranged items s e =
       ok_mapped AreRangedSettings (each (λ (item : Choice × List ℕ). setting_in roster item.0 item.1) items) last_settings s
-      (λ given is. all_ranged given (each_all (λ (item : Choice × List ℕ). setting_in roster item.0 item.1) IsRangedSetting (λ item. setting_ranged item.0 item.1) items given is)) e
+      (λ given is. all_ranged given (recursion_from_All IsRangedSetting given (each_all (λ (item : Choice × List ℕ). setting_in roster item.0 item.1) IsRangedSetting (λ item. setting_ranged item.0 item.1) items given is))) e
 
 -- ---- requests
 abbrev pub IsRangedAsked : Who → OrFault Asked → Type 0
