@@ -14,7 +14,7 @@ use Rattle.fed_model.specs.declared.holds.HoldKinds.{HoldKinds}
 use Rattle.fed_model.specs.declared.beginnings.Beginning.{Beginning}
 use Rattle.fed_model.specs.declared.refusals.Refusal.{Refusal}
 use Rattle.fed_model.specs.declared.replies.Reply.{Reply}
-use Rattle.fed_model.specs.Body.{Body}
+use Rattle.fed_model.specs.Body.{Body, Body.OfJob, JobBody}
 use Rattle.fed_model.specs.Hold.{all_kinds, has_kind}
 use Rattle.fed_model.specs.Grant.{term_of}
 use Rattle.fed_model.specs.JobView.{JobView}
@@ -55,16 +55,19 @@ term_in stage = option_map_or term_of stage 0
 -- the operation that a command adds, if any
 abbrev pub effect : View → Who → Command → Option Body
 effect v who (Command.Submit values held) = Some (Body.Submit who.user values held)
-effect v who (Command.Alter job changes) = Some (Body.Set job changes (replaced_sites (v.job job) changes.sites))
-effect v who (Command.Hold job kinds) = Some (Body.Hold job kinds)
+effect v who (Command.Alter job changes) =
+    Some (OfJob job (JobBody.Set changes (replaced_sites (v.job job) changes.sites)))
+effect v who (Command.Hold job kinds) = Some (OfJob job (JobBody.Hold kinds))
 effect v who (Command.Release job kinds) =
-    if has_hold_among (v.job job) kinds then Some (Body.Release job (released_holds (v.job job) kinds)) else None
-effect v who (Command.Delete job) = Some (Body.Delete job)
+    if has_hold_among (v.job job) kinds then Some (OfJob job (JobBody.Release (released_holds (v.job job) kinds))) else None
+effect v who (Command.Delete job) = Some (OfJob job JobBody.Delete)
 effect v who (Command.Grant job asker) =
-    if is_granted_to (v.job job) asker then None else Some (Body.Grant job asker (term_in (v.job job).stages.grant + 1))
-effect v who (Command.HandBack job) = Some (Body.HandBack job (term_in (v.job job).stages.grant))
-effect v who (Command.Begin job moment) = Some (Body.Begin job (beginning (v.job job) moment))
-effect v who (Command.Finish job moment status) = Some (Body.Finish job (record { moment = moment; status = status }))
+    if is_granted_to (v.job job) asker then None
+    else Some (OfJob job (JobBody.Grant asker (term_in (v.job job).stages.grant + 1)))
+effect v who (Command.HandBack job) = Some (OfJob job (JobBody.HandBack (term_in (v.job job).stages.grant)))
+effect v who (Command.Begin job moment) = Some (OfJob job (JobBody.Begin (beginning (v.job job) moment)))
+effect v who (Command.Finish job moment status) =
+    Some (OfJob job (JobBody.Finish (record { moment = moment; status = status })))
 effect v who (Command.Reserve window) = Some (Body.Reserve window)
 effect v who (Command.Cancel id) = Some (Body.Cancel id)
 

@@ -11,31 +11,28 @@ use Rattle.fed_model.specs.declared.beginnings.Beginning.{Beginning}
 use Rattle.fed_model.specs.declared.beginnings.Ending.{Ending}
 use Rattle.fed_model.specs.declared.windows.Window.{Window}
 
--- `removed` tests pairs of an element and the stamp of the operation that added it
+-- What an operation does to a job that was submitted. `removed` tests pairs of an element and the stamp of the
+-- operation that added it
+pub data JobBody : Type 0 where
+  Set : (changes : Changes) (removed : ℕ → StampValue → Bool) → JobBody
+  Hold : (kinds : HoldKinds) → JobBody
+  Release : (removed : HoldKind → StampValue → Bool) → JobBody
+  Delete : JobBody
+  Grant : (site : ℕ) (term : ℕ) → JobBody
+  HandBack : (term : ℕ) → JobBody
+  Begin : (beginning : Beginning) → JobBody
+  Finish : (ending : Ending) → JobBody
+
 pub data Body : Type 0 where
   Submit : (owner : List ℕ) (values : JobValues) (held : Bool) → Body
-  Set : (job : StampValue) (changes : Changes) (removed : ℕ → StampValue → Bool) → Body
-  Hold : (job : StampValue) (kinds : HoldKinds) → Body
-  Release : (job : StampValue) (removed : HoldKind → StampValue → Bool) → Body
-  Delete : (job : StampValue) → Body
-  Grant : (job : StampValue) (site : ℕ) (term : ℕ) → Body
-  HandBack : (job : StampValue) (term : ℕ) → Body
-  Begin : (job : StampValue) (beginning : Beginning) → Body
-  Finish : (job : StampValue) (ending : Ending) → Body
+  OfJob : (job : StampValue) (what : JobBody) → Body
   Reserve : (window : Window) → Body
   Cancel : (reservation : StampValue) → Body
 
 -- the job that the operation is of: a job is known by the stamp of its Submit
 abbrev pub job_of : StampValue → Body → Option StampValue
 job_of t (Submit owner values held) = Some t
-job_of t (Set job changes removed) = Some job
-job_of t (Hold job kinds) = Some job
-job_of t (Release job removed) = Some job
-job_of t (Delete job) = Some job
-job_of t (Grant job site term) = Some job
-job_of t (HandBack job term) = Some job
-job_of t (Begin job beginning) = Some job
-job_of t (Finish job ending) = Some job
+job_of t (OfJob job what) = Some job
 job_of t (Reserve window) = None
 job_of t (Cancel reservation) = None
 

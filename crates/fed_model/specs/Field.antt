@@ -9,7 +9,7 @@ use Rattle.fed_model.specs.declared.beginnings.Ending.{Ending}
 use Rattle.fed_model.specs.declared.values.JobValues.{JobValues}
 use Rattle.fed_model.specs.declared.values.Changes.{Changes}
 use Rattle.fed_model.specs.declared.windows.Window.{Window}
-use Rattle.fed_model.specs.Body.{Body, Body.Submit, Body.Set, Body.Delete, Body.Begin, Body.Finish, Body.Reserve, Body.Cancel}
+use Rattle.fed_model.specs.Body.{Body, Body.Submit, Body.OfJob, Body.Reserve, Body.Cancel, JobBody.Set, JobBody.Delete, JobBody.Begin, JobBody.Finish}
 
 abbrev pub owner_in : Body → Option (List ℕ)
 owner_in (Submit owner values held) = Some owner
@@ -18,7 +18,7 @@ owner_in _ = None
 -- a value that a Submit gives, and that a Set may change
 abbrev pub given : {T : Type 0} → (JobValues → T) → (Changes → Option T) → Body → Option T
 given value change (Submit owner values held) = Some (value values)
-given value change (Set job changes removed) = change changes
+given value change (OfJob job (Set changes removed)) = change changes
 given value change _ = None
 
 abbrev pub name_in : Body → Option (List ℕ)
@@ -37,15 +37,15 @@ abbrev pub account_in : Body → Option (Option (List ℕ))
 account_in = given (λ v. v.account) (λ c. c.account)
 
 abbrev pub deletion_in : Body → Option (Unit {0})
-deletion_in (Delete job) = Some tt
+deletion_in (OfJob job Delete) = Some tt
 deletion_in _ = None
 
 abbrev pub begin_in : Body → Option Beginning
-begin_in (Begin job beginning) = Some beginning
+begin_in (OfJob job (Begin beginning)) = Some beginning
 begin_in _ = None
 
 abbrev pub finish_in : Body → Option Ending
-finish_in (Finish job ending) = Some ending
+finish_in (OfJob job (Finish ending)) = Some ending
 finish_in _ = None
 
 -- the window that it gives its reservation, or none

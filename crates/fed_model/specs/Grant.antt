@@ -10,7 +10,7 @@ use Rattle.fed_lattice.specs.Stage.{greatest_value}
 use Rattle.fed_lattice.specs.Stamped.{stamped}
 use Rattle.fed_model.specs.declared.grants.GrantStage.{GrantStage}
 use Rattle.fed_model.specs.declared.grants.GrantStage.TheVariants.{Open, Returned}
-use Rattle.fed_model.specs.Body.{Body, Body.Grant, Body.HandBack}
+use Rattle.fed_model.specs.Body.{Body, Body.OfJob, JobBody.Grant, JobBody.HandBack}
 
 abbrev pub term_of : GrantStage → ℕ
 term_of (Open term stamp site) = term
@@ -42,8 +42,8 @@ grant_cmp g h = ordering_then (nat_cmp (term_of g) (term_of h))
 
 -- the stage that an operation brings, if any
 abbrev pub grant_in : StampValue × Body → Option GrantStage
-grant_in (t, Grant job site term) = Some (Open term t site)
-grant_in (t, HandBack job term) = Some (Returned term t)
+grant_in (t, OfJob job (Grant site term)) = Some (Open term t site)
+grant_in (t, OfJob job (HandBack term)) = Some (Returned term t)
 grant_in (t, _) = None
 
 -- the greatest stage that the operations bring

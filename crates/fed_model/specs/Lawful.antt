@@ -9,7 +9,7 @@ use Rattle.fed_model.specs.declared.beginnings.Beginning.{Beginning}
 use Rattle.fed_model.specs.declared.beginnings.Ending.{Ending}
 use Rattle.fed_model.specs.declared.values.JobValues.{JobValues}
 use Rattle.fed_model.specs.declared.windows.Window.{Window}
-use Rattle.fed_model.specs.Body.{Body, Body.Submit, Body.Set, Body.Hold, Body.Release, Body.Delete, Body.Grant, Body.HandBack, Body.Begin, Body.Finish, Body.Reserve, Body.Cancel, is_of_job}
+use Rattle.fed_model.specs.Body.{Body, Body.Submit, Body.OfJob, Body.Reserve, Body.Cancel, JobBody, JobBody.Set, JobBody.Release, JobBody.Grant, JobBody.HandBack, JobBody.Begin, JobBody.Finish, is_of_job}
 use Rattle.fed_model.specs.Pairs.{adds_site, adds_hold}
 
 -- the set has the operation, and its stamp is smaller than t
@@ -36,21 +36,21 @@ HasAdded {E} adds ops t job removed =
 abbrev pub IsNextTerm : History Body → StampValue → StampValue → ℕ → Type 0
 IsNextTerm ops t job zero = ⊥
 IsNextTerm ops t job (suc zero) = Unit {0}
-IsNextTerm ops t job (suc (suc term)) = (s : StampValue) × HasBefore ops t s (HandBack job (suc term))
+IsNextTerm ops t job (suc (suc term)) = (s : StampValue) × HasBefore ops t s (OfJob job (HandBack (suc term)))
 
--- what an operation rests on. A grant is handed back by the site that it was to
+-- what an operation of a job rests on besides the Submit. A grant is handed back by the site that it was to
+abbrev pub RestsOn : History Body → StampValue → StampValue → JobBody → Type 0
+RestsOn ops t job (Set changes removed) = HasAdded adds_site ops t job removed
+RestsOn ops t job (Release removed) = HasAdded adds_hold ops t job removed
+RestsOn ops t job (Grant site term) = IsNextTerm ops t job term
+RestsOn ops t job (HandBack term) = (s : StampValue) × HasBefore ops t s (OfJob job (Grant t.site term))
+RestsOn ops t job (Finish ending) = (s : StampValue) × (beginning : Beginning) × Has ops (s, OfJob job (Begin beginning))
+RestsOn ops t job _ = Unit {0}
+
+-- what an operation rests on
 abbrev pub IsGrounded : History Body → StampValue → Body → Type 0
 IsGrounded ops t (Submit owner values held) = Unit {0}
-IsGrounded ops t (Set job changes removed) = IsSubmitted ops t job × HasAdded adds_site ops t job removed
-IsGrounded ops t (Hold job kinds) = IsSubmitted ops t job
-IsGrounded ops t (Release job removed) = IsSubmitted ops t job × HasAdded adds_hold ops t job removed
-IsGrounded ops t (Delete job) = IsSubmitted ops t job
-IsGrounded ops t (Grant job site term) = IsSubmitted ops t job × IsNextTerm ops t job term
-IsGrounded ops t (HandBack job term) =
-    IsSubmitted ops t job × ((s : StampValue) × HasBefore ops t s (Grant job t.site term))
-IsGrounded ops t (Begin job beginning) = IsSubmitted ops t job
-IsGrounded ops t (Finish job ending) =
-    IsSubmitted ops t job × ((s : StampValue) × (beginning : Beginning) × Has ops (s, Begin job beginning))
+IsGrounded ops t (OfJob job what) = IsSubmitted ops t job × RestsOn ops t job what
 IsGrounded ops t (Reserve window) = Unit {0}
 IsGrounded ops t (Cancel id) = IsReserved ops t id
 
@@ -58,9 +58,9 @@ IsGrounded ops t (Cancel id) = IsReserved ops t id
 pub record IsHolder (ops : History Body) (job : StampValue) (site : ℕ) : Type 0 where
   pub stamp : StampValue
   pub term : ℕ
-  pub granted : Has ops (stamp, Grant job site term)
-  pub greatest : (s : StampValue) (other k : ℕ) → Has ops (s, Grant job other k) → k ≤ term
-  pub kept : (s : StampValue) → Has ops (s, HandBack job term) → ⊥
+  pub granted : Has ops (stamp, OfJob job (Grant site term))
+  pub greatest : (s : StampValue) (other k : ℕ) → Has ops (s, OfJob job (Grant other k)) → k ≤ term
+  pub kept : (s : StampValue) → Has ops (s, OfJob job (HandBack term)) → ⊥
 
 -- A set is lawful where each stamp is of one of the 16 sites and names one operation, each operation has in the
 -- set what it rests on, a job has at most one Begin, at most one Finish, and at most one Grant and one HandBack
@@ -69,13 +69,15 @@ pub record IsLawful (ops : History Body) : Type 0 where
   pub sites : HasSites ops
   pub distinct : OneEach ops
   pub grounded : (e : StampValue × Body) → Has ops e → IsGrounded ops e.0 e.1
-  pub one_begin : (job s t : StampValue) (a b : Beginning) → Has ops (s, Begin job a) → Has ops (t, Begin job b) → s ≡ t
-  pub one_finish : (job s t : StampValue) (a b : Ending) → Has ops (s, Finish job a) → Has ops (t, Finish job b) → s ≡ t
+  pub one_begin : (job s t : StampValue) (a b : Beginning) →
+      Has ops (s, OfJob job (Begin a)) → Has ops (t, OfJob job (Begin b)) → s ≡ t
+  pub one_finish : (job s t : StampValue) (a b : Ending) →
+      Has ops (s, OfJob job (Finish a)) → Has ops (t, OfJob job (Finish b)) → s ≡ t
   pub one_grant : (job s t : StampValue) (a b term : ℕ) →
-      Has ops (s, Grant job a term) → Has ops (t, Grant job b term) → s ≡ t
+      Has ops (s, OfJob job (Grant a term)) → Has ops (t, OfJob job (Grant b term)) → s ≡ t
   pub one_return : (job s t : StampValue) (term : ℕ) →
-      Has ops (s, HandBack job term) → Has ops (t, HandBack job term) → s ≡ t
-  pub begun_held : (job s : StampValue) (a : Beginning) → Has ops (s, Begin job a) → IsHolder ops job s.site
+      Has ops (s, OfJob job (HandBack term)) → Has ops (t, OfJob job (HandBack term)) → s ≡ t
+  pub begun_held : (job s : StampValue) (a : Beginning) → Has ops (s, OfJob job (Begin a)) → IsHolder ops job s.site
 
 -- Two sets are kin where both and their union are lawful and each operation of the one whose stamp the other's
 -- version covers is in the other.

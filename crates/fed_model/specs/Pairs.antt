@@ -7,7 +7,7 @@ use Rattle.fed_lattice.specs.History.{History}
 use Rattle.fed_model.specs.declared.holds.HoldKind.{HoldKind}
 use Rattle.fed_model.specs.declared.holds.HoldKind.TheVariants.{User}
 use Rattle.fed_model.specs.Hold.{has_kind}
-use Rattle.fed_model.specs.Body.{Body, Body.Submit, Body.Set, Body.Hold, Body.Release}
+use Rattle.fed_model.specs.Body.{Body, Body.Submit, Body.OfJob, JobBody.Set, JobBody.Hold, JobBody.Release}
 
 -- `adds` says which elements an operation adds, `removes` which pairs it removes
 module _ {C E : Type 0} (adds : C → E → Bool) (removes : C → E → StampValue → Bool) where
@@ -29,21 +29,21 @@ is_site_named (Some sites) site = has_site sites site
 -- the sites that an operation adds
 abbrev pub adds_site : Body → ℕ → Bool
 adds_site (Submit owner values held) site = has_site values.sites site
-adds_site (Set job changes removed) site = is_site_named changes.sites site
+adds_site (OfJob job (Set changes removed)) site = is_site_named changes.sites site
 adds_site _ site = false
 
 -- the pairs of sites that it removes
 abbrev pub removes_site : Body → ℕ → StampValue → Bool
-removes_site (Set job changes removed) site tag = removed site tag
+removes_site (OfJob job (Set changes removed)) site tag = removed site tag
 removes_site _ site tag = false
 
 -- the holds that an operation adds: a Submit may add a user hold
 abbrev pub adds_hold : Body → HoldKind → Bool
 adds_hold (Submit owner values held) User = held
-adds_hold (Hold job kinds) kind = has_kind kinds kind
+adds_hold (OfJob job (Hold kinds)) kind = has_kind kinds kind
 adds_hold _ kind = false
 
 -- the pairs of holds that it removes
 abbrev pub removes_hold : Body → HoldKind → StampValue → Bool
-removes_hold (Release job removed) kind tag = removed kind tag
+removes_hold (OfJob job (Release removed)) kind tag = removed kind tag
 removes_hold _ kind tag = false

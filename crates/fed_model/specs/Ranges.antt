@@ -17,7 +17,7 @@ use Rattle.fed_model.specs.declared.terms.TheConstants.{MAX_TERM}
 use Rattle.fed_model.specs.declared.values.Changes.{Changes}
 use Rattle.fed_model.specs.declared.values.JobValues.{JobValues}
 use Rattle.fed_model.specs.declared.windows.Window.{Window}
-use Rattle.fed_model.specs.Body.{Body, Body.Submit, Body.Set, Body.Grant, Body.HandBack, Body.Begin, Body.Finish, Body.Reserve}
+use Rattle.fed_model.specs.Body.{Body, Body.Submit, Body.OfJob, Body.Reserve, JobBody.Set, JobBody.Grant, JobBody.HandBack, JobBody.Begin, JobBody.Finish}
 
 abbrev pub IsFrom : ℕ → ℕ → ℕ → Type 0
 IsFrom least most n = (least ≤ n) × (n ≤ most)
@@ -71,11 +71,11 @@ IsEnding e = IsFrom 0 MAX_MOMENT e.moment × IsFrom 0 MAX_STATUS e.status
 -- the values of an operation are in range
 abbrev pub IsInRange : Body → Type 0
 IsInRange (Submit owner values held) = IsName owner × AreValues values
-IsInRange (Set job changes removed) = AreChanges changes
-IsInRange (Grant job site term) = IsSite site × IsFrom 1 MAX_TERM term
-IsInRange (HandBack job term) = IsFrom 1 MAX_TERM term
-IsInRange (Begin job beginning) = IsBeginning beginning
-IsInRange (Finish job ending) = IsEnding ending
+IsInRange (OfJob job (Set changes removed)) = AreChanges changes
+IsInRange (OfJob job (Grant site term)) = IsSite site × IsFrom 1 MAX_TERM term
+IsInRange (OfJob job (HandBack term)) = IsFrom 1 MAX_TERM term
+IsInRange (OfJob job (Begin beginning)) = IsBeginning beginning
+IsInRange (OfJob job (Finish ending)) = IsEnding ending
 IsInRange (Reserve window) = IsWindow window
 IsInRange _ = Unit {0}
 
