@@ -22,7 +22,7 @@ use Rattle.fed_model.specs.declared.beginnings.Ending.{Ending}
 use Rattle.fed_model.specs.declared.refusals.Refusal.{Refusal}
 use Rattle.fed_model.specs.declared.replies.Reply.{Reply}
 use Rattle.fed_model.specs.declared.windows.Window.{Window}
-use Rattle.fed_model.specs.Body.{Body, Body.Submit, Body.Grant, Body.HandBack, Body.Begin, Body.Finish, Body.Reserve, is_of_job, is_of_reservation, of_job, of_reservation}
+use Rattle.fed_model.specs.Body.{Body, Body.Submit, Body.OfJob, Body.Reserve, JobBody.Grant, JobBody.HandBack, JobBody.Begin, JobBody.Finish, is_of_job, is_of_reservation, of_job, of_reservation}
 use Rattle.fed_model.specs.Field.{begin_in, finish_in, window_in, field}
 use Rattle.fed_model.specs.JobView.{JobView}
 use Rattle.fed_model.specs.Letter.{is_submitted, is_gone, is_granted_to}
@@ -45,14 +45,14 @@ use Rattle.fed_theory.proofs.NextStamps.{IsNext, next_is, before_next, fresh_nex
 
 -- a Grant is made by the job's origin, and a Finish by the site that began the job
 abbrev pub IsPlaced : History Body → StampValue → Body → Type 0
-IsPlaced ops t (Grant job site term) = t.site ≡ job.site
-IsPlaced ops t (Finish job ending) = (s : StampValue) × (a : Beginning) × Has ops (s, Begin job a) × (s.site ≡ t.site)
+IsPlaced ops t (OfJob job (Grant site term)) = t.site ≡ job.site
+IsPlaced ops t (OfJob job (Finish ending)) = (s : StampValue) × (a : Beginning) × Has ops (s, OfJob job (Begin a)) × (s.site ≡ t.site)
 IsPlaced ops t _ = Unit {0}
 
 -- what the limits ask: the site is not full, terms are at most 1,000,000,000, and windows are as they may be
 abbrev pub IsWithin : History Body → StampValue → Body → Type 0
 IsWithin ops t (Submit owner values held) = jobs_of (view ops) t.site < 10_000
-IsWithin ops t (Grant job site term) = term ≤ 1_000_000_000
+IsWithin ops t (OfJob job (Grant site term)) = term ≤ 1_000_000_000
 IsWithin ops t (Reserve window) = (is_bad_window window ≡ false) × (reservations_of (view ops) t.site < 1_000)
 IsWithin ops t _ = Unit {0}
 
@@ -68,9 +68,9 @@ same_holder ops l job a b h k =
     let low : h.term ≤ k.term = k.greatest h.stamp a h.term h.granted in
     let high : k.term ≤ h.term = h.greatest k.stamp b k.term k.granted in
     let same : k.term ≡ h.term = omega arith in
-    let g : Has ops (k.stamp, Grant job b h.term) = subst (λ (n : ℕ). Has ops (k.stamp, Grant job b n)) same k.granted in
-    let e = l.distinct (h.stamp, Grant job a h.term) (k.stamp, Grant job b h.term) h.granted g (l.one_grant job h.stamp k.stamp a b h.term h.granted g) in
-    let p : ◌≡◌ {A = Body} (Grant job a h.term) (Grant job b h.term) = ap (λ (x : StampValue × Body). x.1) e in cc
+    let g : Has ops (k.stamp, OfJob job (Grant b h.term)) = subst (λ (n : ℕ). Has ops (k.stamp, OfJob job (Grant b n))) same k.granted in
+    let e = l.distinct (h.stamp, OfJob job (Grant a h.term)) (k.stamp, OfJob job (Grant b h.term)) h.granted g (l.one_grant job h.stamp k.stamp a b h.term h.granted g) in
+    let p : ◌≡◌ {A = Body} (OfJob job (Grant a h.term)) (OfJob job (Grant b h.term)) = ap (λ (x : StampValue × Body). x.1) e in cc
 
 -- ---- tables of refusals
 -- none applies
@@ -115,30 +115,30 @@ module _ (ops : History Body) (l : IsLawful ops) (here : ℕ) (t : StampValue) (
       let a = live_added adds_hold removes_hold job kind tag (and_parts _ (((view ops).job job).holds kind tag) e).1 in (a.0, (a.1, before tag a.0 a.1), a.2, a.3)
 
   -- ---- progress
-  begin_body : (job : StampValue) (body : Body) (a : Beginning) (s : StampValue) → begin_in body ≡ Some a → is_of_job job (s, body) ≡ true → body ≡ Begin job a
-  begin_body job (Begin named b) a s e of =
-      let p : named ≡ job = same_stamp_is named job of in let q : b ≡ a = cc in (λ i. Begin (p i) (q i))
+  begin_body : (job : StampValue) (body : Body) (a : Beginning) (s : StampValue) → begin_in body ≡ Some a → is_of_job job (s, body) ≡ true → body ≡ OfJob job (Begin a)
+  begin_body job (OfJob named (Begin b)) a s e of =
+      let p : named ≡ job = same_stamp_is named job of in let q : b ≡ a = cc in (λ i. OfJob (p i) (Begin (q i)))
   begin_body job _ a s e of = cc
 
-  begun : (job : StampValue) → is_none ((view ops).job job).stages.begun ≡ false → (s : StampValue) × (a : Beginning) × Has ops (s, Begin job a)
+  begun : (job : StampValue) → is_none ((view ops).job job).stages.begun ≡ false → (s : StampValue) × (a : Beginning) × Has ops (s, OfJob job (Begin a))
   begun job e =
       let o = some_found (field begin_in (of_job job ops)) (not-false _ e) in
       let f = field_found begin_in (of_job job ops) o.0 o.1 in
       let m = Has-filter (is_of_job job) ops (o.0.0, f.0) f.1 in
       (o.0.0, o.0.1, subst (λ (body : Body). Has ops (o.0.0, body)) (begin_body job f.0 o.0.1 o.0.0 f.2 m.1) m.0)
 
-  not_begun : (job : StampValue) → is_some ((view ops).job job).stages.begun ≡ false → (s : StampValue) (a : Beginning) → Has ops (s, Begin job a) → ⊥
+  not_begun : (job : StampValue) → is_some ((view ops).job job).stages.begun ≡ false → (s : StampValue) (a : Beginning) → Has ops (s, OfJob job (Begin a)) → ⊥
   not_begun job e s a h =
-      let n = field_none begin_in (of_job job ops) (none_found _ e) s (Begin job a) (filter-Has (is_of_job job) ops (s, Begin job a) h (same_stamp_itself job)) in cc
+      let n = field_none begin_in (of_job job ops) (none_found _ e) s (OfJob job (Begin a)) (filter-Has (is_of_job job) ops (s, OfJob job (Begin a)) h (same_stamp_itself job)) in cc
 
   gone_from_finished : (job : StampValue) → is_some ((view ops).job job).stages.finished ≡ true → is_gone ((view ops).job job) ≡ true
   gone_from_finished job e =
       let j : JobView = (view ops).job job in or_left (is_some j.stages.finished) (j.stages.deleted && is_none j.stages.begun) e
 
-  not_finished : (job : StampValue) → is_gone ((view ops).job job) ≡ false → (s : StampValue) (a : Ending) → Has ops (s, Finish job a) → ⊥
+  not_finished : (job : StampValue) → is_gone ((view ops).job job) ≡ false → (s : StampValue) (a : Ending) → Has ops (s, OfJob job (Finish a)) → ⊥
   not_finished job e s a h = elim (cases_Bool (is_some ((view ops).job job).stages.finished)) [
     | inl there ↦ both_ways _ e (gone_from_finished job there)
-    | inr none ↦ (let n = field_none finish_in (of_job job ops) (none_found _ none) s (Finish job a) (filter-Has (is_of_job job) ops (s, Finish job a) h (same_stamp_itself job)) in cc)
+    | inr none ↦ (let n = field_none finish_in (of_job job ops) (none_found _ none) s (OfJob job (Finish a)) (filter-Has (is_of_job job) ops (s, OfJob job (Finish a)) h (same_stamp_itself job)) in cc)
   ]
 
   -- ---- reservations
@@ -157,12 +157,12 @@ module _ (ops : History Body) (l : IsLawful ops) (here : ℕ) (t : StampValue) (
       (w, (h, before id (Reserve w) h))
 
   -- ---- grants
-  next_term : (job : StampValue) (term : ℕ) (s : StampValue) → Has ops (s, HandBack job term) → IsNextTerm ops t job (suc term)
+  next_term : (job : StampValue) (term : ℕ) (s : StampValue) → Has ops (s, OfJob job (HandBack term)) → IsNextTerm ops t job (suc term)
   next_term job zero s h = tt
-  next_term job (suc term) s h = (s, (h, before s (HandBack job (suc term)) h))
+  next_term job (suc term) s h = (s, (h, before s (OfJob job (HandBack (suc term))) h))
 
   grant_follows : (job : StampValue) (asker : ℕ) (g : Option GrantStage) → ((view ops).job job).stages.grant ≡ g → is_taken asker ((view ops).job job) ≡ false → is_granted_to ((view ops).job job) asker ≡ false → is_last_term g ≡ false
-      → (IsNextTerm ops t job (term_in g + 1)) × (MayFollow ops t (Grant job asker (term_in g + 1))) × (term_in g + 1 ≤ 1_000_000_000)
+      → (IsNextTerm ops t job (term_in g + 1)) × (MayFollow ops t (OfJob job (Grant asker (term_in g + 1)))) × (term_in g + 1 ≤ 1_000_000_000)
   grant_follows job asker None is free not_mine last = (tt, λ s other h. no_grants ops job is s other 1 h, omega arith)
   grant_follows job asker (Some (Open term s holder)) is free not_mine last =
       let a = rw is at free in let b = rw is at not_mine in let c = rw b at a in cc
@@ -185,17 +185,17 @@ module _ (ops : History Body) (l : IsLawful ops) (here : ℕ) (t : StampValue) (
   body_unless true body new e h = cc
   body_unless false body new e h = is_body body new e (h refl)
 
-  at_here : (job : StampValue) (site term : ℕ) → ((s : StampValue) × Has ops (s, Grant job here term)) → (s : StampValue) × Has ops (s, Grant job t.site term)
-  at_here job site term g = (g.0, subst (λ (n : ℕ). Has ops (g.0, Grant job n term)) (sym next.site) g.1)
+  at_here : (job : StampValue) (site term : ℕ) → ((s : StampValue) × Has ops (s, OfJob job (Grant here term))) → (s : StampValue) × Has ops (s, OfJob job (Grant t.site term))
+  at_here job site term g = (g.0, subst (λ (n : ℕ). Has ops (g.0, OfJob job (Grant n term))) (sym next.site) g.1)
 
-  handed_back : (job : StampValue) → is_granted_to ((view ops).job job) here ≡ true → IsSubmitted ops t job → is_some ((view ops).job job).stages.begun ≡ false → IsAllowed ops t (HandBack job (term_in ((view ops).job job).stages.grant))
+  handed_back : (job : StampValue) → is_granted_to ((view ops).job job) here ≡ true → IsSubmitted ops t job → is_some ((view ops).job job).stages.begun ≡ false → IsAllowed ops t (OfJob job (HandBack (term_in ((view ops).job job).stages.grant)))
   handed_back job e sub idle =
       let o = granted_open ops job here e in
       let term : ℕ = o.0 in
       let g = at_here job here term (o.1, open_granted ops job term o.1 here o.2) in
       let same : term ≡ term_in ((view ops).job job).stages.grant = sym (ap term_in o.2) in
-      subst (λ (n : ℕ). IsAllowed ops t (HandBack job n)) same (record {
-        grounded = (sub, (g.0, (g.1, before g.0 (Grant job t.site term) g.1)));
+      subst (λ (n : ℕ). IsAllowed ops t (OfJob job (HandBack n))) same (record {
+        grounded = (sub, (g.0, (g.1, before g.0 (OfJob job (Grant t.site term)) g.1)));
         may = (λ s h. open_kept ops job term o.1 here o.2 s h, not_begun job idle);
         placed = tt;
         limited = tt;
@@ -214,11 +214,11 @@ module _ (ops : History Body) (l : IsLawful ops) (here : ℕ) (t : StampValue) (
   effect_allowed who (Command.Alter job changes) new r e =
       is_body _ new e (record { grounded = (submitted job r.0, sites_added job changes.sites); may = tt; placed = tt; limited = tt })
   effect_allowed who (Command.Hold job kinds) new r e =
-      is_body _ new e (record { grounded = submitted job r.0; may = tt; placed = tt; limited = tt })
+      is_body _ new e (record { grounded = (submitted job r.0, tt); may = tt; placed = tt; limited = tt })
   effect_allowed who (Command.Release job kinds) new r e =
       body_if _ _ new e (λ _. record { grounded = (submitted job r.0, holds_added job kinds); may = tt; placed = tt; limited = tt })
   effect_allowed who (Command.Delete job) new r e =
-      is_body _ new e (record { grounded = submitted job r.0; may = tt; placed = tt; limited = tt })
+      is_body _ new e (record { grounded = (submitted job r.0, tt); may = tt; placed = tt; limited = tt })
   effect_allowed who (Command.Grant job asker) new r e =
       body_unless (is_granted_to ((view ops).job job) asker) _ new e (λ f.
       let g = grant_follows job asker ((view ops).job job).stages.grant refl r.1.1.1.1.1.0 f r.1.1.1.1.1.1.0 in
@@ -232,7 +232,7 @@ module _ (ops : History Body) (l : IsLawful ops) (here : ℕ) (t : StampValue) (
       is_body _ new e (handed_back job (not-false _ r.1.1.0) (submitted job r.0) r.1.1.1.0)
   effect_allowed who (Command.Begin job moment) new r e =
       is_body _ new e (record {
-        grounded = submitted job r.0;
+        grounded = (submitted job r.0, tt);
         may = (not_begun job r.1.1.1.1.0, holds job (not-false _ r.1.1.1.0));
         placed = tt;
         limited = tt;

@@ -10,7 +10,7 @@ use Rattle.fed_lattice.specs.History.{History}
 use Rattle.fed_lattice.specs.VersionOf.{version_of, HasSites}
 use Rattle.fed_lattice.proofs.VersionOfLaws.{version_of-append, version_of-origin, version_of-Has}
 use Rattle.fed_model.specs.declared.beginnings.Beginning.{Beginning}
-use Rattle.fed_model.specs.Body.{Body, Body.Grant, Body.HandBack, Body.Begin, Body.Finish}
+use Rattle.fed_model.specs.Body.{Body, Body.OfJob, JobBody.Grant, JobBody.HandBack, JobBody.Begin, JobBody.Finish}
 use Rattle.fed_model.specs.Lawful.{IsNextTerm, IsGrounded, IsHolder, IsLawful, AreKin}
 use Rattle.fed_theory.proofs.LawfulLaws.{grounded_more}
 use Rattle.fed_theory.proofs.Allowed.{IsPlaced}
@@ -24,35 +24,35 @@ module _ (ops : History Body) (l : IsLawful ops) where
   positive t job zero n = absurd n
   positive t job (suc k) n = omega arith
 
-  pub term_positive : (job s : StampValue) (site term : ℕ) → Has ops (s, Grant job site term) → 1 ≤ term
-  term_positive job s site term h = positive s job term (l.grounded (s, Grant job site term) h).1
+  pub term_positive : (job s : StampValue) (site term : ℕ) → Has ops (s, OfJob job (Grant site term)) → 1 ≤ term
+  term_positive job s site term h = positive s job term (l.grounded (s, OfJob job (Grant site term)) h).1
 
   -- of one term there is one grant
-  pub same_grant : (job s t : StampValue) (a b term : ℕ) → Has ops (s, Grant job a term) → Has ops (t, Grant job b term) → a ≡ b
+  pub same_grant : (job s t : StampValue) (a b term : ℕ) → Has ops (s, OfJob job (Grant a term)) → Has ops (t, OfJob job (Grant b term)) → a ≡ b
   same_grant job s t a b term h k =
-      let e = l.distinct (s, Grant job a term) (t, Grant job b term) h k (l.one_grant job s t a b term h k) in
-      let p : ◌≡◌ {A = Body} (Grant job a term) (Grant job b term) = ap (λ (x : StampValue × Body). x.1) e in cc
+      let e = l.distinct (s, OfJob job (Grant a term)) (t, OfJob job (Grant b term)) h k (l.one_grant job s t a b term h k) in
+      let p : ◌≡◌ {A = Body} (OfJob job (Grant a term)) (OfJob job (Grant b term)) = ap (λ (x : StampValue × Body). x.1) e in cc
 
   -- a grant is handed back by the site that it was to
-  pub returner : (job s t : StampValue) (site term : ℕ) → Has ops (s, Grant job site term) → Has ops (t, HandBack job term) → t.site ≡ site
+  pub returner : (job s t : StampValue) (site term : ℕ) → Has ops (s, OfJob job (Grant site term)) → Has ops (t, OfJob job (HandBack term)) → t.site ≡ site
   returner job s t site term g h =
-      let r = (l.grounded (t, HandBack job term) h).1 in same_grant job r.0 s t.site site term r.1.0 g
+      let r = (l.grounded (t, OfJob job (HandBack term)) h).1 in same_grant job r.0 s t.site site term r.1.0 g
 
   -- each term below one that was granted was handed back
-  pub returned_below : (job s : StampValue) (site term k : ℕ) → Has ops (s, Grant job site term) → 1 ≤ k → k < term → (t : StampValue) × Has ops (t, HandBack job k)
+  pub returned_below : (job s : StampValue) (site term k : ℕ) → Has ops (s, OfJob job (Grant site term)) → 1 ≤ k → k < term → (t : StampValue) × Has ops (t, OfJob job (HandBack k))
   returned_below job s site zero k h p q = absurd (omega arith)
   returned_below job s site (suc zero) k h p q = absurd (omega arith)
   returned_below job s site (suc (suc term)) k h p q =
-      let r = (l.grounded (s, Grant job site (suc (suc term))) h).1 in
-      let g = (l.grounded (r.0, HandBack job (suc term)) r.1.0).1 in
+      let r = (l.grounded (s, OfJob job (Grant site (suc (suc term)))) h).1 in
+      let g = (l.grounded (r.0, OfJob job (HandBack (suc term))) r.1.0).1 in
       let below = returned_below job g.0 r.0.site (suc term) k g.1.0 p in
       elim (cases_eq k (suc term)) [
-        | inl e ↦ (r.0, subst (λ (n : ℕ). Has ops (r.0, HandBack job n)) (sym e) r.1.0)
+        | inl e ↦ (r.0, subst (λ (n : ℕ). Has ops (r.0, OfJob job (HandBack n))) (sym e) r.1.0)
         | inr differ ↦ below (omega arith)
       ]
 
   -- of two grants that are not handed back neither term is above the other
-  pub same_term : (job s t : StampValue) (a b k m : ℕ) → Has ops (s, Grant job a k) → Has ops (t, Grant job b m) → ((u : StampValue) → Has ops (u, HandBack job k) → ⊥) → m ≤ k
+  pub same_term : (job s t : StampValue) (a b k m : ℕ) → Has ops (s, OfJob job (Grant a k)) → Has ops (t, OfJob job (Grant b m)) → ((u : StampValue) → Has ops (u, OfJob job (HandBack k)) → ⊥) → m ≤ k
   same_term job s t a b k m g h kept = elim (cases_le m k) [
     | inl p ↦ p
     | inr p ↦ (let r = returned_below job t b m k h (term_positive job s a k g) p in absurd (kept r.0 r.1))
@@ -64,8 +64,8 @@ module _ (ops : History Body) (l : IsLawful ops) where
 -- ---- what is placed in a set is placed in a larger one
 module _ (ops more : History Body) (includes : Includes more ops) where
   pub placed_more : (t : StampValue) (body : Body) → IsPlaced ops t body → IsPlaced more t body
-  placed_more t (Grant job site term) p = p
-  placed_more t (Finish job ending) p = (p.0, p.1, includes _ p.2, p.3)
+  placed_more t (OfJob job (Grant site term)) p = p
+  placed_more t (OfJob job (Finish ending)) p = (p.0, p.1, includes _ p.2, p.3)
   placed_more t _ p = tt
 
   -- a larger set has a version that is not below
@@ -84,8 +84,8 @@ module _ (ops more : History Body) (includes : Includes more ops) where
 pub record IsHeld (history ops : History Body) (job : StampValue) (site : ℕ) : Type 0 where
   pub stamp : StampValue
   pub term : ℕ
-  pub granted : Has ops (stamp, Grant job site term)
-  pub kept : (s : StampValue) → Has history (s, HandBack job term) → ⊥
+  pub granted : Has ops (stamp, OfJob job (Grant site term))
+  pub kept : (s : StampValue) → Has history (s, OfJob job (HandBack term)) → ⊥
 
 -- a set of the history: of each site the operations up to some counter, with all that they rest on
 pub record IsCut (history ops : History Body) : Type 0 where
@@ -93,7 +93,7 @@ pub record IsCut (history ops : History Body) : Type 0 where
   pub whole : (e : StampValue × Body) → Has history e → covers (version_of ops) e.0 ≡ true → Has ops e
   pub grounded : (e : StampValue × Body) → Has ops e → IsGrounded ops e.0 e.1
   pub placed : (e : StampValue × Body) → Has ops e → IsPlaced ops e.0 e.1
-  pub held : (job s : StampValue) (a : Beginning) → Has ops (s, Begin job a) → IsHeld history ops job s.site
+  pub held : (job s : StampValue) (a : Beginning) → Has ops (s, OfJob job (Begin a)) → IsHeld history ops job s.site
 
 -- each operation has a counter in the range of counters
 abbrev pub AreCounted : History Body → Type 0
@@ -131,7 +131,7 @@ cut_union history xs ys p q = record {
     | inl k ↦ placed_more xs (xs ++ ys) (Has-left xs ys) e.0 e.1 (p.placed e k)
     | inr k ↦ placed_more ys (xs ++ ys) (Has-right xs ys) e.0 e.1 (q.placed e k)
   ];
-  held = λ job s a h. elim (Has-cases xs ys (s, Begin job a) h) [
+  held = λ job s a h. elim (Has-cases xs ys (s, OfJob job (Begin a)) h) [
     | inl k ↦ held_more history xs (xs ++ ys) job s.site (Has-left xs ys) (p.held job s a k)
     | inr k ↦ held_more history ys (xs ++ ys) job s.site (Has-right xs ys) (q.held job s a k)
   ];

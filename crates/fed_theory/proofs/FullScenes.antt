@@ -10,7 +10,7 @@ use Rattle.fed_model.specs.declared.refusals.Refusal.{Refusal}
 use Rattle.fed_model.specs.declared.replies.Reply.{Reply}
 use Rattle.fed_model.specs.declared.values.JobValues.{JobValues}
 use Rattle.fed_model.specs.declared.windows.Window.{Window}
-use Rattle.fed_model.specs.Body.{Body, Body.Submit, Body.Grant, Body.HandBack}
+use Rattle.fed_model.specs.Body.{Body, Body.Submit, Body.OfJob, JobBody.Grant, JobBody.HandBack, JobBody}
 use Rattle.fed_model.specs.JobView.{job_view}
 use Rattle.fed_model.specs.Letter.{any_below}
 use Rattle.fed_model.specs.View.{View, view}
@@ -55,19 +55,19 @@ unfolding answer_to any_below
 nothing_to_release = refl
 
 -- one counter is left
-last_stamp : answer_to (record full { version = 1 ∷ 999_999_999 ∷ replicate 14 0 }) 0 ann (Command.Delete job) ≡ Replies Reply.Done (Some (at 1_000_000_000 0, Body.Delete job))
+last_stamp : answer_to (record full { version = 1 ∷ 999_999_999 ∷ replicate 14 0 }) 0 ann (Command.Delete job) ≡ Replies Reply.Done (Some (at 1_000_000_000 0, Body.OfJob job JobBody.Delete))
 unfolding answer_to any_below
 last_stamp = refl
 
 -- ---- the last term was handed back
 abbrev last_term : ℕ → History Body
-last_term term = submitted ++ (at 2 0, Grant job 0 term) ∷ (at 3 0, HandBack job term) ∷ []
+last_term term = submitted ++ (at 2 0, OfJob job (Grant 0 term)) ∷ (at 3 0, OfJob job (HandBack term)) ∷ []
 
 no_term : answer (last_term 1_000_000_000) 0 ann (Command.Grant job 0) ≡ Refuses Refusal.ClockFull
 unfolding answer_to any_below
 no_term = refl
 
-one_term : answer (last_term 999_999_999) 0 ann (Command.Grant job 0) ≡ Replies Reply.Granted (Some (at 4 0, Grant job 0 1_000_000_000))
+one_term : answer (last_term 999_999_999) 0 ann (Command.Grant job 0) ≡ Replies Reply.Granted (Some (at 4 0, OfJob job (Grant 0 1_000_000_000)))
 unfolding answer_to any_below
 one_term = refl
 

@@ -12,7 +12,7 @@ use Rattle.fed_lattice.specs.Order.{IsUpTo}
 use Rattle.fed_lattice.proofs.FilterLaws.{Has-filter, filter-Has}
 use Rattle.fed_model.specs.declared.grants.GrantStage.{GrantStage}
 use Rattle.fed_model.specs.declared.grants.GrantStage.TheVariants.{Open, Returned}
-use Rattle.fed_model.specs.Body.{Body, Body.Grant, Body.HandBack, is_of_job, of_job}
+use Rattle.fed_model.specs.Body.{Body, Body.OfJob, JobBody.Grant, JobBody.HandBack, is_of_job, of_job}
 use Rattle.fed_model.specs.Grant.{term_of, grant_cmp, grant_in}
 use Rattle.fed_theory.proofs.FoundLaws.{grant_found, grant_greatest, grant_none}
 use Rattle.fed_lattice.specs.ExactLaws.{same_stamp_is, same_stamp_itself}
@@ -38,47 +38,47 @@ returned_above term s t site e = let p : nat_cmp term term ≡ Equal = tied_itse
 
 module _ (ops : History Body) (job : StampValue) where
   -- ---- from the operations to the stage
-  grant_of : (s : StampValue) (site term : ℕ) → Has ops (s, Grant job site term) → Has (of_job job ops) (s, Grant job site term)
-  grant_of s site term h = filter-Has (is_of_job job) ops (s, Grant job site term) h (same_stamp_itself job)
+  grant_of : (s : StampValue) (site term : ℕ) → Has ops (s, OfJob job (Grant site term)) → Has (of_job job ops) (s, OfJob job (Grant site term))
+  grant_of s site term h = filter-Has (is_of_job job) ops (s, OfJob job (Grant site term)) h (same_stamp_itself job)
 
-  return_of : (s : StampValue) (term : ℕ) → Has ops (s, HandBack job term) → Has (of_job job ops) (s, HandBack job term)
-  return_of s term h = filter-Has (is_of_job job) ops (s, HandBack job term) h (same_stamp_itself job)
+  return_of : (s : StampValue) (term : ℕ) → Has ops (s, OfJob job (HandBack term)) → Has (of_job job ops) (s, OfJob job (HandBack term))
+  return_of s term h = filter-Has (is_of_job job) ops (s, OfJob job (HandBack term)) h (same_stamp_itself job)
 
   -- no grant has a greater term than the stage
-  pub grants_below : (g : GrantStage) → ((view ops).job job).stages.grant ≡ Some g → (s : StampValue) (site term : ℕ) → Has ops (s, Grant job site term) → term ≤ term_of g
+  pub grants_below : (g : GrantStage) → ((view ops).job job).stages.grant ≡ Some g → (s : StampValue) (site term : ℕ) → Has ops (s, OfJob job (Grant site term)) → term ≤ term_of g
   grants_below g is s site term h =
-      upto_term (Open term s site) g (grant_greatest (of_job job ops) g is (s, Grant job site term) (Open term s site) (grant_of s site term h) refl)
+      upto_term (Open term s site) g (grant_greatest (of_job job ops) g is (s, OfJob job (Grant site term)) (Open term s site) (grant_of s site term h) refl)
 
-  pub no_grants : ((view ops).job job).stages.grant ≡ None → (s : StampValue) (site term : ℕ) → Has ops (s, Grant job site term) → ⊥
-  no_grants is s site term h = let n = grant_none (of_job job ops) is (s, Grant job site term) (grant_of s site term h) in cc
+  pub no_grants : ((view ops).job job).stages.grant ≡ None → (s : StampValue) (site term : ℕ) → Has ops (s, OfJob job (Grant site term)) → ⊥
+  no_grants is s site term h = let n = grant_none (of_job job ops) is (s, OfJob job (Grant site term)) (grant_of s site term h) in cc
 
   -- the term of an open stage is not handed back
-  pub open_kept : (term : ℕ) (t : StampValue) (site : ℕ) → ((view ops).job job).stages.grant ≡ Some (Open term t site) → (s : StampValue) → Has ops (s, HandBack job term) → ⊥
+  pub open_kept : (term : ℕ) (t : StampValue) (site : ℕ) → ((view ops).job job).stages.grant ≡ Some (Open term t site) → (s : StampValue) → Has ops (s, OfJob job (HandBack term)) → ⊥
   open_kept term t site is s h =
-      returned_above term s t site (grant_greatest (of_job job ops) (Open term t site) is (s, HandBack job term) (Returned term s) (return_of s term h) refl)
+      returned_above term s t site (grant_greatest (of_job job ops) (Open term t site) is (s, OfJob job (HandBack term)) (Returned term s) (return_of s term h) refl)
 
   -- ---- from the stage to the operations
-  open_body : (e : StampValue × Body) (term : ℕ) (s : StampValue) (site : ℕ) → grant_in e ≡ Some (Open term s site) → is_of_job job e ≡ true → e ≡ (s, Grant job site term)
-  open_body (t, Grant named other k) term s site e of =
+  open_body : (e : StampValue × Body) (term : ℕ) (s : StampValue) (site : ℕ) → grant_in e ≡ Some (Open term s site) → is_of_job job e ≡ true → e ≡ (s, OfJob job (Grant site term))
+  open_body (t, OfJob named (Grant other k)) term s site e of =
       let p : named ≡ job = same_stamp_is named job of in
       let q : t ≡ s = cc in let r : k ≡ term = cc in let o : other ≡ site = cc in
-      (λ i. (q i, Grant (p i) (o i) (r i)))
+      (λ i. (q i, OfJob (p i) (Grant (o i) (r i))))
   open_body (t, _) term s site e of = cc
 
-  returned_body : (e : StampValue × Body) (term : ℕ) (s : StampValue) → grant_in e ≡ Some (Returned term s) → is_of_job job e ≡ true → e ≡ (s, HandBack job term)
-  returned_body (t, HandBack named k) term s e of =
+  returned_body : (e : StampValue × Body) (term : ℕ) (s : StampValue) → grant_in e ≡ Some (Returned term s) → is_of_job job e ≡ true → e ≡ (s, OfJob job (HandBack term))
+  returned_body (t, OfJob named (HandBack k)) term s e of =
       let p : named ≡ job = same_stamp_is named job of in
       let q : t ≡ s = cc in let r : k ≡ term = cc in
-      (λ i. (q i, HandBack (p i) (r i)))
+      (λ i. (q i, OfJob (p i) (HandBack (r i))))
   returned_body (t, _) term s e of = cc
 
-  pub open_granted : (term : ℕ) (s : StampValue) (site : ℕ) → ((view ops).job job).stages.grant ≡ Some (Open term s site) → Has ops (s, Grant job site term)
+  pub open_granted : (term : ℕ) (s : StampValue) (site : ℕ) → ((view ops).job job).stages.grant ≡ Some (Open term s site) → Has ops (s, OfJob job (Grant site term))
   open_granted term s site is =
       let f = grant_found (of_job job ops) (Open term s site) is in
       let m = Has-filter (is_of_job job) ops f.0 f.1 in
       subst (Has ops) (open_body f.0 term s site f.2 m.1) m.0
 
-  pub returned_made : (term : ℕ) (s : StampValue) → ((view ops).job job).stages.grant ≡ Some (Returned term s) → Has ops (s, HandBack job term)
+  pub returned_made : (term : ℕ) (s : StampValue) → ((view ops).job job).stages.grant ≡ Some (Returned term s) → Has ops (s, OfJob job (HandBack term))
   returned_made term s is =
       let f = grant_found (of_job job ops) (Returned term s) is in
       let m = Has-filter (is_of_job job) ops f.0 f.1 in

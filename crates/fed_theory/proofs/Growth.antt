@@ -10,7 +10,7 @@ use Rattle.fed_lattice.specs.History.{History, IsFresh}
 use Rattle.fed_lattice.specs.VersionOf.{version_of}
 use Rattle.fed_lattice.proofs.VersionOfLaws.{version_of-append, version_of-origin}
 use Rattle.fed_model.specs.declared.beginnings.Beginning.{Beginning}
-use Rattle.fed_model.specs.Body.{Body, Body.Grant, Body.HandBack, Body.Begin, Body.Finish}
+use Rattle.fed_model.specs.Body.{Body, Body.OfJob, JobBody.Grant, JobBody.HandBack, JobBody.Begin, JobBody.Finish}
 use Rattle.fed_model.specs.Lawful.{IsGrounded, IsHolder, IsLawful}
 use Rattle.fed_theory.specs.MayFollow.{MayFollow}
 use Rattle.fed_theory.proofs.GrowthLaws.{lawful_push}
@@ -30,20 +30,20 @@ module _ (history ops : History Body) (here : ℕ) (new : StampValue × Body)
     (next : IsNext (version_of ops) here new.0) (allowed : IsAllowed ops new.0 new.1) where
   -- ---- what the site knows, nobody has gone beyond
   -- a grant to the site is handed back nowhere but at the site
-  not_returned : (job s : StampValue) (term : ℕ) → Has ops (s, Grant job here term) → ((t : StampValue) → Has ops (t, HandBack job term) → ⊥) → (t : StampValue) → Has history (t, HandBack job term) → ⊥
-  not_returned job s term g kept t h = kept t (own (t, HandBack job term) h (returner history l job s t here term (cut.within _ g) h))
+  not_returned : (job s : StampValue) (term : ℕ) → Has ops (s, OfJob job (Grant here term)) → ((t : StampValue) → Has ops (t, OfJob job (HandBack term)) → ⊥) → (t : StampValue) → Has history (t, OfJob job (HandBack term)) → ⊥
+  not_returned job s term g kept t h = kept t (own (t, OfJob job (HandBack term)) h (returner history l job s t here term (cut.within _ g) h))
 
   -- a job whose grant the site holds has begun nowhere else
-  begun_here : (job s t : StampValue) (term : ℕ) (a : Beginning) → Has ops (s, Grant job here term) → ((u : StampValue) → Has ops (u, HandBack job term) → ⊥) → Has history (t, Begin job a) → t.site ≡ here
+  begun_here : (job s t : StampValue) (term : ℕ) (a : Beginning) → Has ops (s, OfJob job (Grant here term)) → ((u : StampValue) → Has ops (u, OfJob job (HandBack term)) → ⊥) → Has history (t, OfJob job (Begin a)) → t.site ≡ here
   begun_here job s t term a g kept h =
       let holder = l.begun_held job t a h in
       let low : term ≤ holder.term = holder.greatest s here term (cut.within _ g) in
       let high : holder.term ≤ term = same_term history l job s holder.stamp here t.site term holder.term (cut.within _ g) holder.granted (not_returned job s term g kept) in
       let same : holder.term ≡ term = omega arith in
-      same_grant history l job holder.stamp s t.site here term (subst (λ (n : ℕ). Has history (holder.stamp, Grant job t.site n)) same holder.granted) (cut.within _ g)
+      same_grant history l job holder.stamp s t.site here term (subst (λ (n : ℕ). Has history (holder.stamp, OfJob job (Grant t.site n))) same holder.granted) (cut.within _ g)
 
-  no_begin : (job s : StampValue) (term : ℕ) → Has ops (s, Grant job here term) → ((u : StampValue) → Has ops (u, HandBack job term) → ⊥) → ((t : StampValue) (a : Beginning) → Has ops (t, Begin job a) → ⊥) → (t : StampValue) (a : Beginning) → Has history (t, Begin job a) → ⊥
-  no_begin job s term g kept idle t a h = idle t a (own (t, Begin job a) h (begun_here job s t term a g kept h))
+  no_begin : (job s : StampValue) (term : ℕ) → Has ops (s, OfJob job (Grant here term)) → ((u : StampValue) → Has ops (u, OfJob job (HandBack term)) → ⊥) → ((t : StampValue) (a : Beginning) → Has ops (t, OfJob job (Begin a)) → ⊥) → (t : StampValue) (a : Beginning) → Has history (t, OfJob job (Begin a)) → ⊥
+  no_begin job s term g kept idle t a h = idle t a (own (t, OfJob job (Begin a)) h (begun_here job s t term a g kept h))
 
   still_holds : (job : StampValue) → IsHolder ops job here → IsHolder history job here
   still_holds job h = record {
@@ -56,19 +56,19 @@ module _ (history ops : History Body) (here : ℕ) (new : StampValue × Body)
 
   -- what may follow the site's set may follow the history
   follows : (t : StampValue) (body : Body) → t.site ≡ here → IsGrounded ops t body → IsPlaced ops t body → MayFollow ops t body → MayFollow history t body
-  follows t (Grant job site term) at g p m = λ s other h.
-      let origin : s.site ≡ job.site = placed (s, Grant job other term) h in
-      m s other (own (s, Grant job other term) h (origin ∙ sym p ∙ at))
-  follows t (HandBack job term) at g p m =
-      let mine : Has ops (g.1.0, Grant job here term) = subst (λ (n : ℕ). Has ops (g.1.0, Grant job n term)) at g.1.1.0 in
+  follows t (OfJob job (Grant site term)) at g p m = λ s other h.
+      let origin : s.site ≡ job.site = placed (s, OfJob job (Grant other term)) h in
+      m s other (own (s, OfJob job (Grant other term)) h (origin ∙ sym p ∙ at))
+  follows t (OfJob job (HandBack term)) at g p m =
+      let mine : Has ops (g.1.0, OfJob job (Grant here term)) = subst (λ (n : ℕ). Has ops (g.1.0, OfJob job (Grant n term))) at g.1.1.0 in
       (not_returned job g.1.0 term mine m.0, no_begin job g.1.0 term mine m.0 m.1)
-  follows t (Begin job a) at g p m =
+  follows t (OfJob job (Begin a)) at g p m =
       let holder : IsHolder ops job here = subst (IsHolder ops job) at m.1 in
       (no_begin job holder.stamp holder.term holder.granted holder.kept m.0, subst (IsHolder history job) (sym at) (still_holds job holder))
-  follows t (Finish job ending) at g p m = λ s a h.
-      let f = placed (s, Finish job a) h in
+  follows t (OfJob job (Finish ending)) at g p m = λ s a h.
+      let f = placed (s, OfJob job (Finish a)) h in
       let same : f.0 ≡ p.0 = l.one_begin job f.0 p.0 f.1 p.1 f.2 (cut.within _ p.2) in
-      m s a (own (s, Finish job a) h (sym f.3 ∙ ap (λ (u : StampValue). u.site) same ∙ p.3 ∙ at))
+      m s a (own (s, OfJob job (Finish a)) h (sym f.3 ∙ ap (λ (u : StampValue). u.site) same ∙ p.3 ∙ at))
   follows t _ at g p m = tt
 
   pub may : MayFollow history new.0 new.1
@@ -107,14 +107,14 @@ module _ (history ops : History Body) (here : ℕ) (new : StampValue × Body)
       ]
 
   -- ---- cuts of the larger history
-  held_push : (others : History Body) (job s : StampValue) (a : Beginning) → Has history (s, Begin job a) → IsHeld history others job s.site → IsHeld (history ++ new ∷ []) others job s.site
+  held_push : (others : History Body) (job s : StampValue) (a : Beginning) → Has history (s, OfJob job (Begin a)) → IsHeld history others job s.site → IsHeld (history ++ new ∷ []) others job s.site
   held_push others job s a begun h = record {
     stamp = h.stamp;
     term = h.term;
     granted = h.granted;
-    kept = λ t k. elim (Has-push history new (t, HandBack job h.term) k) [
+    kept = λ t k. elim (Has-push history new (t, OfJob job (HandBack h.term)) k) [
       | inl q ↦ h.kept t q
-      | inr q ↦ (new_may (t, HandBack job h.term) q).1 s a begun
+      | inr q ↦ (new_may (t, OfJob job (HandBack h.term)) q).1 s a begun
     ];
   }
 
@@ -169,7 +169,7 @@ module _ (history ops : History Body) (here : ℕ) (new : StampValue × Body)
       | inl k ↦ cut.placed e k
       | inr q ↦ subst (λ (x : StampValue × Body). IsPlaced ops x.0 x.1) q allowed.placed
     ]);
-    held = λ job s a h. elim (Has-push ops new (s, Begin job a) h) [
+    held = λ job s a h. elim (Has-push ops new (s, OfJob job (Begin a)) h) [
       | inl k ↦ (
           let p = held_push ops job s a (cut.within _ k) (cut.held job s a k) in
           record { stamp = p.stamp; term = p.term; granted = Has-left ops (new ∷ []) _ p.granted; kept = p.kept })
@@ -177,17 +177,17 @@ module _ (history ops : History Body) (here : ℕ) (new : StampValue × Body)
     ];
   }
     where
-      newly : (job s : StampValue) (a : Beginning) → new ≡ (s, Begin job a) → IsHeld (history ++ new ∷ []) (ops ++ new ∷ []) job s.site
+      newly : (job s : StampValue) (a : Beginning) → new ≡ (s, OfJob job (Begin a)) → IsHeld (history ++ new ∷ []) (ops ++ new ∷ []) job s.site
       newly job s a q =
           let m = (subst (λ (x : StampValue × Body). MayFollow ops x.0 x.1) q allowed.may).1 in
           let at : s.site ≡ here = ap (λ (x : StampValue × Body). x.0.site) (sym q) ∙ next.site in
-          let mine : Has ops (m.stamp, Grant job here m.term) = subst (λ (n : ℕ). Has ops (m.stamp, Grant job n m.term)) at m.granted in
+          let mine : Has ops (m.stamp, OfJob job (Grant here m.term)) = subst (λ (n : ℕ). Has ops (m.stamp, OfJob job (Grant n m.term))) at m.granted in
           record {
             stamp = m.stamp;
             term = m.term;
             granted = Has-left ops (new ∷ []) _ m.granted;
-            kept = λ t k. elim (Has-push history new (t, HandBack job m.term) k) [
+            kept = λ t k. elim (Has-push history new (t, OfJob job (HandBack m.term)) k) [
               | inl h ↦ not_returned job m.stamp m.term mine m.kept t h
-              | inr r ↦ (let b : ◌≡◌ {A = Body} (Begin job a) (HandBack job m.term) = ap (λ (x : StampValue × Body). x.1) (sym q ∙ r) in cc)
+              | inr r ↦ (let b : ◌≡◌ {A = Body} (OfJob job (Begin a)) (OfJob job (HandBack m.term)) = ap (λ (x : StampValue × Body). x.1) (sym q ∙ r) in cc)
             ];
           }

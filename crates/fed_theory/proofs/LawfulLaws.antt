@@ -7,11 +7,11 @@ use Rattle.fed_lattice.proofs.FilterLaws.{Has-filter, filter-Has}
 use Rattle.fed_lattice.specs.VersionOf.{version_of}
 use Rattle.fed_lattice.proofs.VersionOfLaws.{version_of-covers}
 use Rattle.fed_model.specs.declared.holds.HoldKind.{HoldKind}
-use Rattle.fed_model.specs.Body.{Body, Body.Submit, Body.Set, Body.Hold, Body.Release, Body.Delete, Body.Grant, Body.HandBack, Body.Begin, Body.Finish, Body.Reserve, Body.Cancel, is_of_job, of_job}
+use Rattle.fed_model.specs.Body.{Body, Body.Submit, Body.OfJob, Body.Reserve, Body.Cancel, JobBody, JobBody.Set, JobBody.Release, JobBody.Grant, JobBody.HandBack, JobBody.Finish, is_of_job, of_job}
 use Rattle.fed_model.specs.Pairs.{adds_site, removes_site, adds_hold, removes_hold}
 use Rattle.fed_theory.specs.JobHistory.{IsJobHistory}
 use Rattle.fed_lattice.specs.ExactLaws.{same_stamp_is}
-use Rattle.fed_model.specs.Lawful.{IsSubmitted, HasAdded, IsNextTerm, IsGrounded, IsLawful, AreKin}
+use Rattle.fed_model.specs.Lawful.{IsSubmitted, HasAdded, IsNextTerm, RestsOn, IsGrounded, IsLawful, AreKin}
 
 -- what rests on a set rests on a larger one
 module _ (ops more : History Body) (includes : Includes more ops) where
@@ -26,16 +26,17 @@ module _ (ops more : History Body) (includes : Includes more ops) where
   next_term_more t job (suc zero) n = n
   next_term_more t job (suc (suc term)) n = (n.0, (includes _ n.1.0, n.1.1))
 
+  rests_more : (t job : StampValue) (what : JobBody) → RestsOn ops t job what → RestsOn more t job what
+  rests_more t job (Set changes removed) r = added_more adds_site t job removed r
+  rests_more t job (Release removed) r = added_more adds_hold t job removed r
+  rests_more t job (Grant site term) r = next_term_more t job term r
+  rests_more t job (HandBack term) r = (r.0, (includes _ r.1.0, r.1.1))
+  rests_more t job (Finish ending) r = (r.0, r.1, includes _ r.2)
+  rests_more t job _ r = tt
+
   pub grounded_more : (t : StampValue) (body : Body) → IsGrounded ops t body → IsGrounded more t body
   grounded_more t (Submit owner values held) g = tt
-  grounded_more t (Set job changes removed) g = (submitted_more t job g.0, added_more adds_site t job removed g.1)
-  grounded_more t (Hold job kinds) g = submitted_more t job g
-  grounded_more t (Release job removed) g = (submitted_more t job g.0, added_more adds_hold t job removed g.1)
-  grounded_more t (Delete job) g = submitted_more t job g
-  grounded_more t (Grant job site term) g = (submitted_more t job g.0, next_term_more t job term g.1)
-  grounded_more t (HandBack job term) g = (submitted_more t job g.0, (g.1.0, (includes _ g.1.1.0, g.1.1.1)))
-  grounded_more t (Begin job beginning) g = submitted_more t job g
-  grounded_more t (Finish job ending) g = (submitted_more t job g.0, (g.1.0, g.1.1, includes _ g.1.2))
+  grounded_more t (OfJob job what) g = (submitted_more t job g.0, rests_more t job what g.1)
   grounded_more t (Reserve window) g = tt
   grounded_more t (Cancel id) g = (g.0, (includes _ g.1.0, g.1.1))
 
@@ -60,12 +61,12 @@ module _ (ops : History Body) (l : IsLawful ops) (job : StampValue) where
 
   site_added : (t : StampValue) (body : Body) (site : ℕ) (tag : StampValue) → IsGrounded ops t body → is_of_job job (t, body) ≡ true → removes_site body site tag ≡ true
       → (c : Body) × Has (of_job job ops) (tag, c) × (adds_site c site ≡ true)
-  site_added t (Set named changes removed) site tag g of e = kept_pair adds_site t named removed site tag of g.1 e
+  site_added t (OfJob named (Set changes removed)) site tag g of e = kept_pair adds_site t named removed site tag of g.1 e
   site_added t _ site tag g of e = cc
 
   hold_added : (t : StampValue) (body : Body) (kind : HoldKind) (tag : StampValue) → IsGrounded ops t body → is_of_job job (t, body) ≡ true → removes_hold body kind tag ≡ true
       → (c : Body) × Has (of_job job ops) (tag, c) × (adds_hold c kind ≡ true)
-  hold_added t (Release named removed) kind tag g of e = kept_pair adds_hold t named removed kind tag of g.1 e
+  hold_added t (OfJob named (Release removed)) kind tag g of e = kept_pair adds_hold t named removed kind tag of g.1 e
   hold_added t _ kind tag g of e = cc
 
   pub job_history : IsJobHistory (of_job job ops)

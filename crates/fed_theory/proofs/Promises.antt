@@ -8,7 +8,7 @@ use Rattle.fed_lattice.specs.Sets.{Has}
 use Rattle.fed_lattice.specs.History.{History}
 use Rattle.fed_lattice.specs.VersionOf.{version_of}
 use Rattle.fed_model.specs.declared.beginnings.Beginning.{Beginning}
-use Rattle.fed_model.specs.Body.{Body, Body.Grant, Body.HandBack, Body.Begin}
+use Rattle.fed_model.specs.Body.{Body, Body.OfJob, JobBody.Grant, JobBody.HandBack, JobBody.Begin}
 use Rattle.fed_model.specs.Lawful.{IsHolder, IsLawful, AreKin}
 use Rattle.fed_model.specs.declared.taken.Taken.{Taken}
 use Rattle.fed_model.specs.Packet.{Packet, shipped}
@@ -53,23 +53,23 @@ module _ (n : ℕ) (events : List Event) (few : n ≤ 16) where
       let g = run_good n events few in
       cuts_kin g.0 ((run n events).site site).set p.gives g.1.lawful (g.1.cuts site) (g.1.sent p (packet_Has (run n events) k p at)).cut
 
-  pub one_grant : (job s t : StampValue) (a b term : ℕ) → Has (all_operations (run n events) n) (s, Grant job a term) → Has (all_operations (run n events) n) (t, Grant job b term) → (s ≡ t) × (a ≡ b)
+  pub one_grant : (job s t : StampValue) (a b term : ℕ) → Has (all_operations (run n events) n) (s, OfJob job (Grant a term)) → Has (all_operations (run n events) n) (t, OfJob job (Grant b term)) → (s ≡ t) × (a ≡ b)
   one_grant job s t a b term h k = (all_lawful.one_grant job s t a b term h k, same_grant (all_operations (run n events) n) all_lawful job s t a b term h k)
 
-  pub by_origin : (job s : StampValue) (a term : ℕ) → Has (all_operations (run n events) n) (s, Grant job a term) → s.site ≡ job.site
-  by_origin job s a term h = let g = run_good n events few in (all_cut g.0 (run n events) n g.1).placed (s, Grant job a term) h
+  pub by_origin : (job s : StampValue) (a term : ℕ) → Has (all_operations (run n events) n) (s, OfJob job (Grant a term)) → s.site ≡ job.site
+  by_origin job s a term h = let g = run_good n events few in (all_cut g.0 (run n events) n g.1).placed (s, OfJob job (Grant a term)) h
 
-  pub one_begin : (job s t : StampValue) (a b : Beginning) → Has (all_operations (run n events) n) (s, Begin job a) → Has (all_operations (run n events) n) (t, Begin job b) → (s ≡ t) × (a ≡ b)
+  pub one_begin : (job s t : StampValue) (a b : Beginning) → Has (all_operations (run n events) n) (s, OfJob job (Begin a)) → Has (all_operations (run n events) n) (t, OfJob job (Begin b)) → (s ≡ t) × (a ≡ b)
   one_begin job s t a b h k =
       let same = all_lawful.one_begin job s t a b h k in
-      let e = all_lawful.distinct (s, Begin job a) (t, Begin job b) h k same in
-      let p : ◌≡◌ {A = Body} (Begin job a) (Begin job b) = ap (λ (x : StampValue × Body). x.1) e in
+      let e = all_lawful.distinct (s, OfJob job (Begin a)) (t, OfJob job (Begin b)) h k same in
+      let p : ◌≡◌ {A = Body} (OfJob job (Begin a)) (OfJob job (Begin b)) = ap (λ (x : StampValue × Body). x.1) e in
       let q : a ≡ b = cc in (same, q)
 
-  pub by_holder : (job s : StampValue) (a : Beginning) → Has (all_operations (run n events) n) (s, Begin job a) → IsHolder (all_operations (run n events) n) job s.site
+  pub by_holder : (job s : StampValue) (a : Beginning) → Has (all_operations (run n events) n) (s, OfJob job (Begin a)) → IsHolder (all_operations (run n events) n) job s.site
   by_holder job s a h = all_lawful.begun_held job s a h
 
-  pub at_one_site : (x y : ℕ) (job s t : StampValue) (a b : Beginning) → Has ((run n events).site x).set (s, Begin job a) → Has ((run n events).site y).set (t, Begin job b) → s.site ≡ t.site
+  pub at_one_site : (x y : ℕ) (job s t : StampValue) (a b : Beginning) → Has ((run n events).site x).set (s, OfJob job (Begin a)) → Has ((run n events).site y).set (t, OfJob job (Begin b)) → s.site ≡ t.site
   at_one_site x y job s t a b h k =
       let g = run_good n events few in
       ap (λ (u : StampValue). u.site) (g.1.lawful.one_begin job s t a b ((g.1.cuts x).within _ h) ((g.1.cuts y).within _ k))
@@ -81,9 +81,9 @@ module _ (n : ℕ) (events : List Event) (few : n ≤ 16) where
       let mine = (g.1.cuts a).within _ p.2 in
       let theirs = (g.1.cuts b).within _ q.2 in
       -- a grant to a site is handed back there, so that it has the return
-      let kept : (t : StampValue) → Has g.0 (t, HandBack job p.1) → ⊥ = λ t h. p.3 t (g.1.own a (t, HandBack job p.1) h (returner g.0 l job p.0 t a p.1 mine h)) in
-      let kept_too : (t : StampValue) → Has g.0 (t, HandBack job q.1) → ⊥ = λ t h. q.3 t (g.1.own b (t, HandBack job q.1) h (returner g.0 l job q.0 t b q.1 theirs h)) in
+      let kept : (t : StampValue) → Has g.0 (t, OfJob job (HandBack p.1)) → ⊥ = λ t h. p.3 t (g.1.own a (t, OfJob job (HandBack p.1)) h (returner g.0 l job p.0 t a p.1 mine h)) in
+      let kept_too : (t : StampValue) → Has g.0 (t, OfJob job (HandBack q.1)) → ⊥ = λ t h. q.3 t (g.1.own b (t, OfJob job (HandBack q.1)) h (returner g.0 l job q.0 t b q.1 theirs h)) in
       let low : q.1 ≤ p.1 = same_term g.0 l job p.0 q.0 a b p.1 q.1 mine theirs kept in
       let high : p.1 ≤ q.1 = same_term g.0 l job q.0 p.0 b a q.1 p.1 theirs mine kept_too in
       let same : q.1 ≡ p.1 = omega arith in
-      same_grant g.0 l job p.0 q.0 a b p.1 mine (subst (λ (m : ℕ). Has g.0 (q.0, Grant job b m)) same theirs)
+      same_grant g.0 l job p.0 q.0 a b p.1 mine (subst (λ (m : ℕ). Has g.0 (q.0, OfJob job (Grant b m))) same theirs)

@@ -17,7 +17,7 @@ use Rattle.fed_model.specs.declared.limits.TheConstants.{MAX_LIMIT}
 use Rattle.fed_model.specs.declared.refusals.Refusal.{Refusal}
 use Rattle.fed_model.specs.declared.replies.Reply.{Reply}
 use Rattle.fed_model.specs.declared.windows.Window.{Window}
-use Rattle.fed_model.specs.Body.{Body, Body.Submit, Body.Set, Body.Grant, Body.HandBack, Body.Begin, Body.Reserve, is_of_job, of_job}
+use Rattle.fed_model.specs.Body.{Body, Body.Submit, Body.OfJob, Body.Reserve, JobBody.Set, JobBody.Grant, JobBody.HandBack, JobBody.Begin, is_of_job, of_job}
 use Rattle.fed_model.specs.Field.{limit_in, nodes_in, field}
 use Rattle.fed_model.specs.JobView.{JobView}
 use Rattle.fed_model.specs.Letter.{is_submitted}
@@ -36,12 +36,12 @@ AreInRange ops = (e : StampValue × Body) → Has ops e → IsInRange e.1
 -- ---- what is set by operations in range
 limit_ranged : (body : Body) (limit : ℕ) → IsInRange body → limit_in body ≡ Some limit → IsFrom 1 MAX_LIMIT limit
 limit_ranged (Submit owner values held) limit t e = let p : values.limit ≡ limit = cc in subst (IsFrom 1 MAX_LIMIT) p t.1.limit
-limit_ranged (Set job changes removed) limit t e = let p : changes.limit ≡ Some limit = e in subst (λ o. IfSome o (IsFrom 1 MAX_LIMIT)) p t.limit
+limit_ranged (OfJob job (Set changes removed)) limit t e = let p : changes.limit ≡ Some limit = e in subst (λ o. IfSome o (IsFrom 1 MAX_LIMIT)) p t.limit
 limit_ranged _ limit t e = cc
 
 nodes_ranged : (body : Body) (nodes : ℕ) → IsInRange body → nodes_in body ≡ Some nodes → IsFrom 1 MAX_NODES nodes
 nodes_ranged (Submit owner values held) nodes t e = let p : values.nodes ≡ nodes = cc in subst (IsFrom 1 MAX_NODES) p t.1.nodes
-nodes_ranged (Set job changes removed) nodes t e = let p : changes.nodes ≡ Some nodes = e in subst (λ o. IfSome o (IsFrom 1 MAX_NODES)) p t.nodes
+nodes_ranged (OfJob job (Set changes removed)) nodes t e = let p : changes.nodes ≡ Some nodes = e in subst (λ o. IfSome o (IsFrom 1 MAX_NODES)) p t.nodes
 nodes_ranged _ nodes t e = cc
 
 -- the value of a field of a job that has one
@@ -94,8 +94,8 @@ unless_same true body new e = cc
 unless_same false body new e = cc
 
 module _ (ops : History Body) (ranged : AreInRange ops) (here : ℕ) (who : Who) (s : StampValue) where
-  granted_term : (job : StampValue) (term : ℕ) → IsGrounded ops s (HandBack job term) → IsFrom 1 1_000_000_000 term
-  granted_term job term g = (ranged (g.1.0, Grant job s.site term) g.1.1.0).1
+  granted_term : (job : StampValue) (term : ℕ) → IsGrounded ops s (OfJob job (HandBack term)) → IsFrom 1 1_000_000_000 term
+  granted_term job term g = (ranged (g.1.0, OfJob job (Grant s.site term)) g.1.1.0).1
 
   effect_ranged : (command : Command) (new : Body) → IsRanged who command → AreClear (refusals (view ops) here who command) → IsAllowed ops s new → effect (view ops) who command ≡ Some new → IsInRange new
   effect_ranged (Command.Submit values held) new t r a e = subst IsInRange (same_Some _ new e) t
@@ -105,18 +105,18 @@ module _ (ops : History Body) (ranged : AreInRange ops) (here : ℕ) (who : Who)
   effect_ranged (Command.Delete job) new t r a e = subst IsInRange (same_Some _ new e) tt
   effect_ranged (Command.Grant job asker) new t r a e =
       let term : ℕ = term_in ((view ops).job job).stages.grant + 1 in
-      let same : Grant job asker term ≡ new = unless_same _ (Grant job asker term) new e in
+      let same : OfJob job (Grant asker term) ≡ new = unless_same _ (OfJob job (Grant asker term)) new e in
       let most : term ≤ 1_000_000_000 = subst (IsWithin ops s) (sym same) a.limited in
       subst IsInRange same (t, (omega arith, most))
   effect_ranged (Command.HandBack job) new t r a e =
       let term : ℕ = term_in ((view ops).job job).stages.grant in
-      let same : HandBack job term ≡ new = same_Some (HandBack job term) new e in
+      let same : OfJob job (HandBack term) ≡ new = same_Some (OfJob job (HandBack term)) new e in
       subst IsInRange same (granted_term job term (subst (IsGrounded ops s) (sym same) a.grounded))
   effect_ranged (Command.Begin job moment) new t r a e =
       let there = not-false _ r.0 in
       let limit = limit_read ops ranged job there in
       let nodes = nodes_read ops ranged job there in
-      subst IsInRange (same_Some (Begin job (beginning ((view ops).job job) moment)) new e) (t, nodes, (omega arith, omega arith), omega arith)
+      subst IsInRange (same_Some (OfJob job (Begin (beginning ((view ops).job job) moment))) new e) (t, nodes, (omega arith, omega arith), omega arith)
   effect_ranged (Command.Finish job moment status) new t r a e = subst IsInRange (same_Some _ new e) t
   effect_ranged (Command.Reserve window) new t r a e = subst IsInRange (same_Some (Reserve window) new e) (window_ranged window t r.1.0)
   effect_ranged (Command.Cancel reservation) new t r a e = subst IsInRange (same_Some _ new e) tt

@@ -7,7 +7,7 @@ use Rattle.fed_lattice.specs.Sets.{Has}
 use Rattle.fed_lattice.specs.SetLaws.{empty_from_none}
 use Rattle.fed_lattice.specs.History.{History}
 use Rattle.fed_lattice.proofs.FilterLaws.{Has-filter, filter-Has}
-use Rattle.fed_model.specs.Body.{Body, Body.Submit, Body.Set, Body.Hold, Body.Release, Body.Delete, Body.Grant, Body.HandBack, Body.Begin, Body.Finish, Body.Reserve, Body.Cancel, is_of_job, of_job, is_of_reservation, of_reservation}
+use Rattle.fed_model.specs.Body.{Body, Body.Submit, Body.OfJob, Body.Reserve, Body.Cancel, is_of_job, of_job, is_of_reservation, of_reservation}
 use Rattle.fed_model.specs.Field.{window_in, field}
 use Rattle.fed_model.specs.JobView.{job_view}
 use Rattle.fed_model.specs.Letter.{is_submitted}
@@ -32,14 +32,7 @@ module _ (ops : History Body) (job : StampValue) where
   -- the job of an operation of a lawful set was submitted in it
   pub job_submitted : (t : StampValue) (body : Body) → Has ops (t, body) → IsGrounded ops t body → is_of_job job (t, body) ≡ true → HasSubmit ops job
   job_submitted t (Submit owner values held) h g of = (owner, values, held, subst (λ (n : StampValue). Has ops (n, Submit owner values held)) (same_stamp_is t job of) h)
-  job_submitted t (Set id changes removed) h g of = named t id g.0 of
-  job_submitted t (Hold id kinds) h g of = named t id g of
-  job_submitted t (Release id removed) h g of = named t id g.0 of
-  job_submitted t (Delete id) h g of = named t id g of
-  job_submitted t (Grant id site term) h g of = named t id g.0 of
-  job_submitted t (HandBack id term) h g of = named t id g.0 of
-  job_submitted t (Begin id beginning) h g of = named t id g of
-  job_submitted t (Finish id ending) h g of = named t id g.0 of
+  job_submitted t (OfJob id what) h g of = named t id g.0 of
   job_submitted t _ h g of = cc
 
   -- a lawful set has no operation of a job that is not submitted in it

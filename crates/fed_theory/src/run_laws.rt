@@ -8,7 +8,7 @@ ghost use Rattle.fed_model.specs.declared.askers.Who.{Who};
 ghost use Rattle.fed_model.specs.declared.commands.Command.{Command};
 ghost use Rattle.fed_model.specs.declared.beginnings.Beginning.{Beginning};
 ghost use Rattle.fed_model.specs.declared.replies.Reply.{Reply};
-ghost use Rattle.fed_model.specs.Body.{Body, Body.Grant, Body.Begin};
+ghost use Rattle.fed_model.specs.Body.{Body, Body.OfJob, JobBody.Grant, JobBody.Begin};
 ghost use Rattle.fed_model.specs.Lawful.{IsHolder, IsLawful, AreKin};
 ghost use Rattle.fed_model.specs.Limits.{IsWithinLimits};
 ghost use Rattle.fed_model.specs.declared.taken.Taken.{Taken};
@@ -67,10 +67,10 @@ pub fn no_gap_at_the_addressee()
 /// Of each term a job has one grant at most, among the operations of all sites, and the job's origin made it.
 pub fn one_grant_a_term()
     ensures one { (n : ℕ) (events : List Event) → n ≤ SITES → (job s t : StampValue) (a b term : ℕ) →
-        Has (all_operations (run n events) n) (s, Grant job a term) →
-        Has (all_operations (run n events) n) (t, Grant job b term) → (s ≡ t) × (a ≡ b) }
+        Has (all_operations (run n events) n) (s, OfJob job (Grant a term)) →
+        Has (all_operations (run n events) n) (t, OfJob job (Grant b term)) → (s ≡ t) × (a ≡ b) }
     ensures by_origin { (n : ℕ) (events : List Event) → n ≤ SITES → (job s : StampValue) (a term : ℕ) →
-        Has (all_operations (run n events) n) (s, Grant job a term) → s.site ≡ job.site }
+        Has (all_operations (run n events) n) (s, OfJob job (Grant a term)) → s.site ≡ job.site }
 {}
 
 /// At no point do two sites each have, in their own set, a grant of one job to themselves that isn't handed back
@@ -83,17 +83,17 @@ pub fn grants_are_held_by_one()
 /// No job begins at two sites, or twice: among the operations of all sites it has one Begin at most.
 pub fn jobs_begin_once()
     ensures one { (n : ℕ) (events : List Event) → n ≤ SITES → (job s t : StampValue) (a b : Beginning) →
-        Has (all_operations (run n events) n) (s, Begin job a) →
-        Has (all_operations (run n events) n) (t, Begin job b) → (s ≡ t) × (a ≡ b) }
+        Has (all_operations (run n events) n) (s, OfJob job (Begin a)) →
+        Has (all_operations (run n events) n) (t, OfJob job (Begin b)) → (s ≡ t) × (a ≡ b) }
     ensures at_one_site { (n : ℕ) (events : List Event) → n ≤ SITES → (x y : ℕ) (job s t : StampValue)
-        (a b : Beginning) → Has ((run n events).site x).set (s, Begin job a) →
-        Has ((run n events).site y).set (t, Begin job b) → s.site ≡ t.site }
+        (a b : Beginning) → Has ((run n events).site x).set (s, OfJob job (Begin a)) →
+        Has ((run n events).site y).set (t, OfJob job (Begin b)) → s.site ≡ t.site }
 {}
 
 /// The Begin of a job is made by the site that holds its grant.
 pub fn begun_by_the_holder()
     ensures { (n : ℕ) (events : List Event) → n ≤ SITES → (job s : StampValue) (a : Beginning) →
-        Has (all_operations (run n events) n) (s, Begin job a) →
+        Has (all_operations (run n events) n) (s, OfJob job (Begin a)) →
         IsHolder (all_operations (run n events) n) job s.site }
 {}
 
