@@ -17,8 +17,9 @@ use Rattle.fed_tags.specs.Tags.{pair_cmp, has, stamped, applied_tags}
 use Rattle.fed_tags.specs.TagLaws.{pair_total, exact_pair, has_member, member, has_applied, stamped_at}
 use Rattle.fed_model.specs.declared.holds.HoldKind.{HoldKind}
 use Rattle.fed_model.specs.declared.holds.HoldKind.TheVariants.{User, Operator, System}
+use Rattle.fed_record.specs.declared.operations.JobOperation.{JobOperation}
 use Rattle.fed_record.specs.declared.operations.Operation.{Operation}
-use Rattle.fed_model.specs.Body.{Body, Body.Submit, Body.Set}
+use Rattle.fed_model.specs.Body.{Body, Body.Submit, Body.OfJob, JobBody.Set}
 use Rattle.fed_model.specs.Hold.{all_kinds, same_kind, kind_cmp}
 use Rattle.fed_record.specs.Changes.{removed_holds, removed_sites, hold_change, site_change}
 use Rattle.fed_model.specs.HoldLaws.{kind_total, exact_kind}
@@ -87,17 +88,8 @@ every_kind adds Operator e = inr (inl refl)
 every_kind adds System e = inr (inr (inl refl))
 
 pub removed_hold : (c : Operation) (kind : HoldKind) (tag : StampValue) → has (pair_cmp kind_cmp) (removed_holds c) (kind, tag) ≡ removes_hold (body_of c) kind tag
-removed_hold (Operation.Submit owner values held) kind tag = refl
-removed_hold (Operation.Set job changes removed) kind tag = refl
-removed_hold (Operation.Hold job kinds) kind tag = refl
-removed_hold (Operation.Release job removed) kind tag = has_test kind_cmp kind_total exact_kind same_kind tells_kinds kind tag removed.items
-removed_hold (Operation.Delete job) kind tag = refl
-removed_hold (Operation.Grant job site term) kind tag = refl
-removed_hold (Operation.HandBack job term) kind tag = refl
-removed_hold (Operation.Begin job beginning) kind tag = refl
-removed_hold (Operation.Finish job ending) kind tag = refl
-removed_hold (Operation.Reserve window) kind tag = refl
-removed_hold (Operation.Cancel reservation) kind tag = refl
+removed_hold (Operation.OfJob job (JobOperation.Release removed)) kind tag = has_test kind_cmp kind_total exact_kind same_kind tells_kinds kind tag removed.items
+removed_hold _ kind tag = refl
 
 pub hold_applied : (xs : List (HoldKind × StampValue)) (s : StampValue) (c : Operation) (kind : HoldKind) (tag : StampValue)
     → has (pair_cmp kind_cmp) (applied_tags (pair_cmp kind_cmp) xs s (hold_change c)) (kind, tag)
@@ -120,21 +112,12 @@ named_below (Some sites) site e = below_16 site (and_parts (nat_lt site 16) _ e)
 
 pub every_site : (b : Body) (site : ℕ) → adds_site b site ≡ true → Has (range_with_len 0 16) site
 every_site (Submit owner values held) site e = below_16 site (and_parts (nat_lt site 16) _ e).0
-every_site (Set job changes removed) site e = named_below changes.sites site e
+every_site (OfJob job (Set changes removed)) site e = named_below changes.sites site e
 every_site _ site e = cc
 
 pub removed_site : (c : Operation) (site : ℕ) (tag : StampValue) → has (pair_cmp nat_cmp) (removed_sites c) (site, tag) ≡ removes_site (body_of c) site tag
-removed_site (Operation.Submit owner values held) site tag = refl
-removed_site (Operation.Set job changes removed) site tag = has_test nat_cmp nat_cmp_total exact_unsigned nat_eq tells_numbers site tag removed.items
-removed_site (Operation.Hold job kinds) site tag = refl
-removed_site (Operation.Release job removed) site tag = refl
-removed_site (Operation.Delete job) site tag = refl
-removed_site (Operation.Grant job granted term) site tag = refl
-removed_site (Operation.HandBack job term) site tag = refl
-removed_site (Operation.Begin job beginning) site tag = refl
-removed_site (Operation.Finish job ending) site tag = refl
-removed_site (Operation.Reserve window) site tag = refl
-removed_site (Operation.Cancel reservation) site tag = refl
+removed_site (Operation.OfJob job (JobOperation.Set changes removed)) site tag = has_test nat_cmp nat_cmp_total exact_unsigned nat_eq tells_numbers site tag removed.items
+removed_site _ site tag = refl
 
 pub site_applied : (xs : List (ℕ × StampValue)) (s : StampValue) (c : Operation) (site : ℕ) (tag : StampValue)
     → has (pair_cmp nat_cmp) (applied_tags (pair_cmp nat_cmp) xs s (site_change c)) (site, tag)

@@ -7,6 +7,7 @@ use Rattle.fed_lattice.specs.History.{History}
 use Rattle.fed_lattice.specs.Part.{part}
 use Rattle.fed_lattice.specs.Stamped.{stamped}
 use Rattle.fed_model.specs.declared.holds.HoldKind.{HoldKind}
+use Rattle.fed_record.specs.declared.operations.JobOperation.{JobOperation}
 use Rattle.fed_record.specs.declared.operations.Operation.{Operation}
 use Rattle.fed_model.specs.Hold.{all_kinds}
 use Rattle.fed_record.specs.Operation.{body_of}
@@ -22,11 +23,11 @@ stage_changes_of e = stages_in (e.0, body_of e.1)
 
 -- the pairs of holds that an operation removes, and those of sites
 abbrev pub removed_holds : Operation → List (HoldKind × StampValue)
-removed_holds (Operation.Release job removed) = removed.items
+removed_holds (Operation.OfJob job (JobOperation.Release removed)) = removed.items
 removed_holds _ = []
 
 abbrev pub removed_sites : Operation → List (ℕ × StampValue)
-removed_sites (Operation.Set job changes removed) = removed.items
+removed_sites (Operation.OfJob job (JobOperation.Set changes removed)) = removed.items
 removed_sites _ = []
 
 -- the holds that it adds, and the pairs that it removes

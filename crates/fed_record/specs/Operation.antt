@@ -4,9 +4,10 @@ use Rattle.std.specs.List.{list_any}
 use Rattle.fed_stamp.specs.Stamp.{StampValue, same_stamp}
 use Rattle.fed_lattice.specs.History.{History}
 use Rattle.fed_model.specs.declared.holds.HoldKind.{HoldKind}
+use Rattle.fed_record.specs.declared.operations.JobOperation.{JobOperation}
 use Rattle.fed_record.specs.declared.operations.Operation.{Operation}
 use Rattle.fed_model.specs.Hold.{same_kind}
-use Rattle.fed_model.specs.Body.{Body, Body.Submit, Body.Set, Body.Hold, Body.Release, Body.Delete, Body.Grant, Body.HandBack, Body.Begin, Body.Finish, Body.Reserve, Body.Cancel}
+use Rattle.fed_model.specs.Body.{Body, Body.Submit, Body.OfJob, Body.Reserve, Body.Cancel, JobBody, JobBody.Set, JobBody.Hold, JobBody.Release, JobBody.Delete, JobBody.Grant, JobBody.HandBack, JobBody.Begin, JobBody.Finish}
 
 -- the list has the pair
 abbrev pub has_site_pair : List (ℕ × StampValue) → ℕ → StampValue → Bool
@@ -15,17 +16,21 @@ has_site_pair pairs site tag = list_any (λ (p : ℕ × StampValue). p.0 == site
 abbrev pub has_hold_pair : List (HoldKind × StampValue) → HoldKind → StampValue → Bool
 has_hold_pair pairs kind tag = list_any (λ (p : HoldKind × StampValue). same_kind p.0 kind && same_stamp p.1 tag) pairs
 
+-- what an operation does to its job as the model has it
+abbrev pub job_body_of : JobOperation → JobBody
+job_body_of (JobOperation.Set changes removed) = Set changes (has_site_pair removed.items)
+job_body_of (JobOperation.Hold kinds) = Hold kinds
+job_body_of (JobOperation.Release removed) = Release (has_hold_pair removed.items)
+job_body_of JobOperation.Delete = Delete
+job_body_of (JobOperation.Grant site term) = Grant site term
+job_body_of (JobOperation.HandBack term) = HandBack term
+job_body_of (JobOperation.Begin beginning) = Begin beginning
+job_body_of (JobOperation.Finish ending) = Finish ending
+
 -- the operation as the model has it
 abbrev pub body_of : Operation → Body
 body_of (Operation.Submit owner values held) = Submit owner values held
-body_of (Operation.Set job changes removed) = Set job changes (has_site_pair removed.items)
-body_of (Operation.Hold job kinds) = Hold job kinds
-body_of (Operation.Release job removed) = Release job (has_hold_pair removed.items)
-body_of (Operation.Delete job) = Delete job
-body_of (Operation.Grant job site term) = Grant job site term
-body_of (Operation.HandBack job term) = HandBack job term
-body_of (Operation.Begin job beginning) = Begin job beginning
-body_of (Operation.Finish job ending) = Finish job ending
+body_of (Operation.OfJob job what) = OfJob job (job_body_of what)
 body_of (Operation.Reserve window) = Reserve window
 body_of (Operation.Cancel reservation) = Cancel reservation
 

@@ -29,6 +29,6 @@ pub use fed_model::{
 pub use job_parts::{FieldParts, JobParts, StageParts};
 pub use job_readers::Progress;
 pub use operation_changes::{JobFieldChanges, JobStageChanges};
-pub use operations::Operation;
+pub use operations::{JobOperation, Operation};
 pub use records::JobRecord;
 pub use reservations::Reservation;

@@ -8,7 +8,7 @@ ghost use Rattle.fed_model.specs.Pairs.{adds_hold as is_hold_added, adds_site as
 ghost use Rattle.fed_model.specs.Hold.{all_kinds};
 ghost use Rattle.fed_record.specs.Changes.{field_changes_of, stage_changes_of, removed_holds as holds_removed, removed_sites as sites_removed};
 
-use crate::operations::Operation;
+use crate::operations::{JobOperation, Operation};
 use fed_lattice::NoMemory;
 use fed_model::{
     Account, Beginning, Ending, Fields, GrantStage, HoldKind, Limit, Nodes, Priority, Stages,
@@ -47,7 +47,7 @@ pub(crate) fn field_changes(operation: &Operation) -> JobFieldChanges
             limit: Some(values.limit),
             account: Some(values.account),
         },
-        Operation::Set { changes, .. } => Fields {
+        Operation::OfJob(_, JobOperation::Set { changes, .. }) => Fields {
             owner: None,
             name: changes.name,
             priority: changes.priority,
@@ -76,12 +76,15 @@ pub(crate) fn stage_changes(at: Stamp, operation: &Operation) -> JobStageChanges
         begun: None,
         finished: None,
     };
-    match operation {
-        Operation::Delete { .. } => Stages {
+    let Operation::OfJob(_, what) = operation else {
+        return none;
+    };
+    match what {
+        JobOperation::Delete => Stages {
             deleted: Some(()),
             ..none
         },
-        Operation::Grant { site, term, .. } => Stages {
+        JobOperation::Grant { site, term } => Stages {
             grant: Some(GrantStage::Open {
                 term: *term,
                 stamp: at,
@@ -89,18 +92,18 @@ pub(crate) fn stage_changes(at: Stamp, operation: &Operation) -> JobStageChanges
             }),
             ..none
         },
-        Operation::HandBack { term, .. } => Stages {
+        JobOperation::HandBack { term } => Stages {
             grant: Some(GrantStage::Returned {
                 term: *term,
                 stamp: at,
             }),
             ..none
         },
-        Operation::Begin { beginning, .. } => Stages {
+        JobOperation::Begin { beginning } => Stages {
             begun: Some(*beginning),
             ..none
         },
-        Operation::Finish { ending, .. } => Stages {
+        JobOperation::Finish { ending } => Stages {
             finished: Some(*ending),
             ..none
         },
@@ -114,7 +117,7 @@ fn adds_hold(operation: &Operation, kind: HoldKind) -> bool
 {
     match operation {
         Operation::Submit { held, .. } => matches!(kind, HoldKind::User) && *held,
-        Operation::Hold { kinds, .. } => kinds.has(kind),
+        Operation::OfJob(_, JobOperation::Hold { kinds }) => kinds.has(kind),
         _ => false,
     }
 }
@@ -125,7 +128,7 @@ fn named_sites(operation: &Operation) -> Option<SiteSet>
 {
     match operation {
         Operation::Submit { values, .. } => Some(values.sites),
-        Operation::Set { changes, .. } => changes.sites,
+        Operation::OfJob(_, JobOperation::Set { changes, .. }) => changes.sites,
         _ => None,
     }
 }
@@ -173,7 +176,7 @@ pub(crate) fn removed_holds(operation: &Operation) -> &[(HoldKind, Stamp)]
     ensures { result.now ≡ holds_removed operation.now }
 {
     match operation {
-        Operation::Release { removed, .. } => removed,
+        Operation::OfJob(_, JobOperation::Release { removed }) => removed,
         _ => &[],
     }
 }
@@ -183,7 +186,7 @@ pub(crate) fn removed_sites(operation: &Operation) -> &[(SiteId, Stamp)]
     ensures { result.now ≡ sites_removed operation.now }
 {
     match operation {
-        Operation::Set { removed, .. } => removed,
+        Operation::OfJob(_, JobOperation::Set { removed, .. }) => removed,
         _ => &[],
     }
 }

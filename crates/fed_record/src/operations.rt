@@ -6,9 +6,54 @@ ghost use Rattle.fed_record.specs.Operation.{body_of};
 use fed_model::{Beginning, Changes, Ending, HoldKind, HoldKinds, JobValues, Term, Window};
 use fed_stamp::{JobId, SiteId, Stamp, Word};
 
+/// What is done to a job that was submitted. A pair is an element, a site or a kind of hold, beside the stamp of the
+/// operation that added it.
+#[derive(Drop, Debug)]
+pub enum JobOperation {
+    /// Sets the values named. Adds the sites named, and removes the pairs.
+    Set {
+        /// The values named.
+        changes: Changes,
+        /// The pairs of sites that it removes.
+        removed: Vec<(SiteId, Stamp)>,
+    },
+    /// Adds holds of these kinds.
+    Hold {
+        kinds: HoldKinds,
+    },
+    /// Removes pairs of holds.
+    Release {
+        /// The pairs of holds that it removes.
+        removed: Vec<(HoldKind, Stamp)>,
+    },
+    /// Deletes the job.
+    Delete,
+    /// Grants the job to the site. Only the site that the job was submitted at does so.
+    Grant {
+        /// The site that the job is granted to.
+        site: SiteId,
+        /// 1 where the job has no grant before, else 1 above the term handed back.
+        term: Term,
+    },
+    /// Hands the grant of the term back.
+    HandBack {
+        /// The term of the grant.
+        term: Term,
+    },
+    /// Begins the job.
+    Begin {
+        /// When, on how many nodes, and by when it ends.
+        beginning: Beginning,
+    },
+    /// Finishes the job.
+    Finish {
+        /// When, and with what status.
+        ending: Ending,
+    },
+}
+
 /// What is done, under a stamp, to a job or a reservation. A job is named by the stamp of its `Submit`, a reservation
-/// by that of its `Reserve`; `job` and `reservation` name the one that the operation is of. A pair is an element, a
-/// site or a kind of hold, beside the stamp of the operation that added it.
+/// by that of its `Reserve`; `job` and `reservation` name the one that the operation is of.
 #[derive(Drop, Debug)]
 pub enum Operation {
     /// Submits a job with its sites and, if `held`, a user hold.
@@ -20,55 +65,8 @@ pub enum Operation {
         /// Whether it gets a user hold.
         held: bool,
     },
-    /// Sets the values named. Adds the sites named, and removes the pairs.
-    Set {
-        job: JobId,
-        /// The values named.
-        changes: Changes,
-        /// The pairs of sites that it removes.
-        removed: Vec<(SiteId, Stamp)>,
-    },
-    /// Adds holds of these kinds.
-    Hold {
-        job: JobId,
-        kinds: HoldKinds,
-    },
-    /// Removes pairs of holds.
-    Release {
-        job: JobId,
-        /// The pairs of holds that it removes.
-        removed: Vec<(HoldKind, Stamp)>,
-    },
-    /// Deletes the job.
-    Delete {
-        job: JobId,
-    },
-    /// Grants the job to the site. Only the site that the job was submitted at does so.
-    Grant {
-        job: JobId,
-        /// The site that the job is granted to.
-        site: SiteId,
-        /// 1 where the job has no grant before, else 1 above the term handed back.
-        term: Term,
-    },
-    /// Hands the grant of the term back.
-    HandBack {
-        job: JobId,
-        /// The term of the grant.
-        term: Term,
-    },
-    /// Begins the job.
-    Begin {
-        job: JobId,
-        /// When, on how many nodes, and by when it ends.
-        beginning: Beginning,
-    },
-    /// Finishes the job.
-    Finish {
-        job: JobId,
-        /// When, and with what status.
-        ending: Ending,
-    },
+    /// Does this to the job.
+    OfJob(JobId, JobOperation),
     /// Makes a reservation.
     Reserve {
         /// The nodes that are kept free, and when.
@@ -87,14 +85,7 @@ impl Operation {
     {
         match self {
             Operation::Submit { .. } => Some(at),
-            Operation::Set { job, .. }
-            | Operation::Hold { job, .. }
-            | Operation::Release { job, .. }
-            | Operation::Delete { job }
-            | Operation::Grant { job, .. }
-            | Operation::HandBack { job, .. }
-            | Operation::Begin { job, .. }
-            | Operation::Finish { job, .. } => Some(*job),
+            Operation::OfJob(job, _) => Some(*job),
             Operation::Reserve { .. } | Operation::Cancel { .. } => None,
         }
     }

@@ -3,7 +3,7 @@
 //! fails, which `rt try --test --fail-alloc N` does for the Nth.
 use crate::records::{first_values, job, made_again};
 use fed_lattice::{Causal, NoMemory};
-use fed_record::{HoldKind, HoldKinds, JobRecord, Operation};
+use fed_record::{HoldKind, HoldKinds, JobOperation, JobRecord, Operation};
 use fed_stamp::{Stamp, Version};
 use std::process::Abort;
 use test_values::{ann, stamp};
@@ -56,20 +56,19 @@ fn release(rt: &(impl Abort + AllocGlobal)) -> Operation {
         Ok(removed) => removed,
         Err(_) => Vec::from_slice(rt.alloc(), &pairs).expect(rt, "memory"),
     };
-    Operation::Release {
-        job: job(),
-        removed,
-    }
+    Operation::OfJob(job(), JobOperation::Release { removed })
 }
 
 #[test]
 fn failed_allocations_of_a_record(rt: HostRuntime) {
     let mut here = held(&rt);
     let mut there = copied(&rt, &here);
-    let hold = Operation::Hold {
-        job: job(),
-        kinds: HoldKinds::USER | HoldKinds::SYSTEM,
-    };
+    let hold = Operation::OfJob(
+        job(),
+        JobOperation::Hold {
+            kinds: HoldKinds::USER | HoldKinds::SYSTEM,
+        },
+    );
     applied(&rt, &mut here, stamp(6, 2), &release(&rt));
     applied(&rt, &mut there, stamp(6, 3), &hold);
     let mine = Version::default().with(stamp(6, 2));

@@ -5,9 +5,9 @@ ghost use Rattle.fed_model.specs.Letter.{is_submitted as is_job_submitted};
 
 use fed_lattice::{Causal, NoMemory};
 use fed_record::{
-    Account, Beginning, Changes, Ending, Fields, GrantStage, HoldKind, HoldKinds, JobParts,
-    JobRecord, JobValues, Letter, Limit, Moment, Nodes, Operation, Priority, Progress, Stages,
-    Term,
+    Account, Beginning, Changes, Ending, Fields, GrantStage, HoldKind, HoldKinds, JobOperation,
+    JobParts, JobRecord, JobValues, Letter, Limit, Moment, Nodes, Operation, Priority, Progress,
+    Stages, Term,
 };
 use fed_stamp::{JobId, SiteId, SiteSet, Stamp, Version, Word};
 use std::alloc::Global;
@@ -48,11 +48,13 @@ fn submitted(rt: &(impl Abort + AllocGlobal), held: bool) -> JobRecord {
 
 /// A Set that removes these pairs of sites.
 fn set(rt: &(impl Abort + AllocGlobal), changes: Changes, pairs: &[(SiteId, Stamp)]) -> Operation {
-    Operation::Set {
-        job: job(),
-        changes,
-        removed: Vec::from_slice(rt.alloc(), pairs).expect(rt, "memory"),
-    }
+    Operation::OfJob(
+        job(),
+        JobOperation::Set {
+            changes,
+            removed: Vec::from_slice(rt.alloc(), pairs).expect(rt, "memory"),
+        },
+    )
 }
 
 /// A Begin at second 100, on 1 node and for an hour at most.
@@ -65,52 +67,67 @@ fn beginning() -> Beginning {
 
 /// The record of the held job once it has begun at site 4.
 fn begun(rt: &(impl Abort + AllocGlobal)) -> JobRecord {
-    let begin = Operation::Begin {
-        job: job(),
-        beginning: beginning(),
-    };
+    let begin = Operation::OfJob(
+        job(),
+        JobOperation::Begin {
+            beginning: beginning(),
+        },
+    );
     after(rt, submitted(rt, true), stamp(7, 4), begin)
 }
 
 /// The record of the job once it has begun and is deleted.
 fn exiting(rt: &(impl Abort + AllocGlobal)) -> JobRecord {
-    after(rt, begun(rt), stamp(8, 3), Operation::Delete { job: job() })
+    after(
+        rt,
+        begun(rt),
+        stamp(8, 3),
+        Operation::OfJob(job(), JobOperation::Delete),
+    )
 }
 
 /// The record of the job once its first term is granted to site 4.
 fn granted(rt: &(impl Abort + AllocGlobal)) -> JobRecord {
-    let grant = Operation::Grant {
-        job: job(),
-        site: site(4),
-        term: Term::new(1).unwrap(),
-    };
+    let grant = Operation::OfJob(
+        job(),
+        JobOperation::Grant {
+            site: site(4),
+            term: Term::new(1).unwrap(),
+        },
+    );
     after(rt, submitted(rt, false), stamp(6, 2), grant)
 }
 
 /// The record of the job once site 4 has handed the grant back.
 fn handed_back(rt: &(impl Abort + AllocGlobal)) -> JobRecord {
-    let hand_back = Operation::HandBack {
-        job: job(),
-        term: Term::new(1).unwrap(),
-    };
+    let hand_back = Operation::OfJob(
+        job(),
+        JobOperation::HandBack {
+            term: Term::new(1).unwrap(),
+        },
+    );
     after(rt, granted(rt), stamp(7, 4), hand_back)
 }
 
 /// The record with its User hold released.
 fn released(rt: &(impl Abort + AllocGlobal), held: JobRecord) -> JobRecord {
-    let release = Operation::Release {
-        job: job(),
-        removed: Vec::from_slice(rt.alloc(), &[(HoldKind::User, job())]).expect(rt, "memory"),
-    };
+    let release = Operation::OfJob(
+        job(),
+        JobOperation::Release {
+            removed: Vec::from_slice(rt.alloc(), &[(HoldKind::User, job())]).expect(rt, "memory"),
+        },
+    );
     after(rt, held, stamp(6, 2), release)
 }
 
 /// The record with two holds set at site 3.
 fn held_again(rt: &impl Abort, held: JobRecord) -> JobRecord {
-    let hold = Operation::Hold {
-        job: job(),
-        kinds: HoldKinds::USER | HoldKinds::SYSTEM,
-    };
+    let hold = Operation::OfJob(
+        job(),
+        JobOperation::Hold {
+            kinds: HoldKinds::USER | HoldKinds::SYSTEM,
+        },
+    );
     after(rt, held, stamp(6, 3), hold)
 }
 
@@ -280,11 +297,13 @@ fn a_grant_is_handed_back(rt: HostRuntime) {
 #[test]
 fn a_grant_handed_back_is_made_anew(rt: HostRuntime) {
     let term = Term::new(2).unwrap();
-    let anew = Operation::Grant {
-        job: job(),
-        site: site(1),
-        term,
-    };
+    let anew = Operation::OfJob(
+        job(),
+        JobOperation::Grant {
+            site: site(1),
+            term,
+        },
+    );
     let opened = GrantStage::Open {
         term,
         stamp: stamp(8, 2),
@@ -297,7 +316,12 @@ fn a_grant_handed_back_is_made_anew(rt: HostRuntime) {
 #[test]
 fn a_deleted_job_is_gone(rt: HostRuntime) {
     let seen = submitted(&rt, true);
-    let gone = after(&rt, seen, stamp(6, 3), Operation::Delete { job: job() });
+    let gone = after(
+        &rt,
+        seen,
+        stamp(6, 3),
+        Operation::OfJob(job(), JobOperation::Delete),
+    );
     assert!(rt; gone.deleted() && gone.is_gone() && gone.letter().is_none());
 }
 
@@ -319,7 +343,7 @@ fn a_finished_job_is_gone(rt: HostRuntime) {
         begun: Some((stamp(7, 4), beginning())),
         finished: Some((stamp(9, 4), ending)),
     };
-    let finish = Operation::Finish { job: job(), ending };
+    let finish = Operation::OfJob(job(), JobOperation::Finish { ending });
     let seen = after(&rt, exiting(&rt), stamp(9, 4), finish);
     assert!(rt; seen.is_gone() && seen.letter().is_none());
     assert!(rt; seen.progress() == progress);
@@ -393,7 +417,12 @@ fn a_record_is_made_of_what_it_reads_as(rt: HostRuntime) {
     assert!(rt; seen.is_submitted());
     let again = made_again(rt.alloc(), &seen).expect(&rt, "memory");
     assert!(rt; again == seen);
-    let further = after(&rt, seen, stamp(8, 2), Operation::Delete { job: job() });
+    let further = after(
+        &rt,
+        seen,
+        stamp(8, 2),
+        Operation::OfJob(job(), JobOperation::Delete),
+    );
     assert!(rt; again != further);
 }
 
@@ -403,16 +432,20 @@ fn released_holds_leave_no_tag_behind(rt: HostRuntime) {
     let mut record = submitted(&rt, false);
     for turn in 0..1000u64 {
         let at = stamp(2 * turn + 6, 3);
-        let hold = Operation::Hold {
-            job: job(),
-            kinds: HoldKinds::USER,
-        };
+        let hold = Operation::OfJob(
+            job(),
+            JobOperation::Hold {
+                kinds: HoldKinds::USER,
+            },
+        );
         record.apply(at, &hold).expect(&rt, "memory");
         assert!(rt; record.hold_tags().eq([(HoldKind::User, at)]));
-        let release = Operation::Release {
-            job: job(),
-            removed: Vec::from_slice(rt.alloc(), &[(HoldKind::User, at)]).expect(&rt, "memory"),
-        };
+        let release = Operation::OfJob(
+            job(),
+            JobOperation::Release {
+                removed: Vec::from_slice(rt.alloc(), &[(HoldKind::User, at)]).expect(&rt, "memory"),
+            },
+        );
         record
             .apply(stamp(2 * turn + 7, 3), &release)
             .expect(&rt, "memory");

@@ -2,8 +2,8 @@
 use bitflags::Flags;
 use fed_lattice::NoMemory;
 use fed_record::{
-    Account, GrantStage, HoldKind, HoldKinds, Limit, MAX_END, Moment, Nodes, Operation, Priority,
-    Refusal, Term,
+    Account, GrantStage, HoldKind, HoldKinds, JobOperation, Limit, MAX_END, Moment, Nodes,
+    Operation, Priority, Refusal, Term,
 };
 use fed_stamp::{ClockFull, SiteId, Stamp};
 
@@ -81,7 +81,7 @@ fn what_operations_are_of(rt: HostRuntime) {
     let job = Stamp::new(1, site).unwrap();
     let at = Stamp::new(2, site).unwrap();
     let removed = Vec::from_slice(rt.alloc(), &[(HoldKind::User, job)]).expect(&rt, "memory");
-    let release = Operation::Release { job, removed };
+    let release = Operation::OfJob(job, JobOperation::Release { removed });
     assert_eq!(rt; release.job(at), Some(job));
     assert!(rt; release.reservation(at).is_none());
     let cancel = Operation::Cancel { reservation: job };
