@@ -16,7 +16,7 @@ use Rattle.fed_lattice.specs.Table.{IsAtEach}
 use Rattle.fed_lattice.proofs.TableValues.{each_insert_entry, each_joined_tables, values_each}
 use Rattle.fed_record.specs.declared.operations.Operation.{Operation}
 use Rattle.fed_model.specs.declared.windows.Window.{Window}
-use Rattle.fed_model.specs.Body.{Body, Body.Submit, Body.Set, Body.Hold, Body.Release, Body.Delete, Body.Grant, Body.HandBack, Body.Begin, Body.Finish, Body.Reserve, Body.Cancel, job_of, reservation_of}
+use Rattle.fed_model.specs.Body.{Body, Body.Submit, Body.OfJob, Body.Reserve, Body.Cancel, job_of, reservation_of}
 use Rattle.fed_model.specs.Field.{window_in}
 use Rattle.fed_record.specs.JobRecord.{JobRecordValue, job_reads}
 use Rattle.fed_theory.specs.JobSteps.{add_to_job, join_jobs}
@@ -57,14 +57,7 @@ on_board b job other e = subst (HasJob b) (from_some other job e)
 
 named_job : (b : BoardValue) (at job : StampValue) (body : Body) → job_of at body ≡ Some job → HasNamed b body → HasJob b job ⊎ IsSubmitting at job body
 named_job b at job (Submit owner values held) of n = inr (sym (from_some at job of), λ s j. submitted_by s owner values held j)
-named_job b at job (Set other changes removed) of n = inl (on_board b job other of n)
-named_job b at job (Hold other kinds) of n = inl (on_board b job other of n)
-named_job b at job (Release other removed) of n = inl (on_board b job other of n)
-named_job b at job (Delete other) of n = inl (on_board b job other of n)
-named_job b at job (Grant other site term) of n = inl (on_board b job other of n)
-named_job b at job (HandBack other term) of n = inl (on_board b job other of n)
-named_job b at job (Begin other beginning) of n = inl (on_board b job other of n)
-named_job b at job (Finish other ending) of n = inl (on_board b job other of n)
+named_job b at job (OfJob other what) of n = inl (on_board b job other of n)
 named_job b at job (Reserve window) of n = cc
 named_job b at job (Cancel id) of n = cc
 
@@ -149,14 +142,7 @@ module _ (b : BoardValue) (at id : StampValue) (op : Operation) (i : IsBoard b) 
 
   changed_known_reservation : (body : Body) → reservation_of at body ≡ Some id → HasNamed b body → IsKnownReservation (raised b.version at) id (joined_registers option_window_cmp (unwrap_or now None) (with_stamp at (window_in body)))
   changed_known_reservation (Submit owner values held) of n = cc
-  changed_known_reservation (Set job changes removed) of n = cc
-  changed_known_reservation (Hold job kinds) of n = cc
-  changed_known_reservation (Release job removed) of n = cc
-  changed_known_reservation (Delete job) of n = cc
-  changed_known_reservation (Grant job site term) of n = cc
-  changed_known_reservation (HandBack job term) of n = cc
-  changed_known_reservation (Begin job beginning) of n = cc
-  changed_known_reservation (Finish job ending) of n = cc
+  changed_known_reservation (OfJob job what) of n = cc
   changed_known_reservation (Reserve window) of n = record {
     placed = subst (λ (s : StampValue). s.site < 16) (from_some at id of) small;
     named = subst (λ s. covers (raised b.version at) s ≡ true) (from_some at id of) seen;

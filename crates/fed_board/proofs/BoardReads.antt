@@ -16,7 +16,7 @@ use Rattle.fed_lattice.specs.Stamped.{with_stamp}
 use Rattle.fed_lattice.specs.Table.{value_at}
 use Rattle.fed_lattice.proofs.TableValues.{value_at-insert_entry, value_at-joined_tables}
 use Rattle.fed_record.specs.declared.operations.Operation.{Operation}
-use Rattle.fed_model.specs.Body.{Body, Body.Submit, Body.Set, Body.Hold, Body.Release, Body.Delete, Body.Grant, Body.HandBack, Body.Begin, Body.Finish, Body.Reserve, Body.Cancel, job_of, reservation_of, is_this, is_of_job, is_of_reservation}
+use Rattle.fed_model.specs.Body.{Body, Body.Submit, Body.OfJob, Body.Reserve, Body.Cancel, job_of, reservation_of, is_this, is_of_job, is_of_reservation}
 use Rattle.fed_model.specs.Field.{window_in}
 use Rattle.fed_record.specs.JobRecord.{JobRecordValue, job_reads}
 use Rattle.fed_theory.specs.JobSteps.{add_to_job, join_jobs}
@@ -35,27 +35,13 @@ stamp_at_id id s = both_ways _ _
 
 not_reservation : (at : StampValue) (b : Body) (job : StampValue) → job_of at b ≡ Some job → reservation_of at b ≡ None
 not_reservation at (Submit owner values held) job e = refl
-not_reservation at (Set other changes removed) job e = refl
-not_reservation at (Hold other kinds) job e = refl
-not_reservation at (Release other removed) job e = refl
-not_reservation at (Delete other) job e = refl
-not_reservation at (Grant other site term) job e = refl
-not_reservation at (HandBack other term) job e = refl
-not_reservation at (Begin other beginning) job e = refl
-not_reservation at (Finish other ending) job e = refl
+not_reservation at (OfJob other what) job e = refl
 not_reservation at (Reserve window) job e = cc
 not_reservation at (Cancel id) job e = cc
 
 not_job : (at : StampValue) (b : Body) (id : StampValue) → reservation_of at b ≡ Some id → job_of at b ≡ None
 not_job at (Submit owner values held) id e = cc
-not_job at (Set job changes removed) id e = cc
-not_job at (Hold job kinds) id e = cc
-not_job at (Release job removed) id e = cc
-not_job at (Delete job) id e = cc
-not_job at (Grant job site term) id e = cc
-not_job at (HandBack job term) id e = cc
-not_job at (Begin job beginning) id e = cc
-not_job at (Finish job ending) id e = cc
+not_job at (OfJob job what) id e = cc
 not_job at (Reserve window) id e = refl
 not_job at (Cancel other) id e = refl
 

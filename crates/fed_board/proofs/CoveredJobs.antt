@@ -8,7 +8,7 @@ use Rattle.fed_stamp.specs.Version.{covers, joined, raised}
 use Rattle.fed_stamp.proofs.VersionLaws.{covers_more, below_joined_left, below_joined_right, length-joined}
 use Rattle.fed_lattice.specs.Register.{stamped_cmp, joined_registers}
 use Rattle.fed_lattice.specs.Stamped.{with_stamp}
-use Rattle.fed_model.specs.Body.{Body, Body.Submit, Body.Set, Body.Hold, Body.Release, Body.Delete, Body.Grant, Body.HandBack, Body.Begin, Body.Finish, Body.Reserve, Body.Cancel}
+use Rattle.fed_model.specs.Body.{Body, Body.OfJob, JobBody.Grant, JobBody.HandBack}
 use Rattle.fed_record.proofs.CoveredLaws.{either_side, old_or_new}
 use Rattle.fed_model.specs.Field.{begin_in, finish_in}
 use Rattle.fed_model.specs.Grant.{grant_cmp, grant_in, stamp_of}
@@ -64,17 +64,9 @@ module _ (t : StampValue) (v : List ℕ) (own : covers v t ≡ true) where
   own_register (Some x) = own
 
   own_grant : (b : Body) → covers_at stamp_of v (grant_in (t, b)) ≡ true
-  own_grant (Submit owner values held) = refl
-  own_grant (Set job changes removed) = refl
-  own_grant (Hold job kinds) = refl
-  own_grant (Release job removed) = refl
-  own_grant (Delete job) = refl
-  own_grant (Grant job site term) = own
-  own_grant (HandBack job term) = own
-  own_grant (Begin job beginning) = refl
-  own_grant (Finish job ending) = refl
-  own_grant (Reserve window) = refl
-  own_grant (Cancel reservation) = refl
+  own_grant (OfJob job (Grant site term)) = own
+  own_grant (OfJob job (HandBack term)) = own
+  own_grant _ = refl
 
   own_pair : {E : Type 0} (adds : Body → E → Bool) (removes : Body → E → StampValue → Bool) (b : Body) (element : E) (tag : StampValue) → adds_pair adds removes element tag (t, b) ≡ true → covers v tag ≡ true
   own_pair adds removes b element tag e = subst (λ s. covers v s ≡ true) (same_stamp_is t tag (and_parts (same_stamp t tag) (adds b element) e).0) own

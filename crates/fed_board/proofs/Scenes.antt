@@ -10,7 +10,7 @@ use Rattle.fed_model.specs.declared.letters.Letter.TheVariants.{Exiting, Running
 use Rattle.fed_model.specs.declared.values.Changes.{Changes}
 use Rattle.fed_model.specs.declared.values.JobValues.{JobValues}
 use Rattle.fed_model.specs.declared.windows.Window.{Window}
-use Rattle.fed_model.specs.Body.{Body, Body.Submit, Body.Set, Body.Hold, Body.Release, Body.Delete, Body.Grant, Body.HandBack, Body.Begin, Body.Finish, Body.Reserve, Body.Cancel}
+use Rattle.fed_model.specs.Body.{Body, Body.Submit, Body.OfJob, Body.Reserve, Body.Cancel, JobBody.Set, JobBody.Hold, JobBody.Release, JobBody.Delete, JobBody.Grant, JobBody.HandBack, JobBody.Begin, JobBody.Finish}
 use Rattle.fed_record.specs.Operation.{has_site_pair, has_hold_pair}
 use Rattle.fed_theory.specs.JobSteps.{add_to_job, join_jobs}
 use Rattle.fed_model.specs.Letter.{any_below, has_site, is_submitted, letter}
@@ -67,7 +67,7 @@ not_exchanged = refl
 
 -- ---- two priorities set at one counter: that of the greater site stays
 abbrev prioritised : ℕ → ℕ → StampValue × Body
-prioritised site priority = (at 2 site, Set job (record nothing { priority = Some (pos priority) }) (has_site_pair []))
+prioritised site priority = (at 2 site, OfJob job (Set (record nothing { priority = Some (pos priority) }) (has_site_pair [])))
 
 second_wins : ((view (here ++ prioritised 1 7 ∷ prioritised 0 9 ∷ [])).job job).fields.priority ≡ Some (at 2 1, pos 7)
 second_wins = refl
@@ -82,11 +82,11 @@ held = (job, submit true) ∷ []
 
 -- the user hold of the Submit is released at site 1
 abbrev release : StampValue × Body
-release = (at 2 1, Release job (has_hold_pair ((User, job) ∷ [])))
+release = (at 2 1, OfJob job (Release (has_hold_pair ((User, job) ∷ []))))
 
 -- a user hold is added at site 0 at the same time
 abbrev hold_again : StampValue × Body
-hold_again = (at 2 0, Hold job (record { 0 = 1 }))
+hold_again = (at 2 0, OfJob job (Hold (record { 0 = 1 })))
 
 held_once : letter ((view held).job job) ≡ Some Held
 unfolding any_below
@@ -108,7 +108,7 @@ late_hold_goes = refl
 
 -- ---- eligible sites: the pairs seen are removed, and the sites named are added
 abbrev moved : StampValue × Body
-moved = (at 2 0, Set job (record nothing { sites = Some second_site }) (has_site_pair ((0, job) ∷ (1, job) ∷ [])))
+moved = (at 2 0, OfJob job (Set (record nothing { sites = Some second_site }) (has_site_pair ((0, job) ∷ (1, job) ∷ []))))
 
 moved_from_first : has_site ((view (here ++ moved ∷ [])).job job) 0 ≡ false
 unfolding any_below
@@ -120,13 +120,13 @@ moved_to_second = refl
 
 -- ---- grants
 abbrev pub granted : History Body
-granted = here ++ (at 2 0, Grant job 1 1) ∷ []
+granted = here ++ (at 2 0, OfJob job (Grant 1 1)) ∷ []
 
 abbrev pub returned : History Body
-returned = granted ++ (at 3 1, HandBack job 1) ∷ []
+returned = granted ++ (at 3 1, OfJob job (HandBack 1)) ∷ []
 
 abbrev pub granted_anew : History Body
-granted_anew = returned ++ (at 4 0, Grant job 0 2) ∷ []
+granted_anew = returned ++ (at 4 0, OfJob job (Grant 0 2)) ∷ []
 
 granted_letter : letter ((view granted).job job) ≡ Some Granted
 unfolding any_below
@@ -154,10 +154,10 @@ anew_stage = refl
 
 -- ---- progress
 abbrev pub begun : History Body
-begun = granted ++ (at 3 1, Begin job (record { moment = 5; nodes = 1; end = 3605 })) ∷ []
+begun = granted ++ (at 3 1, OfJob job (Begin (record { moment = 5; nodes = 1; end = 3605 }))) ∷ []
 
 abbrev deletion : StampValue × Body
-deletion = (at 3 0, Delete job)
+deletion = (at 3 0, OfJob job Delete)
 
 begun_letter : letter ((view begun).job job) ≡ Some Running
 unfolding any_below
@@ -172,7 +172,7 @@ deleted_alone : letter ((view (granted ++ deletion ∷ [])).job job) ≡ None
 unfolding any_below
 deleted_alone = refl
 
-finished : letter ((view (begun ++ (at 4 1, Finish job (record { moment = 50; status = 0 })) ∷ [])).job job) ≡ None
+finished : letter ((view (begun ++ (at 4 1, OfJob job (Finish (record { moment = 50; status = 0 }))) ∷ [])).job job) ≡ None
 unfolding any_below
 finished = refl
 

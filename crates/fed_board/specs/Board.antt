@@ -11,7 +11,7 @@ use Rattle.fed_lattice.specs.Stamped.{with_stamp}
 use Rattle.fed_lattice.specs.Table.{IsAtEach, value_at, joined_tables, applied_table}
 use Rattle.fed_lattice.specs.JoinedEntries.{joined_entries}
 use Rattle.fed_record.specs.declared.operations.Operation.{Operation}
-use Rattle.fed_model.specs.Body.{Body, Body.Submit, Body.Set, Body.Hold, Body.Release, Body.Delete, Body.Grant, Body.HandBack, Body.Begin, Body.Finish, Body.Reserve, Body.Cancel}
+use Rattle.fed_model.specs.Body.{Body, Body.Submit, Body.OfJob, Body.Reserve, Body.Cancel}
 use Rattle.fed_record.specs.JobRecord.{JobRecordValue, job_reads}
 use Rattle.fed_model.specs.Letter.{is_submitted}
 use Rattle.fed_model.specs.Reservation.{ReservationView}
@@ -72,14 +72,7 @@ HasReservation b id = IsSome (lookup (is_at (stamp_cmp id)) b.reservations)
 -- the job or the reservation that an operation is of is on the board, unless the operation makes it
 abbrev pub HasNamed : BoardValue → Body → Type 0
 HasNamed b (Submit owner values held) = Unit {0}
-HasNamed b (Set job changes removed) = HasJob b job
-HasNamed b (Hold job kinds) = HasJob b job
-HasNamed b (Release job removed) = HasJob b job
-HasNamed b (Delete job) = HasJob b job
-HasNamed b (Grant job site term) = HasJob b job
-HasNamed b (HandBack job term) = HasJob b job
-HasNamed b (Begin job beginning) = HasJob b job
-HasNamed b (Finish job ending) = HasJob b job
+HasNamed b (OfJob job what) = HasJob b job
 HasNamed b (Reserve window) = Unit {0}
 HasNamed b (Cancel id) = HasReservation b id
 

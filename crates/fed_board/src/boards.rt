@@ -255,14 +255,7 @@ impl Board {
         match operation {
             Operation::Submit { .. } | Operation::Reserve { .. } => true,
             Operation::Cancel { reservation } => self.reservation(*reservation).is_some(),
-            Operation::Set { job, .. }
-            | Operation::Hold { job, .. }
-            | Operation::Release { job, .. }
-            | Operation::Delete { job }
-            | Operation::Grant { job, .. }
-            | Operation::HandBack { job, .. }
-            | Operation::Begin { job, .. }
-            | Operation::Finish { job, .. } => self.job(*job).is_some(),
+            Operation::OfJob(job, _) => self.job(*job).is_some(),
         }
     }
 
