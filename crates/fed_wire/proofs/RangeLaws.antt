@@ -23,7 +23,7 @@ use Rattle.fed_model.specs.declared.grants.GrantStage.{GrantStage}
 use Rattle.fed_model.specs.declared.limits.TheConstants.{MAX_LIMIT}
 use Rattle.fed_model.specs.declared.beginnings.Beginning.{Beginning}
 use Rattle.fed_model.specs.declared.beginnings.Ending.{Ending}
-use Rattle.fed_model.specs.Body.{Body, Body.Submit, Body.Set, Body.Hold, Body.Release, Body.Delete, Body.Grant, Body.HandBack, Body.Begin, Body.Finish, Body.Reserve, Body.Cancel, is_of_job, of_job}
+use Rattle.fed_model.specs.Body.{Body, Body.Submit, Body.OfJob, Body.Reserve, Body.Cancel, JobBody.Set, JobBody.Grant, JobBody.HandBack, JobBody.Begin, JobBody.Finish, is_of_job, of_job}
 use Rattle.fed_model.specs.Field.{owner_in, name_in, priority_in, nodes_in, limit_in, account_in, begin_in, finish_in, window_in, field}
 use Rattle.fed_model.specs.Grant.{grant_in, grant_stage}
 use Rattle.fed_model.specs.Pairs.{adds_pair, adds_site, is_live, is_site_named}
@@ -43,133 +43,49 @@ use Rattle.fed_model.specs.Limits.{IsWithinLimits}
 
 pub owner_ranged : (body : Body) → IsInRange body → IfSome (owner_in body) IsName
 owner_ranged (Submit owner values held) r = r.0
-owner_ranged (Set job changes removed) r = tt
-owner_ranged (Hold job kinds) r = tt
-owner_ranged (Release job removed) r = tt
-owner_ranged (Delete job) r = tt
-owner_ranged (Grant job site term) r = tt
-owner_ranged (HandBack job term) r = tt
-owner_ranged (Begin job beginning) r = tt
-owner_ranged (Finish job ending) r = tt
-owner_ranged (Reserve window) r = tt
-owner_ranged (Cancel id) r = tt
+owner_ranged _ r = tt
 
 pub name_ranged : (body : Body) → IsInRange body → IfSome (name_in body) IsName
 name_ranged (Submit owner values held) r = r.1.name
-name_ranged (Set job changes removed) r = r.name
-name_ranged (Hold job kinds) r = tt
-name_ranged (Release job removed) r = tt
-name_ranged (Delete job) r = tt
-name_ranged (Grant job site term) r = tt
-name_ranged (HandBack job term) r = tt
-name_ranged (Begin job beginning) r = tt
-name_ranged (Finish job ending) r = tt
-name_ranged (Reserve window) r = tt
-name_ranged (Cancel reservation) r = tt
+name_ranged (OfJob job (Set changes removed)) r = r.name
+name_ranged _ r = tt
 
 pub priority_ranged : (body : Body) → IsInRange body → IfSome (priority_in body) IsPriority
 priority_ranged (Submit owner values held) r = r.1.priority
-priority_ranged (Set job changes removed) r = r.priority
-priority_ranged (Hold job kinds) r = tt
-priority_ranged (Release job removed) r = tt
-priority_ranged (Delete job) r = tt
-priority_ranged (Grant job site term) r = tt
-priority_ranged (HandBack job term) r = tt
-priority_ranged (Begin job beginning) r = tt
-priority_ranged (Finish job ending) r = tt
-priority_ranged (Reserve window) r = tt
-priority_ranged (Cancel id) r = tt
+priority_ranged (OfJob job (Set changes removed)) r = r.priority
+priority_ranged _ r = tt
 
 pub nodes_ranged : (body : Body) → IsInRange body → IfSome (nodes_in body) (IsFrom 1 MAX_NODES)
 nodes_ranged (Submit owner values held) r = r.1.nodes
-nodes_ranged (Set job changes removed) r = r.nodes
-nodes_ranged (Hold job kinds) r = tt
-nodes_ranged (Release job removed) r = tt
-nodes_ranged (Delete job) r = tt
-nodes_ranged (Grant job site term) r = tt
-nodes_ranged (HandBack job term) r = tt
-nodes_ranged (Begin job beginning) r = tt
-nodes_ranged (Finish job ending) r = tt
-nodes_ranged (Reserve window) r = tt
-nodes_ranged (Cancel id) r = tt
+nodes_ranged (OfJob job (Set changes removed)) r = r.nodes
+nodes_ranged _ r = tt
 
 pub limit_ranged : (body : Body) → IsInRange body → IfSome (limit_in body) (IsFrom 1 MAX_LIMIT)
 limit_ranged (Submit owner values held) r = r.1.limit
-limit_ranged (Set job changes removed) r = r.limit
-limit_ranged (Hold job kinds) r = tt
-limit_ranged (Release job removed) r = tt
-limit_ranged (Delete job) r = tt
-limit_ranged (Grant job site term) r = tt
-limit_ranged (HandBack job term) r = tt
-limit_ranged (Begin job beginning) r = tt
-limit_ranged (Finish job ending) r = tt
-limit_ranged (Reserve window) r = tt
-limit_ranged (Cancel id) r = tt
+limit_ranged (OfJob job (Set changes removed)) r = r.limit
+limit_ranged _ r = tt
 
 pub account_ranged : (body : Body) → IsInRange body → IfSome (account_in body) IsAccount
 account_ranged (Submit owner values held) r = r.1.account
-account_ranged (Set job changes removed) r = r.account
-account_ranged (Hold job kinds) r = tt
-account_ranged (Release job removed) r = tt
-account_ranged (Delete job) r = tt
-account_ranged (Grant job site term) r = tt
-account_ranged (HandBack job term) r = tt
-account_ranged (Begin job beginning) r = tt
-account_ranged (Finish job ending) r = tt
-account_ranged (Reserve window) r = tt
-account_ranged (Cancel id) r = tt
+account_ranged (OfJob job (Set changes removed)) r = r.account
+account_ranged _ r = tt
 
 begin_ranged : (body : Body) → IsInRange body → IfSome (begin_in body) IsBeginning
-begin_ranged (Submit owner values held) r = tt
-begin_ranged (Set job changes removed) r = tt
-begin_ranged (Hold job kinds) r = tt
-begin_ranged (Release job removed) r = tt
-begin_ranged (Delete job) r = tt
-begin_ranged (Grant job site term) r = tt
-begin_ranged (HandBack job term) r = tt
-begin_ranged (Begin job beginning) r = r
-begin_ranged (Finish job ending) r = tt
-begin_ranged (Reserve window) r = tt
-begin_ranged (Cancel id) r = tt
+begin_ranged (OfJob job (Begin beginning)) r = r
+begin_ranged _ r = tt
 
 finish_ranged : (body : Body) → IsInRange body → IfSome (finish_in body) IsEnding
-finish_ranged (Submit owner values held) r = tt
-finish_ranged (Set job changes removed) r = tt
-finish_ranged (Hold job kinds) r = tt
-finish_ranged (Release job removed) r = tt
-finish_ranged (Delete job) r = tt
-finish_ranged (Grant job site term) r = tt
-finish_ranged (HandBack job term) r = tt
-finish_ranged (Begin job beginning) r = tt
-finish_ranged (Finish job ending) r = r
-finish_ranged (Reserve window) r = tt
-finish_ranged (Cancel id) r = tt
+finish_ranged (OfJob job (Finish ending)) r = r
+finish_ranged _ r = tt
 
 pub window_ranged : (body : Body) → IsInRange body → IfSome (window_in body) (λ w. IfSome w IsWindow)
-window_ranged (Submit owner values held) r = tt
-window_ranged (Set job changes removed) r = tt
-window_ranged (Hold job kinds) r = tt
-window_ranged (Release job removed) r = tt
-window_ranged (Delete job) r = tt
-window_ranged (Grant job site term) r = tt
-window_ranged (HandBack job term) r = tt
-window_ranged (Begin job beginning) r = tt
-window_ranged (Finish job ending) r = tt
 window_ranged (Reserve window) r = r
-window_ranged (Cancel id) r = tt
+window_ranged _ r = tt
 
 grant_ranged : (t : StampValue) (body : Body) → IsStamp t → IsInRange body → IfSome (grant_in (t, body)) (IsStage Two)
-grant_ranged t (Submit owner values held) s r = tt
-grant_ranged t (Set job changes removed) s r = tt
-grant_ranged t (Hold job kinds) s r = tt
-grant_ranged t (Release job removed) s r = tt
-grant_ranged t (Delete job) s r = tt
-grant_ranged t (Grant job to term) s r = (r.1, s, r.0)
-grant_ranged t (HandBack job term) s r = (r, s)
-grant_ranged t (Begin job beginning) s r = tt
-grant_ranged t (Finish job ending) s r = tt
-grant_ranged t (Reserve window) s r = tt
-grant_ranged t (Cancel id) s r = tt
+grant_ranged t (OfJob job (Grant to term)) s r = (r.1, s, r.0)
+grant_ranged t (OfJob job (HandBack term)) s r = (r, s)
+grant_ranged t _ s r = tt
 
 one_of_16 : (site : ℕ) (b : Bool) → (nat_lt site 16 && b) ≡ true → IsSite site
 one_of_16 site b e = let small : site < 16 = ltb-true site 16 (and_parts (nat_lt site 16) b e).0 in (omega arith, omega arith)
@@ -181,16 +97,8 @@ named_site (Some sites) site e = one_of_16 site _ e
 -- a site that an operation adds is one of the 16
 pub added_site : (body : Body) (site : ℕ) → adds_site body site ≡ true → IsSite site
 added_site (Submit owner values held) site e = one_of_16 site _ e
-added_site (Set job changes removed) site e = named_site changes.sites site e
-added_site (Hold job kinds) site e = cc
-added_site (Release job removed) site e = cc
-added_site (Delete job) site e = cc
-added_site (Grant job to term) site e = cc
-added_site (HandBack job term) site e = cc
-added_site (Begin job beginning) site e = cc
-added_site (Finish job ending) site e = cc
-added_site (Reserve window) site e = cc
-added_site (Cancel id) site e = cc
+added_site (OfJob job (Set changes removed)) site e = named_site changes.sites site e
+added_site _ site e = cc
 
 -- what ascends does so by the test of packets
 less : {A : Type 0} (R : A → A → Ordering) (x : A) (ys : List A) → AllByRecursion (λ y. R x y ≡ Less) ys → list_all (λ y. is_lt (R x y)) ys ≡ true
@@ -258,8 +166,8 @@ module _ (all : History Body) (lawful : IsLawful all) (within : IsWithinLimits a
   begun_is : (b : StampValue × Beginning) → field begin_in mine ≡ Some b → IsBegun b
   begun_is b p = let r = field_ranged mine all within of_all begin_in IsBeginning begin_ranged b p in (r.0, r.1.0, r.1.1, r.1.2, r.1.3)
 
-  finish_body : (body : Body) (ending : Ending) → finish_in body ≡ Some ending → (id : StampValue) × (body ≡ Finish id ending)
-  finish_body (Finish id other) ending e = let s : other ≡ ending = cc in (id, ap (Finish id) s)
+  finish_body : (body : Body) (ending : Ending) → finish_in body ≡ Some ending → (id : StampValue) × (body ≡ OfJob id (Finish ending))
+  finish_body (OfJob id (Finish other)) ending e = let s : other ≡ ending = cc in (id, ap (λ x. OfJob id (Finish x)) s)
   finish_body _ ending e = cc
 
   -- a job is finished only where it is begun
@@ -270,8 +178,8 @@ module _ (all : History Body) (lawful : IsLawful all) (within : IsWithinLimits a
       let id = finish_body s.0 f.1 s.2 in
       let h = Has-filter (is_of_job job) all (f.0, s.0) s.1 in
       let same : id.0 ≡ job = same_stamp_is id.0 job (subst (λ (body : Body). is_of_job job (f.0, body) ≡ true) id.1 h.1) in
-      let g = (lawful.grounded (f.0, Finish id.0 f.1) (subst (λ (body : Body). Has all (f.0, body)) id.1 h.0)).1 in
-      let begun : Has mine (g.0, Begin id.0 g.1) = filter-Has (is_of_job job) all (g.0, Begin id.0 g.1) g.2 (subst (λ (j : StampValue). same_stamp id.0 j ≡ true) same (same_stamp_itself id.0)) in
-      absurd (let e : false ≡ true = sym (ap is_some p) ∙ said_found begin_in g.1 mine g.0 (Begin id.0 g.1) begun refl in cc)
+      let g = (lawful.grounded (f.0, OfJob id.0 (Finish f.1)) (subst (λ (body : Body). Has all (f.0, body)) id.1 h.0)).1 in
+      let begun : Has mine (g.0, OfJob id.0 (Begin g.1)) = filter-Has (is_of_job job) all (g.0, OfJob id.0 (Begin g.1)) g.2 (subst (λ (j : StampValue). same_stamp id.0 j ≡ true) same (same_stamp_itself id.0)) in
+      absurd (let e : false ≡ true = sym (ap is_some p) ∙ said_found begin_in g.1 mine g.0 (OfJob id.0 (Begin g.1)) begun refl in cc)
   progress_is (Some b) None p q = begun_is b p
   progress_is (Some b) (Some f) p q = (begun_is b p, let r = field_ranged mine all within of_all finish_in IsEnding finish_ranged f q in (r.0, r.1.0, r.1.1))
