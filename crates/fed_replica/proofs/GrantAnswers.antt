@@ -12,7 +12,7 @@ use Rattle.fed_model.specs.declared.grants.GrantStage.TheVariants.{Open, Returne
 use Rattle.fed_model.specs.declared.refusals.Refusal.{Refusal}
 use Rattle.fed_model.specs.declared.replies.Reply.{Reply}
 use Rattle.fed_model.specs.declared.terms.TheConstants.{MAX_TERM}
-use Rattle.fed_model.specs.Body.{Body}
+use Rattle.fed_model.specs.Body.{Body, JobBody}
 use Rattle.fed_model.specs.Letter.{holder_in, is_granted_to}
 use Rattle.fed_model.specs.View.{View}
 use Rattle.fed_model.specs.declared.decisions.Decision.{Decision}
@@ -88,7 +88,7 @@ module _ (v : View) (here : ℕ) (who : Who) (job : StampValue) (asker : ℕ) wh
       let p = yours_by (first_of (grant_refusals v here job asker)) (is_granted_to (v.job job) asker) d in
       nothing_added v here who (Command.Grant job asker)
       (last_applies (grant_refusals v here job asker) last p.0 ∙ ap (λ b. if b then Some Refusal.ClockFull else None) (open_not_last (v.job job).stages.grant asker p.1))
-      (ap (λ b. if b then None else Some (Body.Grant job asker (term_in (v.job job).stages.grant + 1))) p.1)
+      (ap (λ b. if b then None else Some (Body.OfJob job (JobBody.Grant asker (term_in (v.job job).stages.grant + 1)))) p.1)
 
   module _ (d : decision v here job asker ≡ Decision.Grant) (n : ℕ) (is : n ≡ term_in (v.job job).stages.grant) where
     parts : (first_of (grant_refusals v here job asker) ≡ None) × (is_granted_to (v.job job) asker ≡ false)
@@ -100,10 +100,10 @@ module _ (v : View) (here : ℕ) (who : Who) (job : StampValue) (asker : ℕ) wh
         ∙ ap (λ b. if b then Some Refusal.ClockFull else None)
         (free_last (v.job job).stages.grant asker (clear (grant_refusals v here job asker) parts.0).1.1.1.1.1.0 parts.1 ∙ ap (nat_le MAX_TERM) (sym is))
 
-    grants : (term : ℕ) → n + 1 ≡ term → effect v who (Command.Grant job asker) ≡ Some (Body.Grant job asker term)
+    grants : (term : ℕ) → n + 1 ≡ term → effect v who (Command.Grant job asker) ≡ Some (Body.OfJob job (JobBody.Grant asker term))
     grants term e =
-        ap (λ b. if b then None else Some (Body.Grant job asker (term_in (v.job job).stages.grant + 1))) parts.1
-        ∙ ap (λ (k : ℕ). Some (Body.Grant job asker (k + 1))) (sym is) ∙ ap (λ (k : ℕ). Some (Body.Grant job asker k)) e
+        ap (λ b. if b then None else Some (Body.OfJob job (JobBody.Grant asker (term_in (v.job job).stages.grant + 1)))) parts.1
+        ∙ ap (λ (k : ℕ). Some (Body.OfJob job (JobBody.Grant asker (k + 1)))) (sym is) ∙ ap (λ (k : ℕ). Some (Body.OfJob job (JobBody.Grant asker k))) e
 
     pub grant_last : None ≡ new_term (n + 1) → Refuses Refusal.ClockFull ≡ answer_to v here who (Command.Grant job asker)
     grant_last e = refused v here who (Command.Grant job asker) Refusal.ClockFull (table ∙ ap (λ b. if b then Some Refusal.ClockFull else None) (no_term n (sym e)))
@@ -113,7 +113,7 @@ module _ (v : View) (here : ℕ) (who : Who) (job : StampValue) (asker : ℕ) wh
       spared = table ∙ ap (λ b. if b then Some Refusal.ClockFull else None) (is_term n term (sym e)).0
 
       pub grant_full : next_stamp v.version here ≡ Err (record {}) → Refuses Refusal.ClockFull ≡ answer_to v here who (Command.Grant job asker)
-      grant_full f = full v here who (Command.Grant job asker) spared (Body.Grant job asker term) (grants term (is_term n term (sym e)).1) f
+      grant_full f = full v here who (Command.Grant job asker) spared (Body.OfJob job (JobBody.Grant asker term)) (grants term (is_term n term (sym e)).1) f
 
-      pub grant_added : (at : StampValue) → next_stamp v.version here ≡ Ok at → Replies Reply.Granted (Some (at, Body.Grant job asker term)) ≡ answer_to v here who (Command.Grant job asker)
-      grant_added at f = added v here who (Command.Grant job asker) spared at (Body.Grant job asker term) (grants term (is_term n term (sym e)).1) f
+      pub grant_added : (at : StampValue) → next_stamp v.version here ≡ Ok at → Replies Reply.Granted (Some (at, Body.OfJob job (JobBody.Grant asker term))) ≡ answer_to v here who (Command.Grant job asker)
+      grant_added at f = added v here who (Command.Grant job asker) spared at (Body.OfJob job (JobBody.Grant asker term)) (grants term (is_term n term (sym e)).1) f

@@ -31,16 +31,7 @@ first_other (c ∷ cases) h e = pick c.0 c.1 (first_of cases) (and_parts _ (neve
 
 table : (v : View) (here : ℕ) (who : Who) (command : Command) → never_wants (refusals v here who command) ≡ true
 table v here who (Command.Submit values held) = refl
-table v here who (Command.Alter job changes) = refl
-table v here who (Command.Hold job kinds) = refl
-table v here who (Command.Release job kinds) = refl
-table v here who (Command.Delete job) = refl
-table v here who (Command.Grant job asker) = refl
-table v here who (Command.HandBack job) = refl
-table v here who (Command.Begin job moment) = refl
-table v here who (Command.Finish job moment status) = refl
-table v here who (Command.Reserve window) = refl
-table v here who (Command.Cancel id) = refl
+table v here who _ = refl
 
 -- so no answer is
 pub never_memory : (v : View) (here : ℕ) (who : Who) (command : Command) → answer_to v here who command ≡ Refuses Refusal.NoMemory → ⊥

@@ -11,7 +11,7 @@ use crate::jobs::{is_held_up, last_term};
 use crate::steps::{Step, next_stamp};
 use fed_board::Board;
 use fed_desk::{Decision, decide_on};
-use fed_record::{Ending, Moment, Operation, Refusal, Reply, Term};
+use fed_record::{Ending, JobOperation, Moment, Operation, Refusal, Reply, Term};
 use fed_stamp::{JobId, SiteId};
 
 /// Grants the job to the site that asks, as the desk decides, unless the last term there is was handed back.
@@ -33,11 +33,7 @@ pub(crate) fn grant(board: &Board, here: SiteId, job: JobId, asker: SiteId) -> R
     let at = next_stamp(board, here)?;
     Ok(Step::Adds {
         at,
-        operation: Operation::Grant {
-            job,
-            site: asker,
-            term,
-        },
+        operation: Operation::OfJob(job, JobOperation::Grant { site: asker, term }),
         reply: Reply::Granted,
     })
 }
@@ -62,10 +58,12 @@ pub(crate) fn hand_back(board: &Board, here: SiteId, job: JobId) -> Result<Step,
     let at = next_stamp(board, here)?;
     Ok(Step::Adds {
         at,
-        operation: Operation::HandBack {
+        operation: Operation::OfJob(
             job,
-            term: granted_term(record),
-        },
+            JobOperation::HandBack {
+                term: granted_term(record),
+            },
+        ),
         reply: Reply::Done,
     })
 }
@@ -98,10 +96,12 @@ pub(crate) fn begin(
     let at = next_stamp(board, here)?;
     Ok(Step::Adds {
         at,
-        operation: Operation::Begin {
+        operation: Operation::OfJob(
             job,
-            beginning: beginning(record, moment),
-        },
+            JobOperation::Begin {
+                beginning: beginning(record, moment),
+            },
+        ),
         reply: Reply::Done,
     })
 }
@@ -133,10 +133,12 @@ pub(crate) fn finish(
     let at = next_stamp(board, here)?;
     Ok(Step::Adds {
         at,
-        operation: Operation::Finish {
+        operation: Operation::OfJob(
             job,
-            ending: Ending { moment, status },
-        },
+            JobOperation::Finish {
+                ending: Ending { moment, status },
+            },
+        ),
         reply: Reply::Done,
     })
 }

@@ -10,7 +10,7 @@ use crate::effects::{has_hold_among, released, replaced};
 use crate::permissions::{may_alter, may_hold_all};
 use crate::steps::{Step, next_stamp};
 use fed_board::{Board, MAX_JOBS};
-use fed_record::{Changes, HoldKinds, JobValues, Operation, Refusal, Reply, Who};
+use fed_record::{Changes, HoldKinds, JobOperation, JobValues, Operation, Refusal, Reply, Who};
 use fed_stamp::{JobId, SiteId};
 use std::alloc::Global;
 
@@ -69,11 +69,13 @@ pub(crate) fn alter(
     let removed = replaced(alloc, record, changes.sites)?;
     Ok(Step::Adds {
         at,
-        operation: Operation::Set {
+        operation: Operation::OfJob(
             job,
-            changes: *changes,
-            removed,
-        },
+            JobOperation::Set {
+                changes: *changes,
+                removed,
+            },
+        ),
         reply: Reply::Done,
     })
 }
@@ -104,7 +106,7 @@ pub(crate) fn hold(
     let at = next_stamp(board, here)?;
     Ok(Step::Adds {
         at,
-        operation: Operation::Hold { job, kinds },
+        operation: Operation::OfJob(job, JobOperation::Hold { kinds }),
         reply: Reply::Done,
     })
 }
@@ -138,7 +140,7 @@ pub(crate) fn release(
     let removed = released(alloc, record, kinds)?;
     Ok(Step::Adds {
         at,
-        operation: Operation::Release { job, removed },
+        operation: Operation::OfJob(job, JobOperation::Release { removed }),
         reply: Reply::Done,
     })
 }
@@ -160,7 +162,7 @@ pub(crate) fn delete(board: &Board, here: SiteId, who: &Who, job: JobId) -> Resu
     let at = next_stamp(board, here)?;
     Ok(Step::Adds {
         at,
-        operation: Operation::Delete { job },
+        operation: Operation::OfJob(job, JobOperation::Delete),
         reply: Reply::Done,
     })
 }
