@@ -32,30 +32,13 @@ covers_added : (s : State) (t : StampValue) (command : Command) (body : Body) �
     → let a = replies (Ok t) command (Some body) in NamesSite (outcome_of_answer a) → Covers (after_answer s a).view.version (outcome_of_answer a)
 unfolding add_to_view
 covers_added s t (Command.Submit values held) body len small = own_raised s.view.version t (omega (arith, len, small))
-covers_added s t (Command.Alter job changes) body len small = tt
-covers_added s t (Command.Hold job kinds) body len small = tt
-covers_added s t (Command.Release job kinds) body len small = tt
-covers_added s t (Command.Delete job) body len small = tt
-covers_added s t (Command.Grant job asker) body len small = tt
-covers_added s t (Command.HandBack job) body len small = tt
-covers_added s t (Command.Begin job moment) body len small = tt
-covers_added s t (Command.Finish job moment status) body len small = tt
 covers_added s t (Command.Reserve window) body len small = own_raised s.view.version t (omega (arith, len, small))
-covers_added s t (Command.Cancel id) body len small = tt
+covers_added s t _ body len small = tt
 
 covers_nothing : (s : State) (next : Result StampValue ClockFull) (command : Command)
     → let a = replies next command None in Covers (after_answer s a).view.version (outcome_of_answer a)
-covers_nothing s next (Command.Submit values held) = tt
-covers_nothing s next (Command.Alter job changes) = tt
-covers_nothing s next (Command.Hold job kinds) = tt
-covers_nothing s next (Command.Release job kinds) = tt
-covers_nothing s next (Command.Delete job) = tt
 covers_nothing s next (Command.Grant job asker) = tt
-covers_nothing s next (Command.HandBack job) = tt
-covers_nothing s next (Command.Begin job moment) = tt
-covers_nothing s next (Command.Finish job moment status) = tt
-covers_nothing s next (Command.Reserve window) = tt
-covers_nothing s next (Command.Cancel id) = tt
+covers_nothing s next _ = tt
 
 covers_replies : (s : State) (next : Result StampValue ClockFull) (command : Command) (body : Option Body) → length s.view.version ≡ 16
     → let a = replies next command body in NamesSite (outcome_of_answer a) → Covers (after_answer s a).view.version (outcome_of_answer a)
