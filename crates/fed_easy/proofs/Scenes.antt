@@ -3,7 +3,7 @@ use Rattle.std.proofs.Common.{◌≡◌, ℕ, [], ◌∷◌, ◌++◌, true, fal
 use Rattle.std.specs.Prelude.{pos, Some, None, replicate}
 use Rattle.fed_stamp.specs.Stamp.{StampValue}
 use Rattle.fed_lattice.specs.History.{History}
-use Rattle.fed_model.specs.Body.{Body, Body.Submit, Body.Grant, Body.Begin, Body.Reserve, Body.Cancel}
+use Rattle.fed_model.specs.Body.{Body, Body.Submit, Body.OfJob, Body.Reserve, Body.Cancel, JobBody.Grant, JobBody.Begin}
 use Rattle.fed_model.specs.Letter.{any_below}
 use Rattle.fed_model.specs.View.{view}
 use Rattle.fed_easy.specs.Machine.{running_in}
@@ -26,7 +26,7 @@ plan ops nodes now = site_plan (view ops) 0 now (record { nodes = nodes; running
 
 -- 6 nodes run until second 10
 abbrev busy : History Body
-busy = submit 1 6 10 ∷ (at 2 0, Grant (at 1 0) 0 1) ∷ (at 3 0, Begin (at 1 0) (record { moment = 0; nodes = 6; end = 10 })) ∷ []
+busy = submit 1 6 10 ∷ (at 2 0, OfJob (at 1 0) (Grant 0 1)) ∷ (at 3 0, OfJob (at 1 0) (Begin (record { moment = 0; nodes = 6; end = 10 }))) ∷ []
 
 -- ---- 6 of 8 nodes run, and a job of 7 waits: one of 2 nodes that ends by then starts
 abbrev backfilled : History Body

@@ -10,7 +10,7 @@ use Rattle.fed_lattice.specs.History.{History}
 use Rattle.fed_lattice.specs.VersionOf.{HasSites}
 use Rattle.fed_lattice.proofs.FilterLaws.{Has-filter}
 use Rattle.fed_model.specs.declared.beginnings.Beginning.{Beginning}
-use Rattle.fed_model.specs.Body.{Body, Body.Begin, is_of_job, of_job}
+use Rattle.fed_model.specs.Body.{Body, Body.OfJob, JobBody.Begin, is_of_job, of_job}
 use Rattle.fed_model.specs.Field.{begin_in, field}
 use Rattle.fed_model.specs.JobView.{JobView}
 use Rattle.fed_theory.proofs.FoundLaws.{field_found}
@@ -77,7 +77,7 @@ job_runs site j h = go (is_some j.stages.finished)
 
 -- ---- a Begin that is read is one of the operations
 begin_said : (body : Body) (beginning : Beginning) → IsInRange body → begin_in body ≡ Some beginning → IsBeginning beginning
-begin_said (Begin job said) beginning r e = let same : said ≡ beginning = cc in subst IsBeginning same r
+begin_said (OfJob job (Begin said)) beginning r e = let same : said ≡ beginning = cc in subst IsBeginning same r
 begin_said _ beginning r e = cc
 
 module _ (ops : History Body) (within : IsWithinLimits ops) where

@@ -7,7 +7,7 @@ use Rattle.fed_lattice.specs.Sets.{Has}
 use Rattle.fed_lattice.specs.History.{History}
 use Rattle.fed_lattice.proofs.FilterLaws.{Has-filter}
 use Rattle.fed_model.specs.declared.beginnings.Beginning.{Beginning}
-use Rattle.fed_model.specs.Body.{Body, Body.Begin, is_of_job, of_job}
+use Rattle.fed_model.specs.Body.{Body, Body.OfJob, JobBody.Begin, is_of_job, of_job}
 use Rattle.fed_model.specs.Field.{begin_in}
 use Rattle.fed_theory.proofs.FoundLaws.{field_found}
 use Rattle.fed_model.specs.View.{view}
@@ -20,14 +20,14 @@ use Rattle.fed_turns.proofs.Reached.{good, run_reached, start_reached}
 use Rattle.fed_turns.proofs.Turns.{turns_played}
 
 -- what is read of a job's Begin is one of the operations
-begin_of : (ops : History Body) (job t : StampValue) (body : Body) (b : Beginning) → Has ops (t, body) → is_of_job job (t, body) ≡ true → begin_in body ≡ Some b → Has ops (t, Begin job b)
-begin_of ops job t (Begin other said) b h of e =
+begin_of : (ops : History Body) (job t : StampValue) (body : Body) (b : Beginning) → Has ops (t, body) → is_of_job job (t, body) ≡ true → begin_in body ≡ Some b → Has ops (t, OfJob job (Begin b))
+begin_of ops job t (OfJob other (Begin said)) b h of e =
     let same : said ≡ b = cc in
     let named : other ≡ job = (same_stamp-Decides other job).0 of in
-    subst (λ (j : StampValue). Has ops (t, Begin j b)) named (subst (λ (x : Beginning). Has ops (t, Begin other x)) same h)
+    subst (λ (j : StampValue). Has ops (t, OfJob j (Begin b))) named (subst (λ (x : Beginning). Has ops (t, OfJob other (Begin x))) same h)
 begin_of ops job t _ b h of e = cc
 
-begun_of : (ops : History Body) (job : StampValue) (begun : StampValue × Beginning) → ((view ops).job job).stages.begun ≡ Some begun → Has ops (begun.0, Begin job begun.1)
+begun_of : (ops : History Body) (job : StampValue) (begun : StampValue × Beginning) → ((view ops).job job).stages.begun ≡ Some begun → Has ops (begun.0, OfJob job (Begin begun.1))
 begun_of ops job begun e =
     let found = field_found begin_in (of_job job ops) begun e in
     let kept = Has-filter (is_of_job job) ops (begun.0, found.0) found.1 in
@@ -45,6 +45,6 @@ module _ (whole : List (List ℕ × ℕ)) (few : length whole ≤ 16) (rosters :
       let h = (g.1.cuts i).within _ mine in
       let k = (g.1.cuts j).within _ theirs in
       let stamps = g.1.lawful.one_begin job one.0 other.0 one.1 other.1 h k in
-      let whole = g.1.lawful.distinct (one.0, Begin job one.1) (other.0, Begin job other.1) h k stamps in
-      let bodies : ◌≡◌ {A = Body} (Begin job one.1) (Begin job other.1) = ap (λ (x : StampValue × Body). x.1) whole in
+      let whole = g.1.lawful.distinct (one.0, OfJob job (Begin one.1)) (other.0, OfJob job (Begin other.1)) h k stamps in
+      let bodies : ◌≡◌ {A = Body} (OfJob job (Begin one.1)) (OfJob job (Begin other.1)) = ap (λ (x : StampValue × Body). x.1) whole in
       let begins : one.1 ≡ other.1 = cc in (λ n. (stamps n, begins n))

@@ -1,7 +1,8 @@
 //! Boards of sites that act apart and exchange what they have.
 use fed_board::Board;
 use fed_record::{
-    GrantStage, HoldKind, HoldKinds, Letter, Operation, Reservation, Term, Who, Window,
+    GrantStage, HoldKind, HoldKinds, JobOperation, Letter, Operation, Reservation, Term, Who,
+    Window,
 };
 use fed_stamp::{SiteId, Stamp};
 use std::process::Abort;
@@ -26,7 +27,7 @@ pub(crate) fn submit(held: bool) -> Operation {
 /// Releases the user hold that a Submit set.
 pub(crate) fn release(rt: &(impl Abort + AllocGlobal), job: Stamp) -> Operation {
     let removed = Vec::from_slice(rt.alloc(), &[(HoldKind::User, job)]).expect(rt, "memory");
-    Operation::Release { job, removed }
+    Operation::OfJob(job, JobOperation::Release { removed })
 }
 
 /// The term with this number.
@@ -119,7 +120,14 @@ fn see_released(rt: &impl Abort, late: &Board, queued: &Board, job: Stamp) {
 /// A hold that a release has not seen stays.
 fn see_held_again(rt: &impl Abort, late: &Board, queued: &Board, job: Stamp) {
     let kinds = HoldKinds::USER;
-    let held = after(rt, late, &[(stamp(2, 0), Operation::Hold { job, kinds })]);
+    let held = after(
+        rt,
+        late,
+        &[(
+            stamp(2, 0),
+            Operation::OfJob(job, JobOperation::Hold { kinds }),
+        )],
+    );
     see_letter(rt, queued, &held, job, Letter::Held);
 }
 
@@ -135,13 +143,16 @@ fn holds_and_releases_merge(rt: HostRuntime) {
 /// The first term of the job is granted to the site.
 pub(crate) fn granted(rt: &impl Abort, job: Stamp, site: SiteId) -> Step {
     let term = term(rt, 1);
-    (stamp(2, 0), Operation::Grant { job, site, term })
+    (
+        stamp(2, 0),
+        Operation::OfJob(job, JobOperation::Grant { site, term }),
+    )
 }
 
 /// The first term of the job is handed back.
 pub(crate) fn handed_back(rt: &impl Abort, job: Stamp, back: Stamp) -> Step {
     let term = term(rt, 1);
-    (back, Operation::HandBack { job, term })
+    (back, Operation::OfJob(job, JobOperation::HandBack { term }))
 }
 
 /// The job is granted so on the board.
@@ -161,7 +172,14 @@ fn see_kept(rt: &impl Abort, a: &Board, b: &Board, job: Stamp, stamp: Stamp) {
 /// A new term stands above a grant that was handed back.
 fn see_granted_anew(rt: &impl Abort, b: &Board, job: Stamp, site: SiteId) {
     let (stamp, term) = (stamp(4, 0), term(rt, 2));
-    let a = after(rt, b, &[(stamp, Operation::Grant { job, site, term })]);
+    let a = after(
+        rt,
+        b,
+        &[(
+            stamp,
+            Operation::OfJob(job, JobOperation::Grant { site, term }),
+        )],
+    );
     see_grant(
         rt,
         &merged(rt, &a, b),

@@ -2,7 +2,7 @@
 use crate::boards::{Step, board_of, granted, handed_back, submit};
 use fed_board::Board;
 use fed_desk::{Decision, decide};
-use fed_record::{Beginning, Ending, HoldKinds, Moment, Nodes, Operation, Refusal};
+use fed_record::{Beginning, Ending, HoldKinds, JobOperation, Moment, Nodes, Operation, Refusal};
 use fed_stamp::Stamp;
 use std::process::Abort;
 use test_values::{site, stamp};
@@ -42,7 +42,10 @@ fn begun(rt: &impl Abort, job: Stamp) -> Step {
         nodes: Nodes::new(1).expect(rt, "nodes"),
         end: 60,
     };
-    (stamp(5, 1), Operation::Begin { job, beginning })
+    (
+        stamp(5, 1),
+        Operation::OfJob(job, JobOperation::Begin { beginning }),
+    )
 }
 
 /// The Finish behind it.
@@ -51,7 +54,10 @@ fn finished(rt: &impl Abort, job: Stamp) -> Step {
         moment: Moment::new(50).expect(rt, "a moment"),
         status: 0,
     };
-    (stamp(6, 1), Operation::Finish { job, ending })
+    (
+        stamp(6, 1),
+        Operation::OfJob(job, JobOperation::Finish { ending }),
+    )
 }
 
 /// Jobs that are queued, and those handed back, are granted to the sites that they name.
@@ -94,7 +100,10 @@ fn jobs_are_granted_to_one_site(rt: HostRuntime) {
         &[
             (job, submit(false)),
             granted(&rt, job, site(1)),
-            (stamp(3, 1), Operation::Hold { job, kinds }),
+            (
+                stamp(3, 1),
+                Operation::OfJob(job, JobOperation::Hold { kinds }),
+            ),
         ],
         taken(),
         Decision::Yours,
@@ -134,7 +143,7 @@ fn held_jobs_and_jobs_that_are_gone_are_refused(rt: HostRuntime) {
         &rt,
         &[
             (job, submit(true)),
-            (stamp(2, 0), Operation::Delete { job }),
+            (stamp(2, 0), Operation::OfJob(job, JobOperation::Delete)),
         ],
         GONE,
         GONE,

@@ -4,7 +4,7 @@
 use crate::boards::{board_of, has_jobs, submit};
 use fed_board::Board;
 use fed_delta::{Absorb, Delta, absorb, delta_since};
-use fed_record::{HoldKind, HoldKinds, Operation};
+use fed_record::{HoldKind, HoldKinds, JobOperation, Operation};
 use fed_stamp::{Stamp, Version};
 use std::process::Abort;
 use test_values::stamp;
@@ -60,7 +60,12 @@ fn failed_allocations_of_operations(rt: HostRuntime) {
     let kinds = HoldKinds::USER;
     let mut board = Board::new(rt.alloc());
     applied(&rt, &mut board, job, &submit(false));
-    applied(&rt, &mut board, held, &Operation::Hold { job, kinds });
+    applied(
+        &rt,
+        &mut board,
+        held,
+        &Operation::OfJob(job, JobOperation::Hold { kinds }),
+    );
     see_held(&rt, &board, job, held);
 }
 
@@ -93,7 +98,12 @@ fn failed_allocations_of_a_merge_and_a_delta(rt: HostRuntime) {
 fn gone_on(rt: &(impl Abort + AllocGlobal), board: &Board, job: Stamp, next: Stamp) -> Board {
     let mut later = copied(rt, board);
     let kinds = HoldKinds::USER;
-    applied(rt, &mut later, stamp(2, 1), &Operation::Hold { job, kinds });
+    applied(
+        rt,
+        &mut later,
+        stamp(2, 1),
+        &Operation::OfJob(job, JobOperation::Hold { kinds }),
+    );
     applied(rt, &mut later, next, &submit(false));
     later
 }

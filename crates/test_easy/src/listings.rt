@@ -2,7 +2,7 @@
 use crate::sites::act;
 use fed_board::Board;
 use fed_qstat::{full, list};
-use fed_record::{HoldKinds, Operation};
+use fed_record::{HoldKinds, JobOperation, Operation};
 use fed_stamp::{Roster, SiteSet};
 use test_values::{ann, site, stamp, values};
 
@@ -27,7 +27,12 @@ fn a_job_is_listed_once(rt: HostRuntime) {
     assert!(rt; all.as_str() == line);
     let named = list(alloc, &board, &roster, &[job, job, stamp(9, 0)]).expect(&rt, "memory");
     assert!(rt; named.as_str() == line);
-    act(&rt, &mut board, stamp(2, 0), &Operation::Delete { job });
+    act(
+        &rt,
+        &mut board,
+        stamp(2, 0),
+        &Operation::OfJob(job, JobOperation::Delete),
+    );
     let gone = list(alloc, &board, &roster, &[job, job, stamp(9, 0)]).expect(&rt, "memory");
     assert!(rt; gone.as_str() == "");
 }
@@ -44,7 +49,7 @@ fn a_job_is_listed_in_full(rt: HostRuntime) {
         &rt,
         &mut board,
         stamp(2, 0),
-        &Operation::Hold { job, kinds },
+        &Operation::OfJob(job, JobOperation::Hold { kinds }),
     );
     let lines = full(alloc, &board, &roster, &[job]).expect(&rt, "memory");
     let wanted =

@@ -3,7 +3,7 @@ use crate::plain::is_plain_plan;
 use crate::sites::{Ask, act, begin, grant, reserve, submit_to};
 use fed_board::Board;
 use fed_easy::{machine_of, plan, plan_without};
-use fed_record::{HoldKinds, Operation};
+use fed_record::{HoldKinds, JobOperation, Operation};
 use fed_stamp::JobId;
 use std::process::Abort;
 use test_values::{site, stamp};
@@ -64,8 +64,13 @@ fn change(
     let at = stamp(counter, 0);
     let kinds = HoldKinds::USER;
     match numbers.below(10) {
-        0 => act(rt, board, at, &Operation::Hold { job, kinds }),
-        1 => act(rt, board, at, &Operation::Delete { job }),
+        0 => act(
+            rt,
+            board,
+            at,
+            &Operation::OfJob(job, JobOperation::Hold { kinds }),
+        ),
+        1 => act(rt, board, at, &Operation::OfJob(job, JobOperation::Delete)),
         2 => grant(rt, board, counter, job, 1),
         3 => grant(rt, board, counter, job, 0),
         4 | 5 => run(rt, board, counter, job, ask, numbers.below(12)),

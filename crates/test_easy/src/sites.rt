@@ -1,6 +1,8 @@
 //! Boards on which site 0 has done most of what was done.
 use fed_board::Board;
-use fed_record::{Beginning, JobValues, Limit, Moment, Nodes, Operation, Priority, Term, Window};
+use fed_record::{
+    Beginning, JobOperation, JobValues, Limit, Moment, Nodes, Operation, Priority, Term, Window,
+};
 use fed_stamp::{JobId, SiteSet, Stamp, Word};
 use std::process::Abort;
 use test_values::{ann, site, stamp, values};
@@ -78,7 +80,12 @@ pub(crate) fn grant(rt: &impl Abort, board: &mut Board, counter: u64, job: JobId
     let term = Term::new(1).unwrap();
     let site = site(number);
     let at = stamp(counter, 0);
-    act(rt, board, at, &Operation::Grant { job, site, term });
+    act(
+        rt,
+        board,
+        at,
+        &Operation::OfJob(job, JobOperation::Grant { site, term }),
+    );
 }
 
 /// Begins a job that asked for this, at site 0.
@@ -92,7 +99,12 @@ pub(crate) fn begin(
 ) {
     let beginning = beginning(rt, ask, moment);
     let at = stamp(counter, 0);
-    act(rt, board, at, &Operation::Begin { job, beginning });
+    act(
+        rt,
+        board,
+        at,
+        &Operation::OfJob(job, JobOperation::Begin { beginning }),
+    );
 }
 
 /// Reserves nodes of the site of this number.

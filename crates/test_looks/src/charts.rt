@@ -3,7 +3,8 @@ use fed_board::Board;
 use fed_easy::plan_at;
 use fed_machine::{Bar, Kind, bars_at, chart_svg};
 use fed_record::{
-    Account, Beginning, JobValues, Limit, MAX_END, Moment, Nodes, Operation, Priority, Term, Window,
+    Account, Beginning, JobOperation, JobValues, Limit, MAX_END, Moment, Nodes, Operation,
+    Priority, Term, Window,
 };
 use fed_stamp::{JobId, Roster, SiteId, SiteSet, Stamp, Word};
 use std::process::Abort;
@@ -51,14 +52,24 @@ fn submit(rt: &impl Abort, board: &mut Board, counter: u64, nodes: u64, limit: u
 fn begin(rt: &impl Abort, board: &mut Board, counter: u64, job: JobId, limit: u64) {
     let term = Term::new(1).unwrap();
     let site = site();
-    act(rt, board, counter, &Operation::Grant { job, site, term });
+    act(
+        rt,
+        board,
+        counter,
+        &Operation::OfJob(job, JobOperation::Grant { site, term }),
+    );
     let beginning = Beginning::new(
         moment(0),
         Nodes::new(6).expect(rt, "nodes"),
         Limit::new(limit).expect(rt, "a limit"),
     );
     let next = counter.saturating_add(1);
-    act(rt, board, next, &Operation::Begin { job, beginning });
+    act(
+        rt,
+        board,
+        next,
+        &Operation::OfJob(job, JobOperation::Begin { beginning }),
+    );
 }
 
 fn reserve(rt: &impl Abort, board: &mut Board, counter: u64, start: u64, end: u64, nodes: u64) {
@@ -215,7 +226,12 @@ fn what_has_no_plan_is_shown(rt: HostRuntime) {
     let (job, moment, end) = (stamp(1), moment(0), MAX_END.saturating_add(1));
     let nodes = Nodes::new(6).expect(&rt, "nodes");
     let beginning = Beginning { moment, nodes, end };
-    act(&rt, &mut board, 2, &Operation::Begin { job, beginning });
+    act(
+        &rt,
+        &mut board,
+        2,
+        &Operation::OfJob(job, JobOperation::Begin { beginning }),
+    );
     submit(&rt, &mut board, 3, 1, 60);
     // no machine may run a job to such an end
     let said = [

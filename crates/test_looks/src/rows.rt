@@ -3,7 +3,8 @@ use fed_board::Board;
 use fed_looks::{Look, jobs_json, machine_lines, read_look, reservation_lines, why_line};
 use fed_qstat::plan_text_without;
 use fed_record::{
-    Beginning, Ending, HoldKinds, JobValues, Limit, Moment, Nodes, Operation, Term, Window,
+    Beginning, Ending, HoldKinds, JobOperation, JobValues, Limit, Moment, Nodes, Operation, Term,
+    Window,
 };
 use fed_stamp::{JobId, Roster, SiteSet};
 use std::process::Abort;
@@ -52,7 +53,12 @@ fn submit(rt: &impl Abort, board: &mut Board, counter: u64, nodes: u64, limit: u
 fn grant(rt: &impl Abort, board: &mut Board, counter: u64, job: JobId, number: u8) {
     let term = Term::new(1).unwrap();
     let site = site(number);
-    act(rt, board, counter, &Operation::Grant { job, site, term });
+    act(
+        rt,
+        board,
+        counter,
+        &Operation::OfJob(job, JobOperation::Grant { site, term }),
+    );
 }
 
 /// A board on which a job of 6 nodes runs until second 100, and a job of 7 nodes waits.
@@ -66,7 +72,12 @@ fn busy(rt: &(impl Abort + AllocGlobal)) -> Board {
         Nodes::new(6).expect(rt, "nodes"),
         Limit::new(100).expect(rt, "a limit"),
     );
-    act(rt, &mut board, 3, &Operation::Begin { job, beginning });
+    act(
+        rt,
+        &mut board,
+        3,
+        &Operation::OfJob(job, JobOperation::Begin { beginning }),
+    );
     submit(rt, &mut board, 4, 7, 3600);
     board
 }
@@ -186,13 +197,28 @@ fn what_keeps_jobs_is_told(rt: HostRuntime) {
     assert!(rt; is_why(&rt, 8, &board, 9, 0, "unknown\n"));
     let (job, moment, status) = (stamp(1, 0), moment(90), 3);
     let ending = Ending { moment, status };
-    act(&rt, &mut board, 5, &Operation::Finish { job, ending });
+    act(
+        &rt,
+        &mut board,
+        5,
+        &Operation::OfJob(job, JobOperation::Finish { ending }),
+    );
     assert!(rt; is_why(&rt, 8, &board, 1, 0, "finished 3\n"));
     let job = stamp(4, 0);
     let kinds = HoldKinds::made_of(true, true, false);
-    act(&rt, &mut board, 6, &Operation::Hold { job, kinds });
+    act(
+        &rt,
+        &mut board,
+        6,
+        &Operation::OfJob(job, JobOperation::Hold { kinds }),
+    );
     assert!(rt; is_why(&rt, 8, &board, 4, 0, "held uo\n"));
-    act(&rt, &mut board, 7, &Operation::Delete { job });
+    act(
+        &rt,
+        &mut board,
+        7,
+        &Operation::OfJob(job, JobOperation::Delete),
+    );
     assert!(rt; is_why(&rt, 8, &board, 4, 0, "deleted\n"));
     let job = submit_to(&rt, &mut board, 8, 1, 60, 1);
     assert!(rt; is_why(&rt, 8, &board, 8, 0, "not for argonne\n"));
@@ -276,8 +302,18 @@ fn jobs_are_told_as_objects(rt: HostRuntime) {
     assert!(rt; is_json(&rt, &board, 9, ""));
     let job = stamp(4, 0);
     let kinds = HoldKinds::made_of(true, true, false);
-    act(&rt, &mut board, 5, &Operation::Hold { job, kinds });
-    act(&rt, &mut board, 6, &Operation::Delete { job });
+    act(
+        &rt,
+        &mut board,
+        5,
+        &Operation::OfJob(job, JobOperation::Hold { kinds }),
+    );
+    act(
+        &rt,
+        &mut board,
+        6,
+        &Operation::OfJob(job, JobOperation::Delete),
+    );
     let gone =
         "{\"account\":\"\",\"begun\":null,\"deleted\":true,\"finished\":null,\"grant\":null,\"holds\":[\"u\",\"o\"],\"id\":\"4.argonne\",\"letter\":null,\"limit\":3600,\"name\":\"STDIN\",\"nodes\":7,\"owner\":\"ann\",\"priority\":0,\"sites\":[\"argonne\"]}\n";
     assert!(rt; is_json(&rt, &board, 4, gone));
