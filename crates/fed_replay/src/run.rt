@@ -1,5 +1,5 @@
 //! Replaying a script: its lines run in order, each answered before the next one runs.
-ghost use Rattle.std.specs.Prelude.{◌≡◌, ◌<◌, ◌⊎◌, IfSome, IsErrOf, OnErr, OnOk, length};
+ghost use Rattle.std.specs.Prelude.{◌≡◌, ◌<◌, ◌⊎◌, IfSome, IsErrOf, None, OnErr, OnOk, length};
 ghost use Rattle.std.specs.Io.KnownBytes.{Keeps};
 ghost use Rattle.fed_replay.specs.Ends.{EndsAs};
 
@@ -9,9 +9,11 @@ use crate::session::Session;
 use fed_script::split_line;
 use std::alloc::Global;
 use std::io::{self, Read, Write};
+use std::mem;
 
 /// Runs the script that a reader has, and writes the answers. The script is read whole before its first line is run,
-/// and the writer is flushed after the last that ran. The faults:
+/// and the writer is flushed after the last that ran. The memory that the sites took is given back when the process ends,
+/// and not before. The faults:
 ///
 /// - `Line(n)` where line n is the first that can't be read. The answers of the lines before it are written.
 /// - `Read` where a read fails, where the script has more than 16,777,216 bytes, or where it hasn't ended after
@@ -49,11 +51,29 @@ pub fn ended<F: Drop>(ran: Result<(), F>, fault: F, flushed: io::Result<()>) -> 
     }
 }
 
+/// Runs a script. What the run holds is left to the end of the process: to give it back job by job would take a tenth of
+/// the time of a script of submissions, and nothing comes behind a replay.
 fn run_script<W: Write>(alloc: Global, script: &[u8], writer: &mut W) -> Result<(), ReplayFault>
     ensures ends { EndsAs (W.contents writer.old) (W.contents writer.new) script.now result }
     ensures read { ¬ IsErrOf result ReplayFault.Read }
 {
     let mut session = Session::new();
+    let ran = run_lines(alloc, &mut session, script, writer);
+    mem::forget(session);
+    ran
+}
+
+/// Runs the lines of a script, where no line has named the sites yet.
+fn run_lines<W: Write>(
+    alloc: Global,
+    session: &mut Session,
+    script: &[u8],
+    writer: &mut W,
+) -> Result<(), ReplayFault>
+    requires { session.old.world ≡ None }
+    ensures ends { EndsAs (W.contents writer.old) (W.contents writer.new) script.now result }
+    ensures read { ¬ IsErrOf result ReplayFault.Read }
+{
     let mut rest = script;
     let mut number = 0u64;
     while let Some((line, after)) = split_line(rest) {

@@ -5,11 +5,11 @@ use Rattle.fed_replay.specs.ScriptWorld.{state_of}
 use Rattle.fed_replay.specs.Script.{answered}
 use Rattle.fed_replay.proofs.Progress.{Progress-empty, Progress-none, Progress-more, ran_line, said_some}
 use Rattle.fed_replay.proofs.Written.{OnOk-from_is_ok}
-use Rattle.fed_replay.proofs.run.run_script.Goals as goal
+use Rattle.fed_replay.proofs.run.run_lines.Goals as goal
 
 pub loop-line-init : goal.loop-line-init
 loop-line-init g c = record {
-  progress = rw c.new-session.ensures (Progress-none _ _);
+  progress = rw c.requires (Progress-none _ _);
   few = omega arith;
 }
 

@@ -2,7 +2,7 @@ use Rattle.std.proofs.Common.{◌+◌, ◌≤◌, length}
 use Rattle.std.specs.Str.Lines.{lines}
 use Rattle.fed_replay.specs.ScriptWorld.{state_of}
 use Rattle.fed_replay.proofs.Progress.{Progress}
-use Rattle.fed_replay.proofs.run.run_script.Given as goal
+use Rattle.fed_replay.proofs.run.run_lines.Given as goal
 
 abbrev pub invariant-loop-line : goal.invariant-loop-line
 invariant-loop-line g l = record {
