@@ -14,6 +14,7 @@ MOST_JOBS = 10_000
 MOST_RESERVATIONS = 1_000
 KINDS = "uos"
 FIELDS = ("owner", "name", "priority", "nodes", "limit", "account")
+OPERATIONS = {"decline": "handback"}  # of commands that add an operation of another name
 
 
 class Operation(NamedTuple):
@@ -259,14 +260,14 @@ class Site:
         held = bool(job.holds)
         applies = {
             2: not self.is_permitted(who, command, job),
-            3: job.letter == "",
+            3: job.finished is not None if kind == "decline" else job.letter == "",
             4: kind in ("alter", "hold") and granted is not None,
             5: kind == "grant" and job.stamp[1] != self.number,
             6: held and (kind == "grant" and granted is None or kind == "begin" and not job.begun),
             7: kind == "grant" and granted is None and asker not in job.sites(),
             8: kind == "grant" and granted not in (None, asker),
-            9: kind in ("begin", "finish", "handback") and granted != self.number,
-            10: kind in ("begin", "handback") and job.begun is not None,
+            9: kind in ("begin", "finish", "handback", "decline") and granted != self.number,
+            10: kind in ("begin", "handback", "decline") and job.begun is not None,
             11: kind == "finish" and job.begun is None,
         }
         return {number for number, does in applies.items() if does}
@@ -291,7 +292,7 @@ class Site:
             return Answer(self.name(self.begin_subject(who, command)) + "\n", True)
         adds = self.would_add(command)
         if adds:
-            self.make(command.kind, command.subject, self.values_of(command))
+            self.make(OPERATIONS.get(command.kind, command.kind), command.subject, self.values_of(command))
         if command.kind == "grant":
             return Answer("granted\n" if adds else "yours\n", adds)
         return Answer("done\n", adds)
@@ -316,7 +317,7 @@ class Site:
             values = {"removes": self.pairs_to_release(job, command)}
         elif command.kind == "grant":
             values = {"site": values["asker"], "term": 1 + (job.grant[0] if job.grant else 0)}
-        elif command.kind == "handback":
+        elif command.kind in ("handback", "decline"):
             values = {"term": job.grant[0]}
         elif command.kind == "begin":
             # not under the names of the fields, which a Begin doesn't set

@@ -10,7 +10,7 @@ SITE_NAME = re.compile(r"[A-Za-z][A-Za-z0-9-]{0,14}")
 NODES_OF_SITE = re.compile(r"(.*?):([0-9]+)")
 DIGITS = re.compile(r"[0-9]+")
 READABLE = re.compile(rb"[ -~\t]*")
-VERBS = ("grant", "begin", "finish", "handback", "ship", "take", "plan")
+VERBS = ("grant", "begin", "finish", "handback", "decline", "ship", "take", "plan")
 ROLES = {"operator": "operator", "admin": "admin"}
 GREATEST_COUNTER = 1_000_000_000
 GREATEST_MOMENT = 1_000_000_000_000
@@ -274,8 +274,8 @@ def read_reserve(roster, words):
 
 
 def read_scheduled(roster, here, verb, words):
-    """`grant`, `begin`, `finish` and `handback`, from the second word on."""
-    counts = {"grant": 2, "begin": 2, "finish": 3, "handback": 1}
+    """`grant`, `begin`, `finish`, `handback` and `decline`, from the second word on."""
+    counts = {"grant": 2, "begin": 2, "finish": 3, "handback": 1, "decline": 1}
     if len(words) != counts[verb]:
         raise Unread
     values = {}
@@ -291,7 +291,7 @@ def read_scheduled(roster, here, verb, words):
 
 def read_verb(roster, here, verb, words):
     """What a line says whose first word is a verb."""
-    if verb in ("grant", "begin", "finish", "handback"):
+    if verb in ("grant", "begin", "finish", "handback", "decline"):
         return Said("acts", Who("scheduler", "user"), (read_scheduled(roster, here, verb, words),))
     if len(words) != 1:
         raise Unread

@@ -58,6 +58,9 @@ UNREADABLE = (
     "finish 1 5",
     "handback 1 2",
     "handback 1.nowhere",
+    "decline",
+    "decline 1 argonne",
+    "decline/admin qsub",
     "ship",
     "ship nowhere",
     "take",
@@ -103,6 +106,7 @@ class RandomLines:
             + [self.begin] * 10
             + [self.finish] * 5
             + [self.hand_back] * 5
+            + [self.decline] * 4
             + [self.plan] * 5
             + [self.seen] * 1
             + [self.tell_roster] * 2
@@ -259,6 +263,10 @@ class RandomLines:
     def hand_back(self, site):
         """`handback`"""
         return self.of_granted(site, "TH", "handback", "")
+
+    def decline(self, site):
+        """`decline`, mostly of a job that was deleted"""
+        return self.of_granted(site, ("", "T"), "decline", "")
 
     def plan(self, site):
         """`plan`"""

@@ -241,6 +241,22 @@ def cut_accounts(tally, federation):
     tally.same("what this site alone could begin is", accounting.Accounting(folder, "argonne").record([json.dumps(mine)]), 1)
 
 
+def declines(tally, federation):
+    """The grant of a job that was deleted before it began is declined, so that its origin knows that it never begins."""
+    federation.has_links = True
+    argonne, lemont = federation.make("argonne:1", "lemont:2", jobs="run = no", more="[house]\nevery = 0.5\n")
+    kept, gone = (argonne.submit("true\n", "-l", "sites=lemont") for _ in range(2))
+    for job in (kept, gone):
+        argonne.ask("grant", job, "lemont")
+    until(lambda: all(lemont.jobs(job).get(job, {}).get("grant") for job in (kept, gone)), 20, "lemont has both grants")
+    tally.same("qask asks it of the site too", lemont.said("decline", "9.argonne"), "refused 1\n")
+    argonne.ask("qdel", gone)
+    until(lambda: not argonne.jobs(gone)[gone]["grant"]["site"], 30, "argonne hears that lemont has it no more")
+    tally.true("the log tells it", f"{gone}: it was deleted before it began, so its grant is declined: done" in lemont.logged())
+    tally.same("the other grant is open", lemont.jobs(kept)[kept]["grant"]["site"], "lemont")
+    until(lambda: sorted(json.loads(line)["id"] for line in books(argonne)) == [gone], 20, "argonne records it")
+
+
 def spools(tally, federation):
     """The files of jobs that are gone are removed after a while, and those of others stay."""
     (site,) = federation.make("argonne:4", more="[house]\nevery = 0.5\nkeep = 3\n")
@@ -377,4 +393,4 @@ def words(tally, federation):
     tally.same("looks are whole", counts, {"argonne": 1})
 
 
-SCENES = {it.__name__: it for it in (seals, senders, accounts, cut_accounts, spools, drains, losses, leftovers, refusals, words)}
+SCENES = {it.__name__: it for it in (seals, senders, accounts, cut_accounts, declines, spools, drains, losses, leftovers, refusals, words)}

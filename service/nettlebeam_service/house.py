@@ -1,18 +1,19 @@
-"""House-keeping, at the start and once a day: jobs that are gone are recorded, their files in the spool removed, and the
-journal is compacted."""
+"""House-keeping, at the start and once a day: jobs that are gone are recorded, the grants of those that were deleted before
+they began are declined, their files in the spool removed, and the journal is compacted."""
 from __future__ import annotations
 
 import asyncio
 import json
 import math
 import time
-from typing import Callable, Dict, Sequence
+from typing import Callable, Dict, Iterable, Sequence
 
 from .accounting import Accounting
 from .compacting import Compacting
 from .config import HouseKeys
 from .site import Site, Stopped
 from .spool import Spool
+from .told import Job, is_granted_to
 
 FIRST_SECONDS = 2
 RETRY_SECONDS = 60
@@ -22,6 +23,7 @@ class House:
     """Keeps house for one site."""
 
     def __init__(self, name: str, keys: HouseKeys, site: Site, spool: Spool, compacting: Compacting, log: Callable[[str], None]):
+        self.name = name
         self.keys = keys
         self.site = site
         self.spool = spool
@@ -53,10 +55,19 @@ class House:
             count = await asyncio.to_thread(self.accounting.record, lines)
             if count:
                 self.log(f"{count} jobs that are gone are recorded in {self.keys.accounting}")
+        await self.decline([json.loads(line) for line in lines])
         removed = await asyncio.to_thread(self.clear, names, lines)
         if removed:
             self.log(f"the files of {removed} jobs that are gone are removed from the spool")
         await self.compacting.keep()
+
+    async def decline(self, jobs: Iterable[Job]) -> None:
+        """Declines the grants of jobs that were deleted before they began: their origins can't tell else that such a job never
+        begins."""
+        for job in jobs:
+            if job["deleted"] and not job["begun"] and is_granted_to(job, self.name):
+                answer = (await self.site.ask(f"decline {job['id']}")).text.strip()
+                self.log(f"{job['id']}: it was deleted before it began, so its grant is declined: {answer}")
 
     def clear(self, names: Sequence[str], lines: Sequence[str]) -> int:
         """Removes the scripts and the runs of jobs that are gone for long enough; of how many."""

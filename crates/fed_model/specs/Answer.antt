@@ -65,6 +65,7 @@ effect v who (Command.Grant job asker) =
     if is_granted_to (v.job job) asker then None
     else Some (OfJob job (JobBody.Grant asker (term_in (v.job job).stages.grant + 1)))
 effect v who (Command.HandBack job) = Some (OfJob job (JobBody.HandBack (term_in (v.job job).stages.grant)))
+effect v who (Command.Decline job) = Some (OfJob job (JobBody.HandBack (term_in (v.job job).stages.grant)))
 effect v who (Command.Begin job moment) = Some (OfJob job (JobBody.Begin (beginning (v.job job) moment)))
 effect v who (Command.Finish job moment status) =
     Some (OfJob job (JobBody.Finish (record { moment = moment; status = status })))

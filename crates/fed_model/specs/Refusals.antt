@@ -52,6 +52,9 @@ refusals v here who (Command.Grant job asker) =
 refusals v here who (Command.HandBack job) =
     (not (is_submitted (v.job job)), Refusal.UnknownJob) ∷ (is_gone (v.job job), Refusal.Gone)
     ∷ (not (is_granted_to (v.job job) here), Refusal.NotGranted) ∷ (is_some (v.job job).stages.begun, Refusal.Begun) ∷ []
+refusals v here who (Command.Decline job) =
+    (not (is_submitted (v.job job)), Refusal.UnknownJob) ∷ (is_some (v.job job).stages.finished, Refusal.Gone)
+    ∷ (not (is_granted_to (v.job job) here), Refusal.NotGranted) ∷ (is_some (v.job job).stages.begun, Refusal.Begun) ∷ []
 refusals v here who (Command.Begin job moment) =
     (not (is_submitted (v.job job)), Refusal.UnknownJob) ∷ (is_gone (v.job job), Refusal.Gone)
     ∷ (is_held (v.job job) && is_none (v.job job).stages.begun, Refusal.Held)

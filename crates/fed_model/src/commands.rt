@@ -45,6 +45,10 @@ pub enum Command {
     HandBack {
         job: JobId,
     },
+    /// Hand back the open grant, also where the job was deleted before it began.
+    Decline {
+        job: JobId,
+    },
     /// Begin the job.
     Begin {
         job: JobId,

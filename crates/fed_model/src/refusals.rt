@@ -16,7 +16,8 @@ pub enum Refusal {
     /// 2: the asker's role forbids it. To Alter, Hold, Release, Delete, Reserve and Cancel.
     #[error("not permitted")]
     NotPermitted,
-    /// 3: the job has no letter: it is finished, or was deleted before it began. To all commands that name a job.
+    /// 3: the job has no letter: it is finished, or was deleted before it began. To all commands that name a job, to Decline
+    /// only where it is finished.
     #[error("the job is gone")]
     Gone,
     /// 4: the job is granted, to whatever site. To Alter and Hold.
@@ -34,10 +35,10 @@ pub enum Refusal {
     /// 8: the job is granted to another site than the asker, which this names. To Grant.
     #[error("the job is granted to site {number}", number = .0.get())]
     TakenBy(SiteId),
-    /// 9: the job isn't granted to the site that is asked. To Begin, Finish and HandBack.
+    /// 9: the job isn't granted to the site that is asked. To Begin, Finish, HandBack and Decline.
     #[error("the job is not granted to this site")]
     NotGranted,
-    /// 10: the job has begun. To Begin and HandBack.
+    /// 10: the job has begun. To Begin, HandBack and Decline.
     #[error("the job has begun")]
     Begun,
     /// 11: the job hasn't begun. To Finish.

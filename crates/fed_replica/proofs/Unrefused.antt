@@ -53,6 +53,7 @@ named b here who (Command.Release job kinds) body c e = body_if (HasNamed b) _ _
 named b here who (Command.Delete job) body c e = is_body (HasNamed b) _ body e (has_job b job c.0)
 named b here who (Command.Grant job asker) body c e = body_unless (HasNamed b) _ _ body e (has_job b job c.0)
 named b here who (Command.HandBack job) body c e = is_body (HasNamed b) _ body e (has_job b job c.0)
+named b here who (Command.Decline job) body c e = is_body (HasNamed b) _ body e (has_job b job c.0)
 named b here who (Command.Begin job moment) body c e = is_body (HasNamed b) _ body e (has_job b job c.0)
 named b here who (Command.Finish job moment status) body c e = is_body (HasNamed b) _ body e (has_job b job c.0)
 named b here who (Command.Reserve window) body c e = is_body (HasNamed b) _ body e tt

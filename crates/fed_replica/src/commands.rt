@@ -3,7 +3,7 @@ ghost use Rattle.fed_board.specs.Board.{board_reads};
 ghost use Rattle.fed_model.specs.Answer.{answer_to};
 ghost use Rattle.fed_replica.specs.Step.{IsStep};
 
-use crate::grant_steps::{begin, finish, grant, hand_back};
+use crate::grant_steps::{begin, decline, finish, grant, hand_back};
 use crate::job_steps::{alter, delete, hold, release, submit};
 use crate::reservation_steps::{cancel, reserve};
 use crate::steps::Step;
@@ -31,6 +31,7 @@ pub(crate) fn next_step(
         Command::Delete { job } => delete(board, here, who, *job),
         Command::Grant { job, asker } => grant(board, here, *job, *asker),
         Command::HandBack { job } => hand_back(board, here, *job),
+        Command::Decline { job } => decline(board, here, *job),
         Command::Begin { job, moment } => begin(board, here, *job, *moment),
         Command::Finish {
             job,

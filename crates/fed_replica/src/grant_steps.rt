@@ -68,6 +68,37 @@ pub(crate) fn hand_back(board: &Board, here: SiteId, job: JobId) -> Result<Step,
     })
 }
 
+/// Hands the grant back, also of a job that was deleted before it began.
+#[tactic(auto, unfolding(fed_model::specs::Answer::answer_to))]
+pub(crate) fn decline(board: &Board, here: SiteId, job: JobId) -> Result<Step, Refusal>
+    ensures { (who : Who) → answer_by result ≡ answer_to (board_reads board.now) here who (Command.Decline job) }
+{
+    let Some(record) = board.job(job) else {
+        return Err(Refusal::UnknownJob);
+    };
+    let progress = record.progress();
+    if progress.finished.is_some() {
+        return Err(Refusal::Gone);
+    }
+    if !record.is_granted_to(here) {
+        return Err(Refusal::NotGranted);
+    }
+    if progress.begun.is_some() {
+        return Err(Refusal::Begun);
+    }
+    let at = next_stamp(board, here)?;
+    Ok(Step::Adds {
+        at,
+        operation: Operation::OfJob(
+            job,
+            JobOperation::HandBack {
+                term: granted_term(record),
+            },
+        ),
+        reply: Reply::Done,
+    })
+}
+
 /// Begins the job.
 #[tactic(auto, unfolding(fed_model::specs::Answer::answer_to))]
 pub(crate) fn begin(

@@ -2,7 +2,7 @@
 ghost use Rattle.std.specs.Prelude.{◌≡◌};
 ghost use Rattle.fed_words.specs.Item.{words_of};
 ghost use Rattle.fed_script.specs.Line.{cancels, reserves, scheduled};
-ghost use Rattle.fed_script.specs.declared.verbs.Verb.TheVariants.{Grant, Begin, Finish, HandBack};
+ghost use Rattle.fed_script.specs.declared.verbs.Verb.TheVariants.{Grant, Begin, Finish, HandBack, Decline};
 
 use crate::forms::{four_words, one_word, three_words, two_words};
 use crate::values::{read_id, read_moment, read_status};
@@ -54,6 +54,14 @@ fn read_hand_back(roster: &Roster, here: SiteId, words: &[&str]) -> Option<Comma
     Some(Command::HandBack { job })
 }
 
+/// `decline JOB`
+fn read_decline(roster: &Roster, here: SiteId, words: &[&str]) -> Option<Command>
+    ensures { result ≡ scheduled roster.now here Decline (words_of words.now) }
+{
+    let job = read_id(roster, here, one_word(words)?)?;
+    Some(Command::Decline { job })
+}
+
 /// What a site's own scheduler asks by the words behind a verb, or `None` where they can't be read, or where the verb
 /// asks for something else than a command.
 pub(crate) fn read_scheduled(
@@ -69,6 +77,7 @@ pub(crate) fn read_scheduled(
         Verb::Begin => read_begin(roster, here, words),
         Verb::Finish => read_finish(roster, here, words),
         Verb::HandBack => read_hand_back(roster, here, words),
+        Verb::Decline => read_decline(roster, here, words),
         Verb::Ship | Verb::Take | Verb::Plan => None,
     }
 }

@@ -13,6 +13,8 @@ pub enum Verb {
     Finish,
     /// `handback JOB`
     HandBack,
+    /// `decline JOB`
+    Decline,
     /// `ship SITE`
     Ship,
     /// `take PACKET`
@@ -31,6 +33,7 @@ impl Verb {
             b"begin" => Some(Verb::Begin),
             b"finish" => Some(Verb::Finish),
             b"handback" => Some(Verb::HandBack),
+            b"decline" => Some(Verb::Decline),
             b"ship" => Some(Verb::Ship),
             b"take" => Some(Verb::Take),
             b"plan" => Some(Verb::Plan),

@@ -63,6 +63,7 @@ fn job_of(command: &Command) -> Option<JobId> {
         | Command::Delete { job }
         | Command::Grant { job, .. }
         | Command::HandBack { job }
+        | Command::Decline { job }
         | Command::Begin { job, .. }
         | Command::Finish { job, .. } => Some(*job),
         Command::Submit { .. } | Command::Reserve { .. } | Command::Cancel { .. } => None,

@@ -230,6 +230,8 @@ module _ (ops : History Body) (l : IsLawful ops) (here : ℕ) (t : StampValue) (
       })
   effect_allowed who (Command.HandBack job) new r e =
       is_body _ new e (handed_back job (not-false _ r.1.1.0) (submitted job r.0) r.1.1.1.0)
+  effect_allowed who (Command.Decline job) new r e =
+      is_body _ new e (handed_back job (not-false _ r.1.1.0) (submitted job r.0) r.1.1.1.0)
   effect_allowed who (Command.Begin job moment) new r e =
       is_body _ new e (record {
         grounded = (submitted job r.0, tt);

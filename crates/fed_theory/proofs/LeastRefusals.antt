@@ -48,6 +48,7 @@ table_ascends v here who (Command.Release job kinds) = (omega arith, (omega arit
 table_ascends v here who (Command.Delete job) = (omega arith, (omega arith, (omega arith, tt)))
 table_ascends v here who (Command.Grant job asker) = (omega arith, (omega arith, (omega arith, (omega arith, (omega arith, (omega arith, (omega arith, tt)))))))
 table_ascends v here who (Command.HandBack job) = (omega arith, (omega arith, (omega arith, (omega arith, tt))))
+table_ascends v here who (Command.Decline job) = (omega arith, (omega arith, (omega arith, (omega arith, tt))))
 table_ascends v here who (Command.Begin job moment) = (omega arith, (omega arith, (omega arith, (omega arith, (omega arith, tt)))))
 table_ascends v here who (Command.Finish job moment status) = (omega arith, (omega arith, (omega arith, (omega arith, tt))))
 table_ascends v here who (Command.Reserve window) = (omega arith, (omega arith, (omega arith, tt)))

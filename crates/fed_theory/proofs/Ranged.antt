@@ -97,6 +97,12 @@ module _ (ops : History Body) (ranged : AreInRange ops) (here : ℕ) (who : Who)
   granted_term : (job : StampValue) (term : ℕ) → IsGrounded ops s (OfJob job (HandBack term)) → IsFrom 1 1_000_000_000 term
   granted_term job term g = (ranged (g.1.0, OfJob job (Grant s.site term)) g.1.1.0).1
 
+  returned_ranged : (job : StampValue) (new : Body) → IsAllowed ops s new → Some (OfJob job (HandBack (term_in ((view ops).job job).stages.grant))) ≡ Some new → IsInRange new
+  returned_ranged job new a e =
+      let term : ℕ = term_in ((view ops).job job).stages.grant in
+      let same : OfJob job (HandBack term) ≡ new = same_Some (OfJob job (HandBack term)) new e in
+      subst IsInRange same (granted_term job term (subst (IsGrounded ops s) (sym same) a.grounded))
+
   effect_ranged : (command : Command) (new : Body) → IsRanged who command → AreClear (refusals (view ops) here who command) → IsAllowed ops s new → effect (view ops) who command ≡ Some new → IsInRange new
   effect_ranged (Command.Submit values held) new t r a e = subst IsInRange (same_Some _ new e) t
   effect_ranged (Command.Alter job changes) new t r a e = subst IsInRange (same_Some _ new e) t
@@ -108,10 +114,8 @@ module _ (ops : History Body) (ranged : AreInRange ops) (here : ℕ) (who : Who)
       let same : OfJob job (Grant asker term) ≡ new = unless_same _ (OfJob job (Grant asker term)) new e in
       let most : term ≤ 1_000_000_000 = subst (IsWithin ops s) (sym same) a.limited in
       subst IsInRange same (t, (omega arith, most))
-  effect_ranged (Command.HandBack job) new t r a e =
-      let term : ℕ = term_in ((view ops).job job).stages.grant in
-      let same : OfJob job (HandBack term) ≡ new = same_Some (OfJob job (HandBack term)) new e in
-      subst IsInRange same (granted_term job term (subst (IsGrounded ops s) (sym same) a.grounded))
+  effect_ranged (Command.HandBack job) new t r a e = returned_ranged job new a e
+  effect_ranged (Command.Decline job) new t r a e = returned_ranged job new a e
   effect_ranged (Command.Begin job moment) new t r a e =
       let there = not-false _ r.0 in
       let limit = limit_read ops ranged job there in

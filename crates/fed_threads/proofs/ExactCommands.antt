@@ -17,7 +17,7 @@ use Rattle.fed_model.specs.contracts.askers.RolePartialEq.TheImpl.{ghosts as rol
 use Rattle.fed_model.specs.contracts.askers.WhoPartialEq.TheImpl.{ghosts as askers}
 use Rattle.fed_model.specs.declared.values.Changes.{Changes}
 use Rattle.fed_model.specs.declared.commands.Command.{Command}
-use Rattle.fed_model.specs.declared.commands.Command.TheVariants.{Submit, Alter, Hold, Release, Delete, Grant, HandBack, Begin, Finish, Reserve, Cancel}
+use Rattle.fed_model.specs.declared.commands.Command.TheVariants.{Submit, Alter, Hold, Release, Delete, Grant, HandBack, Decline, Begin, Finish, Reserve, Cancel}
 use Rattle.fed_model.specs.declared.holds.HoldKinds.{HoldKinds}
 use Rattle.fed_model.specs.contracts.holds.HoldKindsPartialEq.TheImpl.{ghosts as kinds}
 use Rattle.fed_model.specs.contracts.values.JobValuesPartialEq.TheImpl.{ghosts as values}
@@ -75,6 +75,7 @@ same (Release j c) (Release k d) e = made _ (tells_pairs _ kinds.eq tells_stamps
 same (Delete j) (Delete k) e = made _ tells_stamps Delete j k e
 same (Grant j s) (Grant k t) e = made _ (tells_pairs _ nat_eq tells_stamps tells_numbers) (λ p. Grant p.0 p.1) (j, s) (k, t) e
 same (HandBack j) (HandBack k) e = made _ tells_stamps HandBack j k e
+same (Decline j) (Decline k) e = made _ tells_stamps Decline j k e
 same (Begin j m) (Begin k n) e = made _ (tells_pairs _ nat_eq tells_stamps tells_numbers) (λ p. Begin p.0 p.1) (j, m) (k, n) e
 same (Finish j m s) (Finish k n t) e = made _ (tells_pairs _ _ tells_stamps (tells_pairs nat_eq nat_eq tells_numbers tells_numbers)) (λ p. Finish p.0 p.1.0 p.1.1) (j, (m, s)) (k, (n, t)) e
 same (Reserve v) (Reserve w) e = made _ tells_windows Reserve v w e
@@ -92,6 +93,7 @@ own (Release j c) = itself _ (tells_pairs _ kinds.eq tells_stamps tells_kinds) (
 own (Delete j) = itself _ tells_stamps j
 own (Grant j s) = itself _ (tells_pairs _ nat_eq tells_stamps tells_numbers) (j, s)
 own (HandBack j) = itself _ tells_stamps j
+own (Decline j) = itself _ tells_stamps j
 own (Begin j m) = itself _ (tells_pairs _ nat_eq tells_stamps tells_numbers) (j, m)
 own (Finish j m s) = itself _ (tells_pairs _ _ tells_stamps (tells_pairs nat_eq nat_eq tells_numbers tells_numbers)) (j, (m, s))
 own (Reserve v) = itself _ tells_windows v

@@ -11,3 +11,8 @@ pub returns-in-handback : goal.returns-in-handback
 returns-in-handback c =
     let word : c.args.word.now ≡ codes "handback" = text_from_reads c.args.word.now (codes "handback") (search rules) (search rules) in
     rw word refl
+
+pub returns-in-decline : goal.returns-in-decline
+returns-in-decline c =
+    let word : c.args.word.now ≡ codes "decline" = text_from_reads c.args.word.now (codes "decline") (search rules) (search rules) in
+    rw word refl
