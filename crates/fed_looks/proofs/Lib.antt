@@ -3,7 +3,6 @@ pub mod EachWord
 pub mod Entries
 pub mod JobLaws
 pub mod LookCases
-pub mod LookWords
 pub mod Placed
 pub mod PlanWords
 pub mod Sites

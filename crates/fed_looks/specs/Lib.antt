@@ -2,7 +2,6 @@
 pub mod JobMembers
 pub mod JobObject
 pub mod Look
-pub mod LookLine
 pub mod LookText
 pub mod LookView
 pub mod Reserved

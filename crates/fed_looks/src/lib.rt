@@ -7,8 +7,6 @@ mod job_lines;
 mod job_values;
 /// Laws of looks.
 pub mod laws;
-/// The looks that lines ask for.
-mod look_lines;
 /// The texts of looks.
 mod look_texts;
 /// What words ask for a look.
@@ -22,7 +20,6 @@ mod whys;
 
 pub use fed_machine::{chart_svg, machine_lines};
 pub use job_lines::jobs_json;
-pub use look_lines::look_of_line;
 pub use look_texts::look_text;
 pub use looks::{Look, MAX_LEFT_OUT, read_look};
 pub use reserved::reservation_lines;

@@ -123,7 +123,3 @@ first_line_in line = words_in line >>= first_line
 -- what they say behind it, once so many packets were made
 abbrev pub later_line_in : List (List ℕ × ℕ) → ℕ → List ℕ → Option Line
 later_line_in roster made line = words_in line >>= later_line roster made
-
--- what they say at a site by itself
-abbrev pub own_line_in : List (List ℕ × ℕ) → ℕ → List ℕ → Option Line
-own_line_in roster here line = words_in line >>= own_line roster here

@@ -1,6 +1,5 @@
 //! Cutting a script into lines, and a line into words.
-ghost use Rattle.std.specs.Prelude.{◌≡◌, ◌<◌, [], ◌∷◌, true, not, IfOk, IfNone, IfSome, IsTrue, Some, None, length, map, option_map, position, slice_get, ◌==◌, if◌then◌else◌};
-ghost use Rattle.std.specs.Char.{is_ascii_whitespace};
+ghost use Rattle.std.specs.Prelude.{◌≡◌, ◌<◌, [], ◌∷◌, true, IfOk, IfNone, IfSome, IsTrue, length, map, position, ◌==◌};
 ghost use Rattle.std.specs.Str.Lines.{lines, strip_carriage_return};
 ghost use Rattle.fed_script.specs.Lines.{is_readable, words_of};
 
@@ -42,31 +41,6 @@ fn without_carriage_return(line: &[u8]) -> &[u8]
     match line {
         [front @ .., b'\r'] => front,
         _ => line,
-    }
-}
-
-// The index of the first byte that is no white space.
-fn word_start(text: &[u8]) -> Option<usize>
-    ensures { result ≡ position (λ byte. not (is_ascii_whitespace byte)) text.now }
-{
-    text.iter().position(|byte| !byte.is_ascii_whitespace())
-}
-
-// The index of the first byte that is white space.
-fn word_end(text: &[u8]) -> Option<usize>
-    ensures { result ≡ position is_ascii_whitespace text.now }
-{
-    text.iter().position(|byte| byte.is_ascii_whitespace())
-}
-
-/// The first word of a line, where words are parted by white space. `None` where it has no word.
-pub fn first_word(line: &[u8]) -> Option<&[u8]>
-    ensures { option_map (λ word. word.now) result ≡ slice_get (words_of line.now) 0 }
-{
-    let text = &line[word_start(line)?..];
-    match word_end(text) {
-        Some(end) => Some(&text[..end]),
-        None => Some(text),
     }
 }
 

@@ -3,7 +3,7 @@ ghost use Rattle.std.specs.Prelude.{◌≡◌, IfOk, IsErr, OnErr, option_map};
 ghost use Rattle.fed_lattice.specs.Results.{mapped};
 ghost use Rattle.fed_words.specs.Item.{words_of as texts_of};
 ghost use Rattle.fed_script.specs.Forms.{one, two};
-ghost use Rattle.fed_script.specs.Line.{act as act_of, asked_at, compares, first_line, first_line_in, is_comment as are_of_comment, later_line, later_line_in, own_line, own_line_in, plans, ships, site_line, takes, told, user_line, verb_line, words_in};
+ghost use Rattle.fed_script.specs.Line.{act as act_of, asked_at, compares, first_line, first_line_in, is_comment as are_of_comment, later_line, later_line_in, own_line, plans, ships, site_line, takes, told, user_line, verb_line, words_in};
 ghost use Rattle.fed_script.specs.LineView.{said_by};
 ghost use Rattle.fed_script.specs.Values.{moment as moment_of, packet as packet_of, site as site_of_roster};
 ghost use Rattle.fed_words.specs.Request.{request_in};
@@ -247,8 +247,9 @@ fn read_later_words(
     }
 }
 
-/// What the words of a line say at a site by itself.
-fn read_own_words(
+/// What the words of a line say at a site by itself: what a script's line says that has the site's name in front, where no
+/// packet has a number. `None` where they can't be read.
+pub fn read_own_words(
     alloc: Global,
     roster: &Roster,
     here: SiteId,
@@ -336,21 +337,4 @@ pub fn read_later_line(
         return Ok(None);
     }
     read_later_words(alloc, roster, made, without_comment(words.as_slice()))
-}
-
-/// What a line says at a site by itself: what a script's line says that has the site's name in front, where no packet has
-/// a number. `None` where it can't be read.
-pub fn read_own_line(
-    alloc: Global,
-    roster: &Roster,
-    here: SiteId,
-    line: &[u8],
-) -> Result<Option<Line>, NoMemory>
-    ensures { IfOk result (λ said. option_map said_by said ≡ own_line_in roster.now here line.now) }
-{
-    let mut words = SmallVec::new(alloc);
-    if !push_words(line, &mut words)? {
-        return Ok(None);
-    }
-    read_own_words(alloc, roster, here, without_comment(words.as_slice()))
 }

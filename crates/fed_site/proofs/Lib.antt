@@ -1,4 +1,5 @@
 pub mod RosterLines
+pub mod ReadLines
 pub mod Commands
 pub mod ShortNames
 pub mod Replays

@@ -8,13 +8,14 @@ use Rattle.fed_replica.specs.State.{State, state_of}
 use Rattle.fed_script.specs.Line.{Line, lists, plans}
 use Rattle.fed_qstat.specs.Listed.{listed}
 use Rattle.fed_site.specs.Journal.{SaidAs, after_lines}
-use Rattle.fed_site.specs.Rosters.{roster_after, roster_after_lines}
+use Rattle.fed_site.specs.OwnLine.{OwnLine, told_by}
+use Rattle.fed_site.specs.Rosters.{roster_after, roster_after_lines, roster_told}
 use Rattle.fed_site.specs.Site.{SiteValue}
 use Rattle.fed_qstat.specs.Planned.{plan_if_any, plan_or_none}
 use Rattle.fed_site.specs.declared.complaints.Complaint.{Complaint}
 use Rattle.fed_site.specs.declared.site.Answered.{Answered}
 use Rattle.fed_site.specs.Answered.{begun_of, bytes_of, complaint_of, kept_of}
-use Rattle.fed_site.specs.Says.{after_line, after_plan, said_of, site_says}
+use Rattle.fed_site.specs.Says.{after_line, after_own, after_plan, said_of, site_says}
 
 pub lists_said : (v : SiteValue) (said : Line) (site : ℕ) (full : Bool) (jobs : List StampValue) (a : Answered) → kept_of a ≡ false → complaint_of a ≡ None → begun_of a ≡ None → said ≡ lists site full jobs → bytes_of a ≡ listed full v.roster (board_reads v.replica.board) jobs
     → SaidAs v v a v.roster (after_line v.roster (state_of v.replica) said)
@@ -39,6 +40,11 @@ plans_said bytes plan v said site moment a k n b e f is =
     subst (λ (l : Line). SaidAs v v a v.roster (after_line v.roster (state_of v.replica) l)) (sym e)
     (subst (λ (o : Option (List ℕ)). SaidAs v v a v.roster (said_of (after_plan (state_of v.replica) o))) is
     (plan_said v (option_map bytes plan) a k (n ∙ sym (ap unplanned (is_none-map bytes plan))) b f))
+
+-- what a line is read as is answered so
+pub own_said : (v new : SiteValue) (a : Answered) {own is_read : OwnLine} → own ≡ is_read → SaidAs v new a (roster_told v.roster (told_by is_read)) (after_own v.roster (state_of v.replica) is_read)
+    → SaidAs v new a (roster_told v.roster (told_by own)) (after_own v.roster (state_of v.replica) own)
+own_said v new a is said = subst (λ (o : OwnLine). SaidAs v new a (roster_told v.roster (told_by o)) (after_own v.roster (state_of v.replica) o)) (sym is) said
 
 -- one line more was answered
 pub opened : (roster now : List (List ℕ × ℕ)) (all : List (Bor (List ℕ))) (i : ℕ) (x : Bor (List ℕ)) (mid new end : State) (left : List (List ℕ × ℕ)) → i < length all → x ≡ get_or all i x

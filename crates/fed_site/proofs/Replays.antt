@@ -9,17 +9,16 @@ use Rattle.fed_wire.specs.Reading.{packet_in}
 use Rattle.fed_model.specs.Answer.{Answer, Answer.Refuses, Answer.Replies, answer_to}
 use Rattle.fed_replica.specs.Outcome.{adds}
 use Rattle.fed_replica.specs.State.{State, after_answer, after_packet_unless, lacking}
-use Rattle.fed_script.specs.Line.{Line, skips, begins, acts, lists, misuses, ships, takes, plans, compares, own_line_in}
+use Rattle.fed_script.specs.Line.{skips, begins, acts, lists, misuses, ships, takes, plans, compares}
 use Rattle.fed_qstat.specs.Outcome.{answer_line}
 use Rattle.fed_qstat.specs.Planned.{plan_if_any}
-use Rattle.fed_looks.specs.Look.{Look}
-use Rattle.fed_looks.specs.LookLine.{look_in_line}
 use Rattle.fed_site.specs.declared.complaints.Complaint.{Complaint}
 use Rattle.fed_site.specs.Journal.{after_lines, kept_line, kept_lines}
-use Rattle.fed_site.specs.Line.{packet_text}
+use Rattle.fed_site.specs.OwnLine.{OwnLine, tells, carries, asks, says, own_line_of, told_by}
 use Rattle.fed_site.specs.Packets.{is_foreign, is_forgotten}
-use Rattle.fed_site.specs.Rosters.{are_same, next_roster, roster_after, roster_after_lines, roster_told, told_in}
-use Rattle.fed_site.specs.Says.{after_command, after_commands, after_look, after_next, after_plan, after_reading, after_receipt, after_roster, after_text, after_told, site_says, undone}
+use Rattle.fed_site.specs.Rosters.{are_same, next_roster, roster_after, roster_after_lines, roster_told}
+use Rattle.fed_site.specs.Says.{after_command, after_commands, after_next, after_own, after_plan, after_reading, after_receipt, site_says, undone}
+use Rattle.fed_site.proofs.ReadLines.{told_is}
 use Rattle.fed_site.proofs.RosterLines.{same_sites}
 
 -- ---- commands
@@ -61,36 +60,27 @@ module _ (roster : List (List ℕ × ℕ)) where
   reading_unkept s (Err fault) e = refl
 
   -- ---- lines
-  told_unkept : (s : State) (line : Option Line) → (after_told roster s line).kept ≡ false → (after_told roster s line).after ≡ s
-  told_unkept s None e = refl
-  told_unkept s (Some skips) e = refl
-  told_unkept s (Some (begins sites)) e = refl
-  told_unkept s (Some (acts site who commands)) e = commands_unkept s who 0 commands e
-  told_unkept s (Some (lists site full jobs)) e = refl
-  told_unkept s (Some (misuses site fault)) e = refl
-  told_unkept s (Some (ships site to)) e = refl
-  told_unkept s (Some (takes site packet)) e = refl
-  told_unkept s (Some (plans site moment)) e = plan_unkept s (plan_if_any roster s.view s.site moment)
-  told_unkept s (Some (compares site other)) e = refl
-
-  look_unkept : (s : State) (line : List ℕ) (look : Option Look) → (after_look roster s line look).kept ≡ false → (after_look roster s line look).after ≡ s
-  look_unkept s line None e = told_unkept s (own_line_in roster s.site line) e
-  look_unkept s line (Some look) e = refl
-
-  text_unkept : (s : State) (line : List ℕ) (text : Option (List ℕ)) → (after_text roster s line text).kept ≡ false → (after_text roster s line text).after ≡ s
-  text_unkept s line None e = look_unkept s line (look_in_line roster s.site line) e
-  text_unkept s line (Some text) e = reading_unkept s (packet_in text) e
-
   pub next_unkept : (s : State) (next : Option (List (List ℕ × ℕ))) → (after_next roster s next).after ≡ s
   next_unkept s None = refl
   next_unkept s (Some sites) = refl
 
-  roster_unkept : (s : State) (line : List ℕ) (told : Option (Option (List (List ℕ × ℕ)))) → (after_roster roster s line told).kept ≡ false → (after_roster roster s line told).after ≡ s
-  roster_unkept s line None e = text_unkept s line (packet_text line) e
-  roster_unkept s line (Some told) e = next_unkept s (next_roster roster told)
+  own_unkept : (s : State) (line : OwnLine) → (after_own roster s line).kept ≡ false → (after_own roster s line).after ≡ s
+  own_unkept s (tells told) e = next_unkept s (next_roster roster told)
+  own_unkept s (carries text) e = reading_unkept s (packet_in text) e
+  own_unkept s (asks look) e = refl
+  own_unkept s (says None) e = refl
+  own_unkept s (says (Some skips)) e = refl
+  own_unkept s (says (Some (begins sites))) e = refl
+  own_unkept s (says (Some (acts site who commands))) e = commands_unkept s who 0 commands e
+  own_unkept s (says (Some (lists site full jobs))) e = refl
+  own_unkept s (says (Some (misuses site fault))) e = refl
+  own_unkept s (says (Some (ships site to))) e = refl
+  own_unkept s (says (Some (takes site packet))) e = refl
+  own_unkept s (says (Some (plans site moment))) e = plan_unkept s (plan_if_any roster s.view s.site moment)
+  own_unkept s (says (Some (compares site other))) e = refl
 
   pub unkept : (s : State) (line : List ℕ) → (site_says roster s line).kept ≡ false → (site_says roster s line).after ≡ s
-  unkept s line e = roster_unkept s line (told_in line) e
+  unkept s line e = own_unkept s (own_line_of roster s.site line) e
 
   -- ---- rosters
   not_false : (b : Bool) → not b ≡ false → b ≡ true
@@ -101,12 +91,14 @@ module _ (roster : List (List ℕ × ℕ)) where
   next_same s None e = refl
   next_same s (Some sites) e = sym (same_sites roster sites (not_false (are_same roster sites) e))
 
-  told_same : (s : State) (line : List ℕ) (told : Option (Option (List (List ℕ × ℕ)))) → (after_roster roster s line told).kept ≡ false → roster_told roster told ≡ roster
-  told_same s line None e = refl
-  told_same s line (Some told) e = next_same s (next_roster roster told) e
+  told_same : (s : State) (line : OwnLine) → (after_own roster s line).kept ≡ false → roster_told roster (told_by line) ≡ roster
+  told_same s (tells told) e = next_same s (next_roster roster told) e
+  told_same s (carries text) e = refl
+  told_same s (asks look) e = refl
+  told_same s (says line) e = refl
 
   pub still_roster : (s : State) (line : List ℕ) → (site_says roster s line).kept ≡ false → roster_after roster line ≡ roster
-  still_roster s line e = told_same s line (told_in line) e
+  still_roster s line e = ap (roster_told roster) (told_is roster s.site line) ∙ told_same s (own_line_of roster s.site line) e
 
 -- ---- the replay of the kept lines
 pub replayed : (roster : List (List ℕ × ℕ)) (s : State) (lines : List (List ℕ)) → after_lines roster s (kept_lines roster s lines) ≡ after_lines roster s lines

@@ -12,7 +12,7 @@ use Rattle.fed_stamp.specs.declared.rosters.RosterFault.{RosterFault}
 use Rattle.fed_stamp.specs.Roster.{IsRoster, first_fault, name_at, ok_unless}
 use Rattle.fed_stamp.proofs.RosterLemmas.{roster_from_no_fault}
 use Rattle.fed_script.specs.Forms.{◌>>=◌}
-use Rattle.fed_script.specs.Line.{is_comment, told, words_in}
+use Rattle.fed_script.specs.Line.{told, words_in}
 use Rattle.fed_script.specs.Lines.{is_readable, words_of}
 use Rattle.fed_script.specs.Rosters.{is_colon, is_reserved, roster_of, sites_in}
 use Rattle.fed_site.specs.Line.{packet_text}
@@ -120,33 +120,15 @@ pub lines_begin : (known : List (List ℕ × ℕ)) (lines : List (List ℕ)) →
 lines_begin known [] = begins_itself known
 lines_begin known (line ∷ lines) = begins_on known (roster_after known line) (roster_after_lines known (line ∷ lines)) (after_begins known line) (lines_begin (roster_after known line) lines)
 
--- ---- a line whose first word is another tells none
-of_words : (words : List (List ℕ)) (word : List ℕ) (comment : Bool) → slice_get words 0 ≡ Some word → ((next : List ℕ) (others : List (List ℕ)) → words_behind (word ∷ next ∷ others) ≡ None)
-    → words_behind (if comment then [] else words) ≡ None
-of_words [] word comment e none = cc
-of_words (w ∷ ws) word true e none = refl
-of_words (w ∷ []) word false e none = refl
-of_words (w ∷ v ∷ ws) word false e none = let same : w ≡ word = cc in subst (λ x. words_behind (x ∷ v ∷ ws) ≡ None) (sym same) (none v ws)
-
-of_no_words : (words : List (List ℕ)) → slice_get words 0 ≡ None → words_behind (told words) ≡ None
-of_no_words [] e = refl
-of_no_words (w ∷ ws) e = cc
-
+-- ---- a line that carries a packet tells none
 of_line : (readable : Bool) (words : List (List ℕ)) → words_behind (told words) ≡ None → option_map roster_of ((if readable then Some (told words) else None) >>= words_behind) ≡ None
 of_line true words e = ap (option_map roster_of) e
 of_line false words e = refl
-
-pub tells_none : (line word : List ℕ) → Some word ≡ slice_get (words_of line) 0 → ((next : List ℕ) (others : List (List ℕ)) → words_behind (word ∷ next ∷ others) ≡ None) → told_in line ≡ None
-tells_none line word e none = of_line (is_readable line) (words_of line) (of_words (words_of line) word (is_comment (words_of line)) (sym e) none)
-
-pub no_word_tells : (line : List ℕ) → None ≡ slice_get (words_of line) 0 → told_in line ≡ None
-no_word_tells line e = of_line (is_readable line) (words_of line) (of_no_words (words_of line) (sym e))
 
 behind_none : (first : List ℕ) (others : List (List ℕ)) → bytes_eq first (codes "roster") ≡ false → words_behind (first ∷ others) ≡ None
 behind_none first [] e = refl
 behind_none first (word ∷ words) e = ap (λ b. if b && is_some (position is_colon word) then Some (word ∷ words) else None) e
 
--- ---- nor does one that carries a packet
 takes_tell_none : (line rest : List ℕ) → line ≡ codes "take " ++ rest → told_in line ≡ None
 takes_tell_none line rest is = subst (λ l. told_in l ≡ None) (sym is)
     (of_line (is_readable (codes "take " ++ rest)) (words_of (codes "take " ++ rest)) (behind_none (codes "take") _ refl))

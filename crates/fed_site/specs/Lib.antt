@@ -3,6 +3,8 @@ pub mod Site
 pub mod Line
 pub mod Packets
 pub mod Rosters
+pub mod OwnLine
+pub mod OwnLineView
 pub mod Says
 pub mod Acts
 pub mod Answered

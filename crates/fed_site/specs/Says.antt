@@ -10,18 +10,16 @@ use Rattle.fed_model.specs.Answer.{Answer, Answer.Refuses, Answer.Replies, answe
 use Rattle.fed_replica.specs.State.{State, after_answer, after_packet_unless, lacking}
 use Rattle.fed_model.specs.Outcome.{outcome_of_answer}
 use Rattle.fed_replica.specs.Outcome.{adds, outcome_of_packet_unless}
-use Rattle.fed_script.specs.Line.{Line, skips, acts, lists, misuses, ships, plans, own_line_in}
+use Rattle.fed_script.specs.Line.{Line, skips, acts, lists, misuses, ships, plans}
 use Rattle.fed_qstat.specs.Outcome.{answer_line, line_of_usage, text_of_outcome}
 use Rattle.fed_qstat.specs.Planned.{plan_if_any, plan_or_none}
 use Rattle.fed_qstat.specs.Listed.{listed}
-use Rattle.fed_looks.specs.Look.{Look}
-use Rattle.fed_looks.specs.LookLine.{look_in_line}
 use Rattle.fed_looks.specs.LookText.{text_of_look}
 use Rattle.fed_site.specs.declared.answers.Begun.{Begun}
 use Rattle.fed_site.specs.declared.complaints.Complaint.{Complaint}
-use Rattle.fed_site.specs.Line.{packet_text}
+use Rattle.fed_site.specs.OwnLine.{OwnLine, tells, carries, asks, says, own_line_of}
 use Rattle.fed_site.specs.Packets.{is_foreign, is_forgotten, unread_text, IsPacketText}
-use Rattle.fed_site.specs.Rosters.{are_same, next_roster, told_in}
+use Rattle.fed_site.specs.Rosters.{are_same, next_roster}
 
 -- a text, or that of the packet for a site
 pub data Reply : Type 0 where
@@ -141,19 +139,6 @@ module _ (roster : List (List ℕ × ℕ)) where
   after_line s (plans site moment) = said_of (after_plan s (plan_if_any roster s.view s.site moment))
   after_line s line = unreadable s
 
-  abbrev pub after_told : State → Option Line → Said
-  after_told s None = unreadable s
-  after_told s (Some line) = after_line s line
-
-  -- a line that asks for a look is answered by it, and one that asks for none says what it says behind the site's name
-  abbrev pub after_look : State → List ℕ → Option Look → Said
-  after_look s line None = after_told s (own_line_in roster s.site line)
-  after_look s line (Some look) = said_of (only s (text_of_look roster s look))
-
-  abbrev pub after_text : State → List ℕ → Option (List ℕ) → Said
-  after_text s line None = after_look s line (look_in_line roster s.site line)
-  after_text s line (Some text) = said_of (after_reading s (packet_in text))
-
   -- ---- rosters
   -- of a roster that is told a site says whether it goes on with the one that it knows, and it is kept where it differs
   abbrev pub after_next : State → Option (List (List ℕ × ℕ)) → Done
@@ -161,10 +146,15 @@ module _ (roster : List (List ℕ × ℕ)) where
   after_next s (Some sites) =
       record { after = s; text = answer_line (codes "done"); kept = not (are_same roster sites); complaint = None; begun = None }
 
-  abbrev pub after_roster : State → List ℕ → Option (Option (List (List ℕ × ℕ))) → Said
-  after_roster s line None = after_text s line (packet_text line)
-  after_roster s line (Some told) = said_of (after_next s (next_roster roster told))
+  -- ---- what a site says
+  -- to what a line says
+  abbrev pub after_own : State → OwnLine → Said
+  after_own s (tells told) = said_of (after_next s (next_roster roster told))
+  after_own s (carries text) = said_of (after_reading s (packet_in text))
+  after_own s (asks look) = said_of (only s (text_of_look roster s look))
+  after_own s (says (Some line)) = after_line s line
+  after_own s (says None) = unreadable s
 
-  -- what a site says to a line
+  -- to a line
   abbrev pub site_says : State → List ℕ → Said
-  site_says s line = after_roster s line (told_in line)
+  site_says s line = after_own s (own_line_of roster s.site line)

@@ -18,13 +18,15 @@ pub mod laws;
 mod misused;
 /// What the user is told of rosters that don't go on with the site's.
 mod other_rosters;
+/// What a line says at a site.
+mod own_lines;
 /// What a site does to the texts of packets.
 mod packets;
 /// What the user is told of a line.
 mod reasons;
 /// What the user is told of commands that are refused.
 mod refused;
-/// The line that tells a site the roster.
+/// Rosters that go on.
 mod rosters;
 /// Sites.
 pub mod site;

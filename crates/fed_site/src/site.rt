@@ -1,9 +1,7 @@
 //! One site by itself: what it holds, and what it answers to a line.
-ghost use Rattle.std.specs.Prelude.{◌≡◌, ◌↔◌, ◌<◌, false, Some, None, IfOk, IfSome, IsTrue, OnErr, OnOk, codes, if◌then◌else◌, is_none, length, map, nat_eq, option_map};
-ghost use Rattle.std.specs.List.{list_any};
+ghost use Rattle.std.specs.Prelude.{◌≡◌, ◌↔◌, ◌<◌, false, Some, None, IfOk, IfSome, IsTrue, OnErr, OnOk, codes, if◌then◌else◌, is_none, length, map, option_map};
 ghost use Rattle.std.specs.Cow.{cow_str_bytes};
 ghost use Rattle.fed_board.specs.Board.{board_reads};
-ghost use Rattle.fed_looks.specs.LookView.{asked_by};
 ghost use Rattle.fed_script.specs.LineView.{said_by};
 ghost use Rattle.fed_replica.specs.State.{empty_at, state_of};
 ghost use Rattle.fed_qstat.specs.Outcome.{answer_line};
@@ -12,23 +10,25 @@ ghost use Rattle.fed_site.specs.declared.complaints.Complaint.{Complaint};
 ghost use Rattle.fed_site.specs.Answered.{begun_of, bytes_of, complaint_of, kept_of, text_of};
 ghost use Rattle.fed_site.specs.Journal.{SaidAs, after_lines};
 ghost use Rattle.fed_site.specs.Known.{heard_line as line_of_heard, known_in, unheard};
-ghost use Rattle.fed_site.specs.Line.{packet_text as packet_text_in};
+ghost use Rattle.fed_site.specs.OwnLine.{told_by};
+ghost use Rattle.fed_site.specs.OwnLineView.{read_as};
 ghost use Rattle.fed_site.specs.Packets.{IsPacketText};
 ghost use Rattle.fed_site.specs.Rosters.{next_roster, roster_after, roster_after_lines, roster_told};
-ghost use Rattle.fed_site.specs.Says.{after_line, after_look, after_next, after_text, after_told, said_of, site_says};
+ghost use Rattle.fed_site.specs.Says.{after_line, after_next, after_own, said_of, site_says};
 
 use crate::acts::act;
 use crate::answers::{Begun, LineText, TextAnswer, told, undone};
 use crate::complaints::Complaint;
 use crate::knowing::{heard_line, known, known_text};
+use crate::own_lines::{OwnLine, read_line};
 use crate::packets::{ship, take};
-use crate::rosters::{are_same_rosters, begins, told_roster};
+use crate::rosters::{are_same_rosters, begins};
 use fed_board::Board;
 use fed_lattice::NoMemory;
-use fed_looks::{Look, look_of_line, look_text};
+use fed_looks::look_text;
 use fed_qstat::{AnswerText, listing_text, plan_lines, usage_line};
 use fed_replica::Replica;
-use fed_script::{BoxedRoster, Line, read_own_line};
+use fed_script::{BoxedRoster, Line};
 use fed_stamp::{Roster, SiteId, Version};
 use std::alloc::Global;
 use std::borrow::CowStr;
@@ -137,24 +137,6 @@ fn other_roster() -> TextAnswer
     undone(CowStr::Borrowed("other roster\n"), Complaint::OtherRoster)
 }
 
-/// Whether the line has a line feed.
-fn has_line_feed(line: &[u8]) -> bool
-    ensures { result ≡ list_any (nat_eq 10) line.now }
-{
-    line.contains(&b'\n')
-}
-
-/// `take TEXT`: the text, which has no line feed.
-fn packet_text(line: &[u8]) -> Option<&[u8]>
-    ensures { option_map (λ text. text.now) result ≡ packet_text_in line.now }
-{
-    if line.starts_with(b"take ") && !has_line_feed(line) {
-        Some(&line[5..])
-    } else {
-        None
-    }
-}
-
 impl Site {
     /// A site that holds nothing.
     pub fn new(alloc: Global, roster: BoxedRoster, here: SiteId) -> Site
@@ -230,59 +212,6 @@ impl Site {
         }
     }
 
-    /// Does what a line says, if it can be read.
-    fn do_told(&mut self, alloc: Global, line: Option<Line>) -> Result<Answered, NoMemory>
-        ensures said { IfOk result (λ a. SaidAs self.old self.new a self.old.roster
-            (after_told self.old.roster (state_of self.old.replica) (option_map said_by line))) }
-        ensures unchanged { OnErr result (self.new ≡ self.old) }
-    {
-        match line {
-            Some(line) => self.do_line(alloc, line),
-            None => Ok(Answered::Text(unreadable())),
-        }
-    }
-
-    /// Answers the look that a line asks for, or does what the line says where it asks for none.
-    fn do_own(
-        &mut self,
-        alloc: Global,
-        line: &[u8],
-        look: Option<Look>,
-    ) -> Result<Answered, NoMemory>
-        ensures said { IfOk result (λ a. SaidAs self.old self.new a self.old.roster
-            (after_look self.old.roster (state_of self.old.replica) line.now (option_map asked_by look))) }
-        ensures unchanged { OnErr result (self.new ≡ self.old) }
-    {
-        match look {
-            Some(look) => {
-                let seen = look_text(alloc, self.roster.get(), &self.replica, &look)?;
-                Ok(Answered::Text(told(CowStr::Owned(seen))))
-            }
-            None => {
-                let told = read_own_line(alloc, self.roster.get(), self.here, line)?;
-                self.do_told(alloc, told)
-            }
-        }
-    }
-
-    /// Takes the packet of a line, or does what the line says where it carries none.
-    fn do_text(&mut self, alloc: Global, line: &[u8]) -> Result<Answered, NoMemory>
-        ensures said { IfOk result (λ a. SaidAs self.old self.new a self.old.roster
-            (after_text self.old.roster (state_of self.old.replica) line.now (packet_text_in line.now))) }
-        ensures unchanged { OnErr result (self.new ≡ self.old) }
-    {
-        match packet_text(line) {
-            Some(text) => {
-                let answer = take(alloc, self.roster.get(), self.here, &mut self.replica, text)?;
-                Ok(Answered::Text(answer))
-            }
-            None => {
-                let look = look_of_line(alloc, self.roster.get(), self.here, line)?;
-                self.do_own(alloc, line, look)
-            }
-        }
-    }
-
     /// Is told a roster, or words that name none.
     fn take_roster(&mut self, told: Option<BoxedRoster>) -> Answered
         ensures { SaidAs self.old self.new result (roster_told self.old.roster (Some told))
@@ -304,16 +233,35 @@ impl Site {
         })
     }
 
+    /// Does what a line was read as.
+    fn do_own(&mut self, alloc: Global, line: OwnLine<'_>) -> Result<Answered, NoMemory>
+        ensures said { IfOk result (λ a. SaidAs self.old self.new a (roster_told self.old.roster (told_by (read_as line.entry)))
+            (after_own self.old.roster (state_of self.old.replica) (read_as line.entry))) }
+        ensures unchanged { OnErr result (self.new ≡ self.old) }
+    {
+        match line {
+            OwnLine::Roster(told) => Ok(self.take_roster(told)),
+            OwnLine::Packet(text) => {
+                let answer = take(alloc, self.roster.get(), self.here, &mut self.replica, text)?;
+                Ok(Answered::Text(answer))
+            }
+            OwnLine::Look(look) => {
+                let seen = look_text(alloc, self.roster.get(), &self.replica, &look)?;
+                Ok(Answered::Text(told(CowStr::Owned(seen))))
+            }
+            OwnLine::Line(Some(line)) => self.do_line(alloc, line),
+            OwnLine::Line(None) => Ok(Answered::Text(unreadable())),
+        }
+    }
+
     /// Answers a line. Where memory is refused, the site holds what it held.
     pub fn answer(&mut self, alloc: Global, line: &[u8]) -> Result<Answered, NoMemory>
         ensures said { IfOk result (λ a. SaidAs self.old self.new a (roster_after self.old.roster line.now)
             (site_says self.old.roster (state_of self.old.replica) line.now)) }
         ensures unchanged { OnErr result (self.new ≡ self.old) }
     {
-        match told_roster(alloc, line)? {
-            Some(told) => Ok(self.take_roster(told)),
-            None => self.do_text(alloc, line),
-        }
+        let said = read_line(alloc, self.roster.get(), self.here, line)?;
+        self.do_own(alloc, said)
     }
 
     /// Answers these lines, one after another. Where memory is refused, the site may have answered some of them.

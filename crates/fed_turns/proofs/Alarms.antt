@@ -1,5 +1,6 @@
 -- No text that was shipped tells that a site forgot, or is a stranger's where the site knows all sites.
-use Rattle.std.specs.Prelude.{suc, Some, Ok, Result}
+use Rattle.std.specs.Prelude.{suc, Some, None, Ok, Result}
+use Rattle.std.specs.Option.{option_map_or}
 use Rattle.std.specs.List.{position_or_len}
 use Rattle.std.proofs.Common.{◌≡◌, ◌≤◌, ℕ, List, false, length, refl, sym, subst, ap, ◌∙◌}
 use Rattle.std.proofs.lemmas.Bool.{cond-true}
@@ -10,10 +11,11 @@ use Rattle.fed_wire.specs.Reading.{packet_in}
 use Rattle.fed_replica.specs.State.{State}
 use Rattle.fed_model.specs.Run.{World, run_from, start}
 use Rattle.fed_theory.proofs.Runs.{packet_Has}
+use Rattle.fed_script.specs.Line.{words_in}
 use Rattle.fed_site.specs.Line.{packet_text}
+use Rattle.fed_site.specs.OwnLine.{carries, says, own_words}
 use Rattle.fed_site.specs.Packets.{is_foreign}
-use Rattle.fed_site.specs.Says.{after_reading, after_roster, after_text, said_of, site_says}
-use Rattle.fed_site.proofs.RosterLines.{packet_tells_none}
+use Rattle.fed_site.specs.Says.{after_own, after_reading, said_of, site_says}
 use Rattle.fed_turns.specs.Alarm.{RaisesNoAlarm}
 use Rattle.fed_turns.specs.Turn.{Course, MayTurns, Turn, WasShipped, after_turns, beginning}
 use Rattle.fed_turns.specs.Run.{StandsFor, events_from, is_read_in, state_at}
@@ -63,7 +65,7 @@ module _ (whole : List (List ℕ × ℕ)) (few : length whole ≤ 16) (rosters :
   no_alarm i line is =
       let roster = c.roster i in
       let told : (s : State) → site_says roster s line ≡ said_of (after_reading roster s (packet_in text)) =
-      λ s. ap (after_roster roster s line) (packet_tells_none line text is) ∙ ap (after_text roster s line) is in
+      λ s. ap (λ o. after_own roster s (option_map_or carries o (option_map_or (own_words roster s.site) (words_in line) (says None)))) is in
       let here : State = state_at i (w.site i) in
       subst (λ (s : State). RaisesNoAlarm roster s line text) (sym (played.stands.sites i)) (record {
         packet = it.of.sent;

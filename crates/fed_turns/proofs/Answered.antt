@@ -15,7 +15,7 @@ use Rattle.fed_qstat.specs.Outcome.{answer_line, text_of_outcome}
 use Rattle.fed_turns.specs.Crash.{Happening, answered, turns_from}
 use Rattle.fed_turns.specs.Home.{course_of}
 use Rattle.fed_turns.specs.Own.{AsksToBegin}
-use Rattle.fed_turns.specs.Run.{Deed, IsDeedAnswer, StandsFor, deed_of, does, events_at, events_done, events_from, heard, looked, numbered}
+use Rattle.fed_turns.specs.Run.{Deed, IsDeedAnswer, StandsFor, deed_by, deed_of, does, events_at, events_done, events_from}
 use Rattle.fed_turns.specs.Turn.{Course, MayTurn, MayTurns, Turn, after_turn, after_turns, beginning, roster_at}
 use Rattle.fed_turns.proofs.Alarms.{start_stands}
 use Rattle.fed_turns.proofs.Crashes.{turns_more}
@@ -60,9 +60,7 @@ abbrev begin : (roster : List (List ℕ × ℕ)) (t : Turn) (job : StampValue) �
 begin roster t job asks = Do t.site asks.who (Command.Begin job asks.moment)
 
 deed_is : (c : Course) (t : Turn) (job : StampValue) (asks : AsksToBegin (c.roster t.site) t.site t.line job) → deed_of c t ≡ does (Some (acts t.site asks.who (Command.Begin job asks.moment ∷ [])))
-deed_is c t job asks =
-    let roster = c.roster t.site in
-    ap (heard roster c t) asks.told ∙ ap (numbered roster c t) asks.packet ∙ ap (looked roster t) asks.look ∙ ap does asks.says
+deed_is c t job asks = ap (deed_by (c.roster t.site) c.shipped t.site) asks.said
 
 events_are : (c : Course) (t : Turn) (job : StampValue) (asks : AsksToBegin (c.roster t.site) t.site t.line job) → events_at c t ≡ begin (c.roster t.site) t job asks ∷ []
 events_are c t job asks = ap events_done (deed_is c t job asks)

@@ -1,6 +1,7 @@
 -- A line of the word `begin`, the identifier of a job and a moment.
 use Rattle.std.specs.Prelude.{codes, drop, nat_eq, not, slice_index, ◌&&◌, Option, Some, None, option_map, if◌then◌else◌}
 use Rattle.std.specs.List.{list_any, starts_with}
+use Rattle.std.specs.Option.{option_map_or}
 use Rattle.std.proofs.Common.{◌≡◌, ℕ, List, [], ◌∷◌, ◌++◌, Bool, true, false, refl, sym, ap, ◌∙◌, arith}
 use Rattle.std.proofs.lemmas.Bool.Decides.{Decides-eqb}
 use Rattle.std.proofs.lemmas.Slice.Eq.{starts_is}
@@ -8,12 +9,10 @@ use Rattle.fed_stamp.specs.Stamp.{StampValue}
 use Rattle.fed_model.specs.declared.commands.Command.{Command}
 use Rattle.fed_script.specs.Asker.{scheduler}
 use Rattle.fed_script.specs.Forms.{◌>>=◌}
-use Rattle.fed_script.specs.Line.{acts, own_line, told, words_in}
+use Rattle.fed_script.specs.Line.{acts, told, words_in}
 use Rattle.fed_script.specs.Lines.{is_readable, words_of}
-use Rattle.fed_script.specs.Rosters.{roster_of}
 use Rattle.fed_script.specs.Values.{identifier, moment}
-use Rattle.fed_site.specs.Rosters.{words_behind}
-use Rattle.fed_looks.specs.Look.{look_in}
+use Rattle.fed_site.specs.OwnLine.{carries, says, own_words}
 use Rattle.fed_turns.specs.Own.{AsksToBegin}
 
 -- the first byte of the first word
@@ -40,10 +39,8 @@ module _ (line id when : List ℕ) (e : words_in line ≡ Some (codes "begin" �
   begin_asks roster here job at i m = record {
     who = scheduler;
     moment = at;
-    told = ap (λ o. option_map roster_of (o >>= words_behind)) e;
-    packet = no_packet (starts_with nat_eq line (codes "take ")) refl;
-    look = ap (λ o. o >>= look_in roster here) e;
-    says = ap (λ o. o >>= own_line roster here) e
-        ∙ ap (λ o. option_map (λ (c : Command). acts here scheduler (c ∷ [])) (o >>= λ a. option_map (Command.Begin a) (moment when))) i
-        ∙ ap (λ o. option_map (λ (c : Command). acts here scheduler (c ∷ [])) (option_map (Command.Begin job) o)) m;
+    said = ap (λ o. option_map_or carries o (option_map_or (own_words roster here) (words_in line) (says None))) (no_packet (starts_with nat_eq line (codes "take ")) refl)
+        ∙ ap (λ o. option_map_or (own_words roster here) o (says None)) e
+        ∙ ap (λ o. says (option_map (λ (c : Command). acts here scheduler (c ∷ [])) (o >>= λ a. option_map (Command.Begin a) (moment when)))) i
+        ∙ ap (λ o. says (option_map (λ (c : Command). acts here scheduler (c ∷ [])) (option_map (Command.Begin job) o))) m;
   }

@@ -6,20 +6,20 @@ use Rattle.std.proofs.lemmas.List.Elements.{All-cons, All-head, All-nil, All-tai
 use Rattle.fed_stamp.specs.Indexes.{put}
 use Rattle.fed_lattice.specs.SetLaws.{Has-left}
 use Rattle.fed_replica.specs.State.{State, empty_at}
-use Rattle.fed_script.specs.Line.{Line, skips, begins, acts, lists, misuses, ships, takes, plans, compares, own_line_in}
+use Rattle.fed_script.specs.Line.{skips, begins, acts, lists, misuses, ships, takes, plans, compares}
 use Rattle.fed_theory.proofs.RunSteps.{put_other}
 use Rattle.fed_theory.proofs.Runs.{put_same}
 use Rattle.fed_qstat.specs.Outcome.{answer_line}
-use Rattle.fed_looks.specs.Look.{Look}
-use Rattle.fed_looks.specs.LookLine.{look_in_line}
 use Rattle.fed_site.specs.Journal.{after_lines, kept_line, kept_lines}
 use Rattle.fed_site.specs.Line.{packet_text}
-use Rattle.fed_site.specs.Rosters.{roster_after, roster_after_lines, roster_told, told_in}
+use Rattle.fed_site.specs.OwnLine.{OwnLine, tells, carries, asks, says, own_line_of, told_by}
+use Rattle.fed_site.specs.Rosters.{roster_after, roster_after_lines, roster_told}
+use Rattle.fed_site.proofs.ReadLines.{told_is}
 use Rattle.fed_site.proofs.Replays.{replayed, replayed_roster}
 use Rattle.fed_site.proofs.RosterLines.{after_begins, begins_length}
 use Rattle.fed_home.proofs.Replays.{after_both, kept_both, roster_after_both}
 use Rattle.fed_qstat.specs.Planned.{plan_if_any}
-use Rattle.fed_site.specs.Says.{IsReply, Reply, Said, Text, PacketFor, after_look, after_plan, after_roster, after_text, after_told, site_says}
+use Rattle.fed_site.specs.Says.{IsReply, Reply, Said, Text, PacketFor, after_own, after_plan, site_says}
 use Rattle.fed_turns.specs.Crash.{Happening, answered, cut, MayAllHappen, MayHappen, journal_of, lines_all, lines_at, lines_if, turn_unseen, turns_from, turns_of, turns_unseen, unseen}
 use Rattle.fed_turns.specs.Home.{course_of}
 use Rattle.fed_turns.specs.Turn.{AreBeginnings, AreCarried, Course, IsCarried, MayTurns, Turn, WasShipped, after_turn, after_turns, beginning, shipped_by}
@@ -46,39 +46,32 @@ module _ (roster : List (List ℕ × ℕ)) where
 
   -- a ship changes nothing
   ship_stays : (s : State) (line : List ℕ) (to : ℕ) → (site_says roster s line).reply ≡ PacketFor to → (site_says roster s line).after ≡ s
-  ship_stays s line to e = heard (told_in line) e
+  ship_stays s line to e = own (own_line_of roster s.site line) e
     where
-      told : (o : Option Line) → (after_told roster s o).reply ≡ PacketFor to → (after_told roster s o).after ≡ s
-      told None f = refl
-      told (Some skips) f = refl
-      told (Some (begins sites)) f = refl
-      told (Some (acts site who commands)) f = cc
-      told (Some (lists site full jobs)) f = refl
-      told (Some (misuses site fault)) f = refl
-      told (Some (ships site other)) f = refl
-      told (Some (takes site number)) f = refl
-      told (Some (plans site moment)) f = plan_stays s (plan_if_any roster s.view s.site moment)
-      told (Some (compares site other)) f = refl
-
-      looked : (o : Option Look) → (after_look roster s line o).reply ≡ PacketFor to → (after_look roster s line o).after ≡ s
-      looked None f = told (own_line_in roster s.site line) f
-      looked (Some look) f = refl
-
-      carried : (o : Option (List ℕ)) → (after_text roster s line o).reply ≡ PacketFor to → (after_text roster s line o).after ≡ s
-      carried None f = looked (look_in_line roster s.site line) f
-      carried (Some text) f = cc
-
-      heard : (o : Option (Option (List (List ℕ × ℕ)))) → (after_roster roster s line o).reply ≡ PacketFor to → (after_roster roster s line o).after ≡ s
-      heard None f = carried (packet_text line) f
-      heard (Some named) f = cc
+      own : (o : OwnLine) → (after_own roster s o).reply ≡ PacketFor to → (after_own roster s o).after ≡ s
+      own (tells told) f = cc
+      own (carries text) f = cc
+      own (asks look) f = refl
+      own (says None) f = refl
+      own (says (Some skips)) f = refl
+      own (says (Some (begins sites))) f = refl
+      own (says (Some (acts site who commands))) f = cc
+      own (says (Some (lists site full jobs))) f = refl
+      own (says (Some (misuses site fault))) f = refl
+      own (says (Some (ships site other))) f = refl
+      own (says (Some (takes site number))) f = refl
+      own (says (Some (plans site moment))) f = plan_stays s (plan_if_any roster s.view s.site moment)
+      own (says (Some (compares site other))) f = refl
 
   -- and tells no roster
   ship_tells_none : (s : State) (line : List ℕ) (to : ℕ) → (site_says roster s line).reply ≡ PacketFor to → roster_after roster line ≡ roster
-  ship_tells_none s line to e = heard (told_in line) e
+  ship_tells_none s line to e = ap (roster_told roster) (told_is roster s.site line) ∙ own (own_line_of roster s.site line) e
     where
-      heard : (o : Option (Option (List (List ℕ × ℕ)))) → (after_roster roster s line o).reply ≡ PacketFor to → roster_told roster o ≡ roster
-      heard None f = refl
-      heard (Some named) f = cc
+      own : (o : OwnLine) → (after_own roster s o).reply ≡ PacketFor to → roster_told roster (told_by o) ≡ roster
+      own (tells told) f = cc
+      own (carries text) f = refl
+      own (asks look) f = refl
+      own (says line) f = refl
 
 -- once more was shipped
 pub still : (first more : List (List ℕ)) (line : List ℕ) → IsCarried first line → IsCarried (first ++ more) line

@@ -26,16 +26,14 @@ use Rattle.fed_wire.specs.declared.faults.WireFault.{WireFault}
 use Rattle.fed_wire.specs.Packet.{PacketValue}
 use Rattle.fed_wire.specs.Reading.{packet_in}
 use Rattle.fed_replica.specs.State.{State, after_answer, after_packet_unless, lacking}
-use Rattle.fed_script.specs.Line.{Line, skips, begins as begins_line, acts, lists, misuses, ships, takes, plans, compares, own_line_in}
+use Rattle.fed_script.specs.Line.{skips, begins as begins_line, acts, lists, misuses, ships, takes, plans, compares}
 use Rattle.fed_qstat.specs.Outcome.{answer_line}
 use Rattle.fed_qstat.specs.Planned.{plan_if_any}
-use Rattle.fed_looks.specs.Look.{Look}
-use Rattle.fed_looks.specs.LookLine.{look_in_line}
 use Rattle.fed_site.specs.declared.complaints.Complaint.{Complaint}
-use Rattle.fed_site.specs.Line.{packet_text}
+use Rattle.fed_site.specs.OwnLine.{OwnLine, tells, carries, asks, says, own_line_of}
 use Rattle.fed_site.specs.Packets.{is_foreign, is_forgotten}
-use Rattle.fed_site.specs.Rosters.{next_roster, roster_after, told_in}
-use Rattle.fed_site.specs.Says.{after_commands, after_look, after_plan, after_reading, after_receipt, after_roster, after_text, after_told, site_says, undone}
+use Rattle.fed_site.specs.Rosters.{next_roster, roster_after}
+use Rattle.fed_site.specs.Says.{after_commands, after_own, after_plan, after_reading, after_receipt, site_says, undone}
 use Rattle.fed_site.proofs.Replays.{next_unkept}
 use Rattle.fed_site.proofs.RosterLines.{after_begins, begins_length}
 use Rattle.fed_turns.specs.Run.{StandsFor, events_at}
@@ -131,32 +129,23 @@ module _ (roster : List (List ℕ × ℕ)) where
   plan_none s (Some text) none = none
   plan_none s None none = none
 
-  told_none : (s : State) (line : Option Line) → s.site < m → NoneFrom m s → NoneFrom m (after_told roster s line).after
-  told_none s None small none = none
-  told_none s (Some skips) small none = none
-  told_none s (Some (begins_line sites)) small none = none
-  told_none s (Some (acts site who commands)) small none = commands_none s who 0 commands small none
-  told_none s (Some (lists site full jobs)) small none = none
-  told_none s (Some (misuses site fault)) small none = none
-  told_none s (Some (ships site to)) small none = none
-  told_none s (Some (takes site packet)) small none = none
-  told_none s (Some (plans site moment)) small none = plan_none s (plan_if_any roster s.view s.site moment) none
-  told_none s (Some (compares site other)) small none = none
-
-  look_none : (s : State) (line : List ℕ) (look : Option Look) → s.site < m → NoneFrom m s → NoneFrom m (after_look roster s line look).after
-  look_none s line None small none = told_none s (own_line_in roster s.site line) small none
-  look_none s line (Some look) small none = none
-
-  text_none : (s : State) (line : List ℕ) (text : Option (List ℕ)) → s.site < m → NoneFrom m s → NoneFrom m (after_text roster s line text).after
-  text_none s line None small none = look_none s line (look_in_line roster s.site line) small none
-  text_none s line (Some text) small none = reading_none s (packet_in text) none
-
-  roster_none : (s : State) (line : List ℕ) (told : Option (Option (List (List ℕ × ℕ)))) → s.site < m → NoneFrom m s → NoneFrom m (after_roster roster s line told).after
-  roster_none s line None small none = text_none s line (packet_text line) small none
-  roster_none s line (Some told) small none = subst (NoneFrom m) (sym (next_unkept roster s (next_roster roster told))) none
+  own_none : (s : State) (line : OwnLine) → s.site < m → NoneFrom m s → NoneFrom m (after_own roster s line).after
+  own_none s (tells told) small none = subst (NoneFrom m) (sym (next_unkept roster s (next_roster roster told))) none
+  own_none s (carries text) small none = reading_none s (packet_in text) none
+  own_none s (asks look) small none = none
+  own_none s (says None) small none = none
+  own_none s (says (Some skips)) small none = none
+  own_none s (says (Some (begins_line sites))) small none = none
+  own_none s (says (Some (acts site who commands))) small none = commands_none s who 0 commands small none
+  own_none s (says (Some (lists site full jobs))) small none = none
+  own_none s (says (Some (misuses site fault))) small none = none
+  own_none s (says (Some (ships site to))) small none = none
+  own_none s (says (Some (takes site packet))) small none = none
+  own_none s (says (Some (plans site moment))) small none = plan_none s (plan_if_any roster s.view s.site moment) none
+  own_none s (says (Some (compares site other))) small none = none
 
   said_none : (s : State) (line : List ℕ) → s.site < m → NoneFrom m s → NoneFrom m (site_says roster s line).after
-  said_none s line small none = roster_none s line (told_in line) small none
+  said_none s line small none = own_none s (own_line_of roster s.site line) small none
 
 -- ---- turns
 abbrev pub AreInside : Course → Type 0

@@ -23,7 +23,7 @@ use Rattle.fed_script.specs.declared.verbs.Verb.{Verb}
 use Rattle.fed_script.specs.declared.verbs.Verb.TheVariants.{Grant, Begin, Finish, HandBack, Decline, Ship, Take, Plan}
 use Rattle.fed_script.specs.Asker.{is_slash, role_in, scheduler, user_in, who_in}
 use Rattle.fed_script.specs.Forms.{Reads, ◌>>=◌, one, one_word, two, two_words, three, three_words, four_words}
-use Rattle.fed_script.specs.Line.{Line, skips, acts, lists, misuses, ships, takes, plans, act, asked_at, cancels, own_line, own_line_in, reserves, scheduled, user_line, verb_line, words_in}
+use Rattle.fed_script.specs.Line.{Line, skips, acts, lists, misuses, ships, takes, plans, act, asked_at, cancels, own_line, reserves, scheduled, user_line, verb_line}
 use Rattle.fed_script.specs.Values.{identifier, moment, number, packet, site, status}
 use Rattle.fed_script.specs.Verb.{verb_named}
 use Rattle.fed_turns.proofs.Requests.{IsRangedAsked, in_range, request_ranged}
@@ -177,13 +177,6 @@ module _ (roster : List (List ℕ × ℕ)) (few : length roster ≤ 16) (here : 
     first_is None word words e = who_is word (who_in word) refl words e
     first_is (Some verb) word words e = verb_is verb words e
 
-    words_are : (words : List (List ℕ)) → own_line roster here words ≡ Some line → P line
-    words_are [] e = let same : skips ≡ line = cc in subst P same skip
-    words_are (word ∷ words) e = first_is (verb_named word) word words e
-
-    told_is : (o : Option (List (List ℕ))) → (o >>= own_line roster here) ≡ Some line → P line
-    told_is None e = cc
-    told_is (Some words) e = words_are words e
-
-    pub own_line_is : (bytes : List ℕ) → own_line_in roster here bytes ≡ Some line → P line
-    own_line_is bytes e = told_is (words_in bytes) e
+    pub own_line_is : (words : List (List ℕ)) → own_line roster here words ≡ Some line → P line
+    own_line_is [] e = let same : skips ≡ line = cc in subst P same skip
+    own_line_is (word ∷ words) e = first_is (verb_named word) word words e

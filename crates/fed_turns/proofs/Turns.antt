@@ -15,7 +15,7 @@ use Rattle.fed_wire.specs.Reading.{packet_in}
 use Rattle.fed_model.specs.Packet.{shipped}
 use Rattle.fed_model.specs.Ranges.{IsRanged}
 use Rattle.fed_replica.specs.State.{State}
-use Rattle.fed_script.specs.Line.{Line, skips, acts, lists, misuses, ships, takes as takes_line, plans, own_line_in}
+use Rattle.fed_script.specs.Line.{Line, skips, acts, lists, misuses, ships, takes as takes_line, plans, own_line}
 use Rattle.fed_model.specs.declared.events.Event.TheVariants.{Do, Ship, Take}
 use Rattle.fed_model.specs.RangedEvents.{AreRanged, IsRangedEvent}
 use Rattle.fed_model.specs.Run.{World, Step, run_from, outcomes_from, ships as ships_in, step, takes}
@@ -25,18 +25,18 @@ use Rattle.fed_qstat.specs.Listed.{listed}
 use Rattle.fed_qstat.specs.Outcome.{answer_line, line_of_usage, text_of_outcome}
 use Rattle.fed_qstat.specs.Planned.{plan_if_any, plan_or_none}
 use Rattle.fed_looks.specs.Look.{Look}
-use Rattle.fed_looks.specs.LookLine.{look_in_line}
 use Rattle.fed_looks.specs.LookText.{text_of_look}
 use Rattle.fed_site.specs.Journal.{kept_line}
-use Rattle.fed_site.specs.Line.{packet_text}
+use Rattle.fed_site.specs.OwnLine.{asks, says, own_line_of}
 use Rattle.fed_site.specs.Packets.{is_foreign, is_forgotten}
-use Rattle.fed_site.specs.Rosters.{next_roster, roster_after, told_in}
+use Rattle.fed_site.specs.Rosters.{next_roster, roster_after}
 use Rattle.fed_site.specs.declared.complaints.Complaint.{Complaint}
+use Rattle.fed_site.proofs.ReadLines.{read_is}
 use Rattle.fed_site.proofs.Replays.{next_unkept, reading_unkept}
 use Rattle.fed_site.proofs.RosterLines.{begins_length}
-use Rattle.fed_site.specs.Says.{Done, IsReply, Said, after_commands, after_line, after_look, after_next, after_plan, after_reading, after_receipt, after_roster, after_text, after_told, only, said_of, site_says, undone}
+use Rattle.fed_site.specs.Says.{Done, IsReply, Said, after_commands, after_line, after_next, after_own, after_plan, after_reading, after_receipt, only, said_of, site_says, undone}
 use Rattle.fed_turns.specs.Turn.{Course, IsCarried, MayTurn, MayTurns, Turn, WasShipped, after_said, after_turn, after_turns, said_to}
-use Rattle.fed_turns.specs.Run.{AreAnswered, AreShipments, Deed, IsDeedAnswer, StandsFor, declines, deed_of, does, events_at, events_done, events_from, heard, hears, is_read_in, is_stranger, looked, numbered, state_at, taken_as}
+use Rattle.fed_turns.specs.Run.{AreAnswered, AreShipments, Deed, IsDeedAnswer, StandsFor, declines, deed_by, deed_of, does, events_at, events_done, events_from, hears, is_read_in, is_stranger, looks, state_at, taken_as}
 use Rattle.fed_turns.proofs.Acts.{IsStepped, acted}
 use Rattle.fed_turns.proofs.OwnLines.{own_line_is}
 use Rattle.fed_turns.proofs.Packets.{found, placed, shipment, shipments_push}
@@ -190,24 +190,18 @@ module _ (n : ℕ) (few : n ≤ 16) (roster next : List (List ℕ × ℕ)) (part
       let done : Done = after_reading roster here (packet_in text) in
       declined_played text (reading_unkept roster here (packet_in text) (declined text carried at done.kept refl)) e
 
+  unread_played : IsReply here (after_own roster here (says None)).reply t.answer → IsPlayed n roster next c w t (after_own roster here (says None)) (does None)
+  unread_played e = record { answered = e; stands = quiet (answer_line (codes "cannot be read")); ranged = All-nil IsRangedEvent }
+
   -- a line that can be read, or can't
-  line_played : (o : Option Line) → own_line_in roster t.site t.line ≡ o → IsReply here (after_told roster here o).reply t.answer → IsPlayed n roster next c w t (after_told roster here o) (does o)
-  line_played None is e = record { answered = e; stands = quiet (answer_line (codes "cannot be read")); ranged = All-nil IsRangedEvent }
-  line_played (Some line) is reply =
-      own_line_is roster few_here t.site Plays skip_played act_played list_played misuse_played ship_played plan_played line t.line is reply
+  line_played : (words : List (List ℕ)) (o : Option Line) → own_line roster t.site words ≡ o → IsReply here (after_own roster here (says o)).reply t.answer → IsPlayed n roster next c w t (after_own roster here (says o)) (does o)
+  line_played words None is reply = unread_played reply
+  line_played words (Some line) is reply =
+      own_line_is roster few_here t.site Plays skip_played act_played list_played misuse_played ship_played plan_played line words is reply
 
-  -- a look, or none
-  look_played : (o : Option Look) → IsReply here (after_look roster here t.line o).reply t.answer → IsPlayed n roster next c w t (after_look roster here t.line o) (looked roster t o)
-  look_played None reply = line_played (own_line_in roster t.site t.line) refl reply
-  look_played (Some look) reply = record { answered = reply; stands = quiet (text_of_look roster here look); ranged = All-nil IsRangedEvent }
+  look_played : (look : Look) → t.answer ≡ text_of_look roster here look → IsPlayed n roster next c w t (after_own roster here (asks look)) (looks look)
+  look_played look reply = record { answered = reply; stands = quiet (text_of_look roster here look); ranged = All-nil IsRangedEvent }
 
-  text_played : (o : Option (List ℕ)) → ((after_text roster here t.line o).kept ≡ true → IfSome o (WasShipped c.shipped)) → IsReply here (after_text roster here t.line o).reply t.answer
-      → IsPlayed n roster next c w t (after_text roster here t.line o) (numbered roster c t o)
-  text_played None carried reply = look_played (look_in_line roster t.site t.line) reply
-  text_played (Some text) carried reply =
-      take_played text carried reply (is_stranger roster (packet_in text)) refl (nat_lt (position_or_len (is_read_in text) c.shipped) (length c.shipped)) refl
-
-  -- a roster that is told, or none
   told_played : (told : Option (List (List ℕ × ℕ))) → t.answer ≡ (after_next roster here (next_roster roster told)).text
       → IsPlayed n roster next c w t (said_of (after_next roster here (next_roster roster told))) (hears told)
   told_played told e = record {
@@ -219,10 +213,17 @@ module _ (n : ℕ) (few : n ≤ 16) (roster next : List (List ℕ × ℕ)) (part
     ranged = All-nil IsRangedEvent;
   }
 
-  roster_played : (o : Option (Option (List (List ℕ × ℕ)))) → ((after_roster roster here t.line o).kept ≡ true → IfSome (packet_text t.line) (WasShipped c.shipped)) → IsReply here (after_roster roster here t.line o).reply t.answer
-      → IsPlayed n roster next c w t (after_roster roster here t.line o) (heard roster c t o)
-  roster_played None carried reply = text_played (packet_text t.line) carried reply
-  roster_played (Some told) carried reply = told_played told reply
+  -- whatever the line says
+  own_played : ((site_says roster here t.line).kept ≡ true → IsCarried c.shipped t.line) → IsReply here (site_says roster here t.line).reply t.answer
+      → IsPlayed n roster next c w t (site_says roster here t.line) (deed_by roster c.shipped t.site (own_line_of roster t.site t.line))
+  own_played = read_is roster t.site t.line
+      (λ o. ((after_own roster here o).kept ≡ true → IsCarried c.shipped t.line) → IsReply here (after_own roster here o).reply t.answer → IsPlayed n roster next c w t (after_own roster here o) (deed_by roster c.shipped t.site o))
+      (λ text is carried reply. take_played text (λ kept. subst (λ o. IfSome o (WasShipped c.shipped)) is (carried kept)) reply (is_stranger roster (packet_in text)) refl
+      (nat_lt (position_or_len (is_read_in text) c.shipped) (length c.shipped)) refl)
+      (λ words is told names carried reply. told_played told reply)
+      (λ words is none look carried reply. look_played look reply)
+      (λ words is none carried reply. line_played words (own_line roster t.site words) refl reply)
+      (λ is carried reply. unread_played reply)
 
 -- ---- turns
 -- a line that is kept took what was shipped
@@ -242,7 +243,7 @@ module _ (whole : List (List ℕ × ℕ)) (few : length whole ≤ 16) where
       let took = kept_carried c.shipped t.line (said_to c t).kept may.carried in
       subst (λ (s : State). ((site_says roster s t.line).kept ≡ true → IsCarried c.shipped t.line) → IsReply s (site_says roster s t.line).reply t.answer
       → IsPlayed sites roster next c w t (site_says roster s t.line) (deed_of c t)) (sym (stands.sites t.site))
-      (roster_played sites few roster next (begins_length roster whole may.part) c w t stands r may.site (told_in t.line)) took may.said
+      (own_played sites few roster next (begins_length roster whole may.part) c w t stands r may.site) took may.said
 
   pub record ArePlayed (c : Course) (w : World) (ts : List Turn) : Type 0 where
     pub answered : AreAnswered sites c w ts

@@ -1,13 +1,11 @@
 -- What a line may say at a site by itself.
-use Rattle.std.specs.Prelude.{◌≡◌, ℕ, ◌<◌, List, [], ◌∷◌, length, All, Some, None}
+use Rattle.std.specs.Prelude.{◌≡◌, ℕ, ◌<◌, List, [], ◌∷◌, length, All, Some}
 use Rattle.fed_stamp.specs.Stamp.{StampValue}
 use Rattle.fed_model.specs.declared.askers.Who.{Who}
 use Rattle.fed_model.specs.declared.commands.Command.{Command}
 use Rattle.fed_model.specs.Ranges.{IsRanged}
-use Rattle.fed_script.specs.Line.{Line, skips, acts, lists, misuses, ships, plans, own_line_in}
-use Rattle.fed_looks.specs.LookLine.{look_in_line}
-use Rattle.fed_site.specs.Line.{packet_text}
-use Rattle.fed_site.specs.Rosters.{told_in}
+use Rattle.fed_script.specs.Line.{Line, skips, acts, lists, misuses, ships, plans}
+use Rattle.fed_site.specs.OwnLine.{says, own_line_of}
 
 -- it asks the site, for what is in range, or ships from it to a site of the roster
 abbrev pub IsOwnLine : List (List ℕ × ℕ) → ℕ → Line → Type 0
@@ -19,11 +17,8 @@ IsOwnLine roster here (ships site to) = (site ≡ here) × (to < length roster)
 IsOwnLine roster here (plans site moment) = site ≡ here
 IsOwnLine roster here _ = ⊥
 
--- the line tells no roster, has no packet and asks for no look: it asks the site to begin the job
+-- the line asks the site to begin the job
 pub record AsksToBegin (roster : List (List ℕ × ℕ)) (here : ℕ) (line : List ℕ) (job : StampValue) : Type 0 where
   pub who : Who
   pub moment : ℕ
-  pub told : told_in line ≡ None
-  pub packet : packet_text line ≡ None
-  pub look : look_in_line roster here line ≡ None
-  pub says : own_line_in roster here line ≡ Some (acts here who (Command.Begin job moment ∷ []))
+  pub said : own_line_of roster here line ≡ says (Some (acts here who (Command.Begin job moment ∷ [])))

@@ -7,7 +7,7 @@ use Rattle.fed_wire.specs.Packet.{PacketValue}
 use Rattle.fed_wire.specs.PacketLaws.{same_packet}
 use Rattle.fed_wire.specs.Reading.{packet_in}
 use Rattle.fed_replica.specs.State.{State}
-use Rattle.fed_script.specs.Line.{Line, skips, acts, lists, misuses, ships, takes, plans, own_line_in}
+use Rattle.fed_script.specs.Line.{Line, skips, acts, lists, misuses, ships, takes, plans}
 use Rattle.fed_model.specs.declared.events.Event.{Event}
 use Rattle.fed_model.specs.declared.events.Event.TheVariants.{Do, Ship, Take}
 use Rattle.fed_model.specs.declared.outcomes.Outcome.{Outcome}
@@ -17,11 +17,10 @@ use Rattle.fed_qstat.specs.Listed.{listed}
 use Rattle.fed_qstat.specs.Outcome.{answer_line, line_of_usage, text_of_outcome}
 use Rattle.fed_qstat.specs.Planned.{text_of_plan}
 use Rattle.fed_looks.specs.Look.{Look}
-use Rattle.fed_looks.specs.LookLine.{look_in_line}
 use Rattle.fed_looks.specs.LookText.{text_of_look}
-use Rattle.fed_site.specs.Line.{packet_text}
+use Rattle.fed_site.specs.OwnLine.{OwnLine, tells, carries, asks, says, own_line_of}
 use Rattle.fed_site.specs.Packets.{is_foreign}
-use Rattle.fed_site.specs.Rosters.{next_roster, told_in}
+use Rattle.fed_site.specs.Rosters.{next_roster}
 use Rattle.fed_site.specs.Says.{after_next, after_reading}
 use Rattle.fed_turns.specs.Turn.{Turn, Course, after_turn}
 
@@ -54,11 +53,6 @@ is_read_in text answer = is_same_reading (packet_in text) (packet_in (text_of an
 abbrev pub number_of : List (List ℕ) → List ℕ → Option ℕ
 number_of answers text = option_map suc (position (is_read_in text) answers)
 
--- a line that asks for no look says what it says behind the site's name
-abbrev pub looked : List (List ℕ × ℕ) → Turn → Option Look → Deed
-looked roster t (Some look) = looks look
-looked roster t None = does (own_line_in roster t.site t.line)
-
 -- in a script a packet has a number
 abbrev pub taken_as : ℕ → List ℕ → Option ℕ → Deed
 taken_as site text (Some number) = does (Some (takes site number))
@@ -69,18 +63,17 @@ abbrev pub is_stranger : List (List ℕ × ℕ) → Result PacketValue WireFault
 is_stranger roster (Ok p) = is_foreign roster p
 is_stranger roster (Err fault) = false
 
-abbrev pub numbered : List (List ℕ × ℕ) → Course → Turn → Option (List ℕ) → Deed
-numbered roster c t None = looked roster t (look_in_line roster t.site t.line)
-numbered roster c t (Some text) =
-    if is_stranger roster (packet_in text) then declines text else taken_as t.site text (number_of c.shipped text)
+-- what a line does at the site that says this
+abbrev pub deed_by : List (List ℕ × ℕ) → List (List ℕ) → ℕ → OwnLine → Deed
+deed_by roster answers site (tells told) = hears told
+deed_by roster answers site (carries text) =
+    if is_stranger roster (packet_in text) then declines text else taken_as site text (number_of answers text)
+deed_by roster answers site (asks look) = looks look
+deed_by roster answers site (says line) = does line
 
-abbrev pub heard : List (List ℕ × ℕ) → Course → Turn → Option (Option (List (List ℕ × ℕ))) → Deed
-heard roster c t None = numbered roster c t (packet_text t.line)
-heard roster c t (Some told) = hears told
-
--- by the roster that the site knows
+-- by the roster that the site knows, and the packets shipped
 abbrev pub deed_of : Course → Turn → Deed
-deed_of c t = heard (c.roster t.site) c t (told_in t.line)
+deed_of c t = deed_by (c.roster t.site) c.shipped t.site (own_line_of (c.roster t.site) t.site t.line)
 
 -- the events of a line: its commands in order, a packet that is made, or one that is taken
 abbrev pub events_of : Line → List Event

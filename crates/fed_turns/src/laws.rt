@@ -7,7 +7,7 @@ ghost use Rattle.fed_model.specs.declared.beginnings.Beginning.{Beginning};
 ghost use Rattle.fed_replica.specs.State.{empty_at};
 ghost use Rattle.fed_wire.specs.Packet.{PacketValue};
 ghost use Rattle.fed_wire.specs.Reading.{packet_in};
-ghost use Rattle.fed_script.specs.Line.{Line, own_line_in, words_in};
+ghost use Rattle.fed_script.specs.Line.{Line, own_line, words_in};
 ghost use Rattle.fed_script.specs.Values.{identifier, moment};
 ghost use Rattle.fed_qstat.specs.Outcome.{answer_line};
 ghost use Rattle.fed_model.specs.RangedEvents.{AreRanged};
@@ -178,11 +178,11 @@ pub fn homes_go_on()
         IsHomeOf rosters i happenings old → IsHomeOf rosters i happenings new }
 {}
 
-/// What a line says at a site by itself: it asks that site, for what is in range, or ships from it to a site of the roster.
-/// It names no sites, compares none, and takes no packet by a number.
+/// What the words of a line say at a site by itself: it asks that site, for what is in range, or ships from it to a site of
+/// the roster. It names no sites, compares none, and takes no packet by a number.
 pub fn own_lines_ask_their_site()
-    ensures { (roster : List (List ℕ × ℕ)) (here : ℕ) (bytes : List ℕ) (line : Line) → IsRoster roster →
-        own_line_in roster here bytes ≡ Some line → IsOwnLine roster here line }
+    ensures { (roster : List (List ℕ × ℕ)) (here : ℕ) (words : List (List ℕ)) (line : Line) → IsRoster roster →
+        own_line roster here words ≡ Some line → IsOwnLine roster here line }
 {}
 
 /// A line of the word `begin`, the identifier of a job and a moment asks to begin that job.
