@@ -9,7 +9,8 @@ use std::alloc::Global;
 use std::io::{Read, Write};
 
 /// Runs the script that a reader has, and writes the answers. The script is read whole before its first line is run,
-/// and the writer is flushed after the last that ran. The faults:
+/// and the writer is flushed after the last that ran. The memory that the sites took is given back when the process ends,
+/// and not before. The faults:
 ///
 /// - `Line(n)` where line n is the first that can't be read. The answers of the lines before it are written.
 /// - `Read` where a read fails, where the script has more than 16,777,216 bytes, or where it hasn't ended after
