@@ -71,6 +71,7 @@ effect v who (Command.Finish job moment status) =
     Some (OfJob job (JobBody.Finish (record { moment = moment; status = status })))
 effect v who (Command.Reserve window) = Some (Body.Reserve window)
 effect v who (Command.Cancel id) = Some (Body.Cancel id)
+effect v who (Command.Retire first last) = Some (Body.Retire first last)
 
 -- the reply to a command that adds an operation under the stamp
 abbrev pub reply_with : StampValue → Command → Reply

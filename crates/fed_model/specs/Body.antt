@@ -28,6 +28,7 @@ pub data Body : Type 0 where
   OfJob : (job : StampValue) (what : JobBody) → Body
   Reserve : (window : Window) → Body
   Cancel : (reservation : StampValue) → Body
+  Retire : (first last : ℕ) → Body
 
 -- the job that the operation is of: a job is known by the stamp of its Submit
 abbrev pub job_of : StampValue → Body → Option StampValue
@@ -35,6 +36,7 @@ job_of t (Submit owner values held) = Some t
 job_of t (OfJob job what) = Some job
 job_of t (Reserve window) = None
 job_of t (Cancel reservation) = None
+job_of t (Retire first last) = None
 
 -- the reservation that the operation is of: a reservation is known by the stamp of its Reserve
 abbrev pub reservation_of : StampValue → Body → Option StampValue

@@ -1,5 +1,5 @@
 -- What the operations of one job say of it.
-use Rattle.std.specs.Prelude.{ℕ, ℤ, Bool, List, Option}
+use Rattle.std.specs.Prelude.{ℕ, ℤ, Bool, List, [], Option}
 use Rattle.fed_stamp.specs.Stamp.{StampValue}
 use Rattle.fed_lattice.specs.History.{History}
 use Rattle.fed_lattice.specs.Part.{part}
@@ -54,3 +54,7 @@ job_view ops = record {
   };
   touched = version_of ops;
 }
+
+-- a job of which nothing is known
+abbrev pub unknown : JobView
+unknown = job_view []

@@ -1,5 +1,5 @@
 -- The sets of operations that can come about, and those that sites can hold at the same time.
-use Rattle.std.specs.Prelude.{◌≡◌, ℕ, zero, suc, ◌≤◌, Bool, true, List, ◌++◌}
+use Rattle.std.specs.Prelude.{◌≡◌, ℕ, zero, suc, ◌≤◌, ◌<◌, Bool, true, List, ◌++◌}
 use Rattle.fed_stamp.specs.Stamp.{StampValue}
 use Rattle.fed_lattice.specs.Sets.{Has}
 use Rattle.fed_lattice.specs.History.{History, OneEach, Shares}
@@ -9,7 +9,7 @@ use Rattle.fed_model.specs.declared.beginnings.Beginning.{Beginning}
 use Rattle.fed_model.specs.declared.beginnings.Ending.{Ending}
 use Rattle.fed_model.specs.declared.values.JobValues.{JobValues}
 use Rattle.fed_model.specs.declared.windows.Window.{Window}
-use Rattle.fed_model.specs.Body.{Body, Body.Submit, Body.OfJob, Body.Reserve, Body.Cancel, JobBody, JobBody.Set, JobBody.Release, JobBody.Grant, JobBody.HandBack, JobBody.Begin, JobBody.Finish, is_of_job}
+use Rattle.fed_model.specs.Body.{Body, Body.Submit, Body.OfJob, Body.Reserve, Body.Cancel, Body.Retire, JobBody, JobBody.Set, JobBody.Release, JobBody.Grant, JobBody.HandBack, JobBody.Begin, JobBody.Finish, is_of_job}
 use Rattle.fed_model.specs.Pairs.{adds_site, adds_hold}
 
 -- the set has the operation, and its stamp is smaller than t
@@ -47,12 +47,13 @@ RestsOn ops t job (HandBack term) = (s : StampValue) × HasBefore ops t s (OfJob
 RestsOn ops t job (Finish ending) = (s : StampValue) × (beginning : Beginning) × Has ops (s, OfJob job (Begin beginning))
 RestsOn ops t job _ = Unit {0}
 
--- what an operation rests on
+-- what an operation rests on. What is retired was made before
 abbrev pub IsGrounded : History Body → StampValue → Body → Type 0
 IsGrounded ops t (Submit owner values held) = Unit {0}
 IsGrounded ops t (OfJob job what) = IsSubmitted ops t job × RestsOn ops t job what
 IsGrounded ops t (Reserve window) = Unit {0}
 IsGrounded ops t (Cancel id) = IsReserved ops t id
+IsGrounded ops t (Retire first last) = (1 ≤ first) × (first ≤ last) × (last < t.counter)
 
 -- the job's grant of the greatest term is to the site and is not handed back
 pub record IsHolder (ops : History Body) (job : StampValue) (site : ℕ) : Type 0 where

@@ -12,6 +12,7 @@ pub mod Grant
 pub mod JobView
 pub mod Letter
 pub mod Reservation
+pub mod Retired
 pub mod View
 pub mod Identifiers
 -- What a site answers to a command.

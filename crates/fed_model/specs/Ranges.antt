@@ -17,7 +17,7 @@ use Rattle.fed_model.specs.declared.terms.TheConstants.{MAX_TERM}
 use Rattle.fed_model.specs.declared.values.Changes.{Changes}
 use Rattle.fed_model.specs.declared.values.JobValues.{JobValues}
 use Rattle.fed_model.specs.declared.windows.Window.{Window}
-use Rattle.fed_model.specs.Body.{Body, Body.Submit, Body.OfJob, Body.Reserve, JobBody.Set, JobBody.Grant, JobBody.HandBack, JobBody.Begin, JobBody.Finish}
+use Rattle.fed_model.specs.Body.{Body, Body.Submit, Body.OfJob, Body.Reserve, Body.Retire, JobBody.Set, JobBody.Grant, JobBody.HandBack, JobBody.Begin, JobBody.Finish}
 
 abbrev pub IsFrom : ℕ → ℕ → ℕ → Type 0
 IsFrom least most n = (least ≤ n) × (n ≤ most)
@@ -77,6 +77,7 @@ IsInRange (OfJob job (HandBack term)) = IsFrom 1 MAX_TERM term
 IsInRange (OfJob job (Begin beginning)) = IsBeginning beginning
 IsInRange (OfJob job (Finish ending)) = IsEnding ending
 IsInRange (Reserve window) = IsWindow window
+IsInRange (Retire first last) = IsFrom 1 MAX_COUNTER first × IsFrom first MAX_COUNTER last
 IsInRange _ = Unit {0}
 
 -- A window is looked at only where it is asked for: one that is no window is refused. The user's name becomes the

@@ -1,7 +1,7 @@
 -- Refusals have numbers, in the order in which they are looked for.
 use Rattle.std.specs.Prelude.{ℕ}
 use Rattle.fed_model.specs.declared.refusals.Refusal.{Refusal}
-use Rattle.fed_model.specs.declared.refusals.Refusal.TheVariants.{UnknownJob, NotPermitted, Gone, Granted, NotOrigin, Held, NotEligible, TakenBy, NotGranted, Begun, NotBegun, BadWindow, UnknownReservation, SiteFull, ClockFull, NoMemory}
+use Rattle.fed_model.specs.declared.refusals.Refusal.TheVariants.{UnknownJob, NotPermitted, Gone, Granted, NotOrigin, Held, NotEligible, TakenBy, NotGranted, Begun, NotBegun, BadWindow, UnknownReservation, SiteFull, ClockFull, NoMemory, NotSettled}
 
 abbrev pub number_of : Refusal → ℕ
 number_of UnknownJob = 1
@@ -20,3 +20,4 @@ number_of UnknownReservation = 13
 number_of SiteFull = 14
 number_of ClockFull = 15
 number_of NoMemory = 16
+number_of NotSettled = 17

@@ -72,4 +72,11 @@ pub enum Command {
     Cancel {
         reservation: Stamp,
     },
+    /// Retire this site's identifiers with counters in the range, of jobs and of reservations: nothing is kept of them.
+    Retire {
+        /// The least counter of the range.
+        first: u64,
+        /// The greatest counter of the range.
+        last: u64,
+    },
 }

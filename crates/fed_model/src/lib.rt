@@ -59,7 +59,7 @@ pub mod windows;
 pub use accounts::Account;
 pub use askers::{Role, Who};
 pub use beginnings::{Beginning, Ending, MAX_STATUS};
-pub use capacities::{MAX_JOBS, MAX_RESERVATIONS};
+pub use capacities::{MAX_JOBS, MAX_RANGES, MAX_RESERVATIONS};
 pub use commands::Command;
 pub use decisions::Decision;
 pub use events::Event;

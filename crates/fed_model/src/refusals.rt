@@ -51,8 +51,9 @@ pub enum Refusal {
     /// 13: the reservation isn't on the site's board, or is cancelled. To Cancel.
     #[error("unknown reservation")]
     UnknownReservation,
-    /// 14: 10,000 or more jobs were submitted at this site (to Submit), or 1,000 or more reservations made at it (to
-    /// Reserve). Jobs that are gone and reservations that are cancelled count.
+    /// 14: 10,000 or more jobs of this site are not retired (to Submit), or 1,000 or more reservations (to Reserve). Jobs
+    /// that are gone and reservations that are cancelled count until they are retired. To Retire where the site would then
+    /// have more than 1,000 ranges, of which none touches another; of a range whose ends are as 17 asks.
     #[error("the site is full")]
     SiteFull,
     /// 15: an operation would be added, and the greatest counter that the site has seen is `MAX_COUNTER`. To all
@@ -62,6 +63,10 @@ pub enum Refusal {
     /// 16: an allocation failed. To all commands.
     #[error("out of memory")]
     NoMemory,
+    /// 17: the range is empty, begins at 0 or reaches beyond the site's own counter, a job of this site in it is not
+    /// settled, so that it runs or could still begin, or a reservation of this site in it is not cancelled. To Retire.
+    #[error("not settled")]
+    NotSettled,
 }
 
 /// 16: memory was refused.
@@ -87,7 +92,7 @@ impl From<ClockFull> for Refusal {
 }
 
 impl Refusal {
-    /// The number of the refusal, from 1 to 16.
+    /// The number of the refusal, from 1 to 17.
     pub fn number(self) -> u8
         ensures { result ≡ number_of self }
     {
@@ -108,6 +113,7 @@ impl Refusal {
             Refusal::SiteFull => 14,
             Refusal::ClockFull => 15,
             Refusal::NoMemory => 16,
+            Refusal::NotSettled => 17,
         }
     }
 }

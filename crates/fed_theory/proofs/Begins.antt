@@ -51,7 +51,7 @@ pub record IsBegun (w : World) (n here : ℕ) (who : Who) (job : StampValue) (mo
   pub answered : answer (w.site here).set here who (Command.Begin job moment) ≡ Replies reply (Some (stamp, OfJob job (Begin beginning)))
   pub added : Has ((step n w (Do here who (Command.Begin job moment))).after.site here).set (stamp, OfJob job (Begin beginning))
 
-begun : (n : ℕ) (w : World) (here : ℕ) (who : Who) (job : StampValue) (moment : ℕ) (reply : Reply) → (step n w (Do here who (Command.Begin job moment))).outcome ≡ Outcome.Replied reply → IsBegun w n here who job moment
+pub begun : (n : ℕ) (w : World) (here : ℕ) (who : Who) (job : StampValue) (moment : ℕ) (reply : Reply) → (step n w (Do here who (Command.Begin job moment))).outcome ≡ Outcome.Replied reply → IsBegun w n here who job moment
 begun n w here who job moment reply e =
     let r = go (nat_lt here n) (answer (w.site here).set here who (Command.Begin job moment)) refl e in
     record { stamp = r.0; beginning = r.1; reply = r.2; answered = r.3; added = r.4 }

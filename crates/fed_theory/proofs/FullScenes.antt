@@ -75,6 +75,8 @@ one_term = refl
 abbrev full_site : ℕ → View
 full_site n = record {
   version = n ∷ replicate 15 0;
+  retirements = replicate 16 0;
+  retired = λ id. false;
   job = λ id. if id.counter == 0 then job_view [] else (view submitted).job job;
   reservation = λ id. None;
 }
@@ -91,6 +93,8 @@ last_room = refl
 abbrev reserved_site : ℕ → View
 reserved_site n = record {
   version = n ∷ replicate 15 0;
+  retirements = replicate 16 0;
+  retired = λ id. false;
   job = λ id. job_view [];
   reservation = λ id. if id.counter == 0 then None else Some (id, None);
 }

@@ -16,7 +16,7 @@ use Rattle.fed_model.specs.Body.{Body, Body.OfJob, JobBody.Grant, JobBody.HandBa
 use Rattle.fed_model.specs.Grant.{term_of, grant_cmp, grant_in}
 use Rattle.fed_theory.proofs.FoundLaws.{grant_found, grant_greatest, grant_none}
 use Rattle.fed_lattice.specs.ExactLaws.{same_stamp_is, same_stamp_itself}
-use Rattle.fed_model.specs.View.{view}
+use Rattle.fed_model.specs.JobView.{job_view}
 use Rattle.fed_model.specs.Lawful.{IsHolder}
 use Rattle.fed_model.specs.Letter.{is_granted_to}
 
@@ -45,15 +45,15 @@ module _ (ops : History Body) (job : StampValue) where
   return_of s term h = filter-Has (is_of_job job) ops (s, OfJob job (HandBack term)) h (same_stamp_itself job)
 
   -- no grant has a greater term than the stage
-  pub grants_below : (g : GrantStage) → ((view ops).job job).stages.grant ≡ Some g → (s : StampValue) (site term : ℕ) → Has ops (s, OfJob job (Grant site term)) → term ≤ term_of g
+  pub grants_below : (g : GrantStage) → (job_view (of_job job ops)).stages.grant ≡ Some g → (s : StampValue) (site term : ℕ) → Has ops (s, OfJob job (Grant site term)) → term ≤ term_of g
   grants_below g is s site term h =
       upto_term (Open term s site) g (grant_greatest (of_job job ops) g is (s, OfJob job (Grant site term)) (Open term s site) (grant_of s site term h) refl)
 
-  pub no_grants : ((view ops).job job).stages.grant ≡ None → (s : StampValue) (site term : ℕ) → Has ops (s, OfJob job (Grant site term)) → ⊥
+  pub no_grants : (job_view (of_job job ops)).stages.grant ≡ None → (s : StampValue) (site term : ℕ) → Has ops (s, OfJob job (Grant site term)) → ⊥
   no_grants is s site term h = let n = grant_none (of_job job ops) is (s, OfJob job (Grant site term)) (grant_of s site term h) in cc
 
   -- the term of an open stage is not handed back
-  pub open_kept : (term : ℕ) (t : StampValue) (site : ℕ) → ((view ops).job job).stages.grant ≡ Some (Open term t site) → (s : StampValue) → Has ops (s, OfJob job (HandBack term)) → ⊥
+  pub open_kept : (term : ℕ) (t : StampValue) (site : ℕ) → (job_view (of_job job ops)).stages.grant ≡ Some (Open term t site) → (s : StampValue) → Has ops (s, OfJob job (HandBack term)) → ⊥
   open_kept term t site is s h =
       returned_above term s t site (grant_greatest (of_job job ops) (Open term t site) is (s, OfJob job (HandBack term)) (Returned term s) (return_of s term h) refl)
 
@@ -72,31 +72,31 @@ module _ (ops : History Body) (job : StampValue) where
       (λ i. (q i, OfJob (p i) (HandBack (r i))))
   returned_body (t, _) term s e of = cc
 
-  pub open_granted : (term : ℕ) (s : StampValue) (site : ℕ) → ((view ops).job job).stages.grant ≡ Some (Open term s site) → Has ops (s, OfJob job (Grant site term))
+  pub open_granted : (term : ℕ) (s : StampValue) (site : ℕ) → (job_view (of_job job ops)).stages.grant ≡ Some (Open term s site) → Has ops (s, OfJob job (Grant site term))
   open_granted term s site is =
       let f = grant_found (of_job job ops) (Open term s site) is in
       let m = Has-filter (is_of_job job) ops f.0 f.1 in
       subst (Has ops) (open_body f.0 term s site f.2 m.1) m.0
 
-  pub returned_made : (term : ℕ) (s : StampValue) → ((view ops).job job).stages.grant ≡ Some (Returned term s) → Has ops (s, OfJob job (HandBack term))
+  pub returned_made : (term : ℕ) (s : StampValue) → (job_view (of_job job ops)).stages.grant ≡ Some (Returned term s) → Has ops (s, OfJob job (HandBack term))
   returned_made term s is =
       let f = grant_found (of_job job ops) (Returned term s) is in
       let m = Has-filter (is_of_job job) ops f.0 f.1 in
       subst (Has ops) (returned_body f.0 term s f.2 m.1) m.0
 
   -- ---- a job that is granted to the site
-  opened : (site : ℕ) (o : Option GrantStage) → ((view ops).job job).stages.grant ≡ o → is_granted_to ((view ops).job job) site ≡ true → (term : ℕ) × (s : StampValue) × (((view ops).job job).stages.grant ≡ Some (Open term s site))
+  opened : (site : ℕ) (o : Option GrantStage) → (job_view (of_job job ops)).stages.grant ≡ o → is_granted_to (job_view (of_job job ops)) site ≡ true → (term : ℕ) × (s : StampValue) × ((job_view (of_job job ops)).stages.grant ≡ Some (Open term s site))
   opened site None is e = let r = rw is at e in cc
   opened site (Some (Open term s holder)) is e =
       let r : (holder == site) ≡ true = rw is at e in
       (term, s, is ∙ ap (λ h. Some (Open term s h)) (eqb-true holder site r))
   opened site (Some (Returned term s)) is e = let r = rw is at e in cc
 
-  pub granted_open : (site : ℕ) → is_granted_to ((view ops).job job) site ≡ true → (term : ℕ) × (s : StampValue) × (((view ops).job job).stages.grant ≡ Some (Open term s site))
-  granted_open site e = opened site ((view ops).job job).stages.grant refl e
+  pub granted_open : (site : ℕ) → is_granted_to (job_view (of_job job ops)) site ≡ true → (term : ℕ) × (s : StampValue) × ((job_view (of_job job ops)).stages.grant ≡ Some (Open term s site))
+  granted_open site e = opened site (job_view (of_job job ops)).stages.grant refl e
 
   -- it holds the grant
-  pub open_holder : (site term : ℕ) (s : StampValue) → ((view ops).job job).stages.grant ≡ Some (Open term s site) → IsHolder ops job site
+  pub open_holder : (site term : ℕ) (s : StampValue) → (job_view (of_job job ops)).stages.grant ≡ Some (Open term s site) → IsHolder ops job site
   open_holder site term s is = record {
     stamp = s;
     term = term;

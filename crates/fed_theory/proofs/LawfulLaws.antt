@@ -7,7 +7,7 @@ use Rattle.fed_lattice.proofs.FilterLaws.{Has-filter, filter-Has}
 use Rattle.fed_lattice.specs.VersionOf.{version_of}
 use Rattle.fed_lattice.proofs.VersionOfLaws.{version_of-covers}
 use Rattle.fed_model.specs.declared.holds.HoldKind.{HoldKind}
-use Rattle.fed_model.specs.Body.{Body, Body.Submit, Body.OfJob, Body.Reserve, Body.Cancel, JobBody, JobBody.Set, JobBody.Release, JobBody.Grant, JobBody.HandBack, JobBody.Finish, is_of_job, of_job}
+use Rattle.fed_model.specs.Body.{Body, Body.Submit, Body.OfJob, Body.Reserve, Body.Cancel, JobBody, JobBody.Set, JobBody.Release, JobBody.Grant, JobBody.HandBack, JobBody.Finish, is_of_job, of_job, Body.Retire}
 use Rattle.fed_model.specs.Pairs.{adds_site, removes_site, adds_hold, removes_hold}
 use Rattle.fed_theory.specs.JobHistory.{IsJobHistory}
 use Rattle.fed_lattice.specs.ExactLaws.{same_stamp_is}
@@ -39,6 +39,7 @@ module _ (ops more : History Body) (includes : Includes more ops) where
   grounded_more t (OfJob job what) g = (submitted_more t job g.0, rests_more t job what g.1)
   grounded_more t (Reserve window) g = tt
   grounded_more t (Cancel id) g = (g.0, (includes _ g.1.0, g.1.1))
+  grounded_more t (Retire first last) g = g
 
 -- kin sets agree beside their versions
 pub kin_agree : (ops others : History Body) → AreKin ops others → Agree (version_of ops) ops (version_of others) others

@@ -53,6 +53,7 @@ table_ascends v here who (Command.Begin job moment) = (omega arith, (omega arith
 table_ascends v here who (Command.Finish job moment status) = (omega arith, (omega arith, (omega arith, (omega arith, tt))))
 table_ascends v here who (Command.Reserve window) = (omega arith, (omega arith, (omega arith, tt)))
 table_ascends v here who (Command.Cancel id) = (omega arith, (omega arith, tt))
+table_ascends v here who (Command.Retire first last) = (omega arith, (omega arith, (omega arith, tt)))
 
 pub least_answered : (v : View) (here : ℕ) (who : Who) (command : Command) (refusal : Refusal) (c : Case) → answer_to v here who command ≡ Refuses refusal → Has (refusals v here who command) c → c.0 ≡ true → number_of refusal ≤ number_of c.1
 unfolding answer_to

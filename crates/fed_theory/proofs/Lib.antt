@@ -9,15 +9,19 @@ pub mod FieldTests
 pub mod VersionGrowth
 pub mod CoveredStamps
 pub mod LawfulLaws
+pub mod RetiredLaws
 pub mod ViewLaws
 pub mod KnownLaws
 pub mod SubmitLaws
+pub mod CutLaws
 pub mod GrowthLaws
 -- Answers.
 pub mod GrantReads
 pub mod NextStamps
 pub mod Allowed
 pub mod OriginCounts
+pub mod Prefixes
+pub mod Emptying
 pub mod Room
 pub mod Ranged
 pub mod LeastRefusals
@@ -27,6 +31,7 @@ pub mod Scenes
 pub mod CommandScenes
 pub mod GrantScenes
 pub mod PacketScenes
+pub mod RetireScenes
 pub mod Cuts
 pub mod Growth
 pub mod Runs
@@ -40,3 +45,4 @@ pub mod PacketLimits
 pub mod EqualVersions
 pub mod Convergence
 pub mod DoneCommands
+pub mod RetiredRuns

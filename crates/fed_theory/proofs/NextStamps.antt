@@ -1,8 +1,8 @@
 -- The stamp of the next operation at a site is above those of the operations there.
 use Rattle.std.specs.Prelude.{nat_lt, Ok, Err, cond}
 use Rattle.std.specs.Ordering.{ordering_then, nat_cmp, is_lt}
-use Rattle.std.proofs.Common.{◌≡◌, ℕ, ◌+◌, ◌≤◌, ◌<◌, List, Bool, true, false, Ordering, refl, sym, ap, arith, inl, inr}
-use Rattle.std.proofs.lemmas.Bool.{lt-ltb, ltb-true, cases_Bool}
+use Rattle.std.proofs.Common.{◌≡◌, ℕ, ◌+◌, ◌≤◌, ◌<◌, ◌==◌, List, Bool, true, false, Ordering, refl, sym, ap, arith, inl, inr}
+use Rattle.std.proofs.lemmas.Bool.{lt-ltb, ltb-true, le-ltb, ne_eqb, cases_lt, cases_Bool}
 use Rattle.fed_stamp.specs.declared.versions.ClockFull.{ClockFull}
 use Rattle.fed_stamp.specs.Stamp.{StampValue}
 use Rattle.fed_stamp.specs.Version.{covers, greatest, next_stamp}
@@ -52,3 +52,13 @@ module _ (ops : History Body) (sites : HasSites ops) (here : ℕ) (t : StampValu
 
   pub before_next : (e : StampValue × Body) → Has ops e → is_before e.0 t ≡ true
   before_next e h = less_first e.0.counter t.counter _ (counter_below e h)
+
+-- a stamp that is before another has no greater counter
+pub before_counter : (s t : StampValue) → is_before s t ≡ true → s.counter ≤ t.counter
+before_counter s t e = elim (cases_lt t.counter s.counter) [
+  | inr l ↦ l
+  | inl l ↦ absurd (
+      let p : nat_lt s.counter t.counter ≡ false = le-ltb s.counter t.counter (omega arith) in
+      let q : (s.counter == t.counter) ≡ false = ne_eqb s.counter t.counter (λ k. omega arith) in
+      let r = rw (p, q) at e in cc)
+]

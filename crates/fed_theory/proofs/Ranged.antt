@@ -1,5 +1,5 @@
 -- What an answer adds to a set of operations in range is in range.
-use Rattle.std.specs.Prelude.{if◌then◌else◌, is_some, IfSome, Result, Ok, Err}
+use Rattle.std.specs.Prelude.{if◌then◌else◌, not, is_some, IfSome, Result, Ok, Err}
 use Rattle.std.proofs.Common.{◌≡◌, ◌≤◌, ◌+◌, ◌==◌, ℕ, Bool, true, false, Option, Some, None, refl, sym, ap, subst, ◌∙◌, inl, inr, arith}
 use Rattle.std.proofs.lemmas.Bool.{and_parts, or_parts, not-false, leb-false, ltb-false, cases_eq, both_ways, eq-eqb}
 use Rattle.std.proofs.lemmas.Option.{same_Some}
@@ -17,10 +17,12 @@ use Rattle.fed_model.specs.declared.limits.TheConstants.{MAX_LIMIT}
 use Rattle.fed_model.specs.declared.refusals.Refusal.{Refusal}
 use Rattle.fed_model.specs.declared.replies.Reply.{Reply}
 use Rattle.fed_model.specs.declared.windows.Window.{Window}
-use Rattle.fed_model.specs.Body.{Body, Body.Submit, Body.OfJob, Body.Reserve, JobBody.Set, JobBody.Grant, JobBody.HandBack, JobBody.Begin, is_of_job, of_job}
+use Rattle.fed_model.specs.Body.{Body, Body.Submit, Body.OfJob, Body.Reserve, JobBody.Set, JobBody.Grant, JobBody.HandBack, JobBody.Begin, is_of_job, of_job, Body.Retire}
 use Rattle.fed_model.specs.Field.{limit_in, nodes_in, field}
-use Rattle.fed_model.specs.JobView.{JobView}
+use Rattle.fed_model.specs.JobView.{JobView, job_view}
 use Rattle.fed_model.specs.Letter.{is_submitted}
+use Rattle.fed_theory.proofs.NextStamps.{IsNext}
+use Rattle.fed_theory.proofs.SubmitLaws.{read_whole, unretired}
 use Rattle.fed_theory.proofs.FoundLaws.{some_found, field_found}
 use Rattle.fed_model.specs.View.{view}
 use Rattle.fed_model.specs.Lawful.{IsGrounded, IsLawful}
@@ -54,19 +56,19 @@ field_read ops job set_in IsOne ranged each e =
     subst IsOne (sym (ap value_in o.1)) (each f.0 o.0.1 (ranged (o.0.0, f.0) m.0) f.2)
 
 module _ (ops : History Body) (ranged : AreInRange ops) where
-  from_nodes : (job : StampValue) → is_submitted ((view ops).job job) ≡ true → (is_some ((view ops).job job).fields.nodes ≡ true) × (is_some ((view ops).job job).fields.limit ≡ true)
+  from_nodes : (job : StampValue) → is_submitted (job_view (of_job job ops)) ≡ true → (is_some (job_view (of_job job ops)).fields.nodes ≡ true) × (is_some (job_view (of_job job ops)).fields.limit ≡ true)
   from_nodes job e =
-      let j : JobView = (view ops).job job in
+      let j : JobView = job_view (of_job job ops) in
       let a = and_parts (is_some j.fields.owner) _ e in
       let b = and_parts (is_some j.fields.name) _ a.1 in
       let c = and_parts (is_some j.fields.priority) _ b.1 in
       let d = and_parts (is_some j.fields.nodes) _ c.1 in
       (d.0, (and_parts (is_some j.fields.limit) (is_some j.fields.account) d.1).0)
 
-  limit_read : (job : StampValue) → is_submitted ((view ops).job job) ≡ true → IsFrom 1 MAX_LIMIT (value_in ((view ops).job job).fields.limit)
+  limit_read : (job : StampValue) → is_submitted (job_view (of_job job ops)) ≡ true → IsFrom 1 MAX_LIMIT (value_in (job_view (of_job job ops)).fields.limit)
   limit_read job e = field_read ops job limit_in (IsFrom 1 MAX_LIMIT) ranged limit_ranged (from_nodes job e).1
 
-  nodes_read : (job : StampValue) → is_submitted ((view ops).job job) ≡ true → IsFrom 1 MAX_NODES (value_in ((view ops).job job).fields.nodes)
+  nodes_read : (job : StampValue) → is_submitted (job_view (of_job job ops)) ≡ true → IsFrom 1 MAX_NODES (value_in (job_view (of_job job ops)).fields.nodes)
   nodes_read job e = field_read ops job nodes_in (IsFrom 1 MAX_NODES) ranged nodes_ranged (from_nodes job e).0
 
 -- ---- windows that are not bad
@@ -93,7 +95,10 @@ unless_same : (b : Bool) (body new : Body) → (if b then None else Some body) �
 unless_same true body new e = cc
 unless_same false body new e = cc
 
-module _ (ops : History Body) (ranged : AreInRange ops) (here : ℕ) (who : Who) (s : StampValue) where
+module _ (ops : History Body) (ranged : AreInRange ops) (here : ℕ) (who : Who) (s : StampValue) (counted : s.counter ≤ 1_000_000_000) where
+  whole : (job : StampValue) → not (is_submitted ((view ops).job job)) ≡ false → (view ops).job job ≡ job_view (of_job job ops)
+  whole job e = read_whole ops job (unretired ops job (not-false _ e))
+
   granted_term : (job : StampValue) (term : ℕ) → IsGrounded ops s (OfJob job (HandBack term)) → IsFrom 1 1_000_000_000 term
   granted_term job term g = (ranged (g.1.0, OfJob job (Grant s.site term)) g.1.1.0).1
 
@@ -117,19 +122,30 @@ module _ (ops : History Body) (ranged : AreInRange ops) (here : ℕ) (who : Who)
   effect_ranged (Command.HandBack job) new t r a e = returned_ranged job new a e
   effect_ranged (Command.Decline job) new t r a e = returned_ranged job new a e
   effect_ranged (Command.Begin job moment) new t r a e =
-      let there = not-false _ r.0 in
+      let there = subst (λ j. is_submitted j ≡ true) (whole job r.0) (not-false _ r.0) in
+      let f = subst (λ j. effect (record (view ops) { job = λ id. j }) who (Command.Begin job moment) ≡ Some new) (whole job r.0) e in
       let limit = limit_read ops ranged job there in
       let nodes = nodes_read ops ranged job there in
-      subst IsInRange (same_Some (OfJob job (Begin (beginning ((view ops).job job) moment))) new e) (t, nodes, (omega arith, omega arith), omega arith)
+      subst IsInRange (same_Some (OfJob job (Begin (beginning (job_view (of_job job ops)) moment))) new f) (t, nodes, (omega arith, omega arith), omega arith)
   effect_ranged (Command.Finish job moment status) new t r a e = subst IsInRange (same_Some _ new e) t
   effect_ranged (Command.Reserve window) new t r a e = subst IsInRange (same_Some (Reserve window) new e) (window_ranged window t r.1.0)
   effect_ranged (Command.Cancel reservation) new t r a e = subst IsInRange (same_Some _ new e) tt
+  effect_ranged (Command.Retire first last) new t r a e =
+      let same : Retire first last ≡ new = same_Some (Retire first last) new e in
+      let g : IsGrounded ops s (Retire first last) = subst (IsGrounded ops s) (sym same) a.grounded in
+      let one = g.0 in
+      let some = g.1 in
+      let below = g.2 in
+      subst IsInRange same ((omega arith, omega arith), (omega arith, omega arith))
 
 pub answer_ranged : (ops : History Body) → IsLawful ops → AreInRange ops → (here : ℕ) (who : Who) (command : Command) → IsRanged who command → (said : Reply) (new : StampValue × Body) → answer ops here who command ≡ Replies said (Some new) → IsInRange new.1
 unfolding answer_to
 answer_ranged ops l ranged here who command t said new e =
     go (first_of (refusals (view ops) here who command)) refl (next_stamp (version_of ops) here) (effect (view ops) who command) refl e
   where
+    next : IsNext (version_of ops) here new.0
+    next = (answer_allowed ops l here who command said new e).0
+
     allowed : IsAllowed ops new.0 new.1
     allowed = (answer_allowed ops l here who command said new e).1
 
@@ -139,4 +155,4 @@ answer_ranged ops l ranged here who command t said new e =
     go None is (Err full) (Some b) it f = cc
     go None is (Ok u) (Some b) it f =
         let p : b ≡ new.1 = cc in
-        effect_ranged ops ranged here who new.0 command new.1 t (clear _ is) allowed (it ∙ ap (λ x. Some x) p)
+        effect_ranged ops ranged here who new.0 next.counted command new.1 t (clear _ is) allowed (it ∙ ap (λ x. Some x) p)

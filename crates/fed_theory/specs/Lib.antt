@@ -4,6 +4,7 @@ pub mod JobHistory
 pub mod ValueOrders
 pub mod JobSteps
 pub mod ViewSteps
+pub mod Cut
 pub mod MayFollow
 -- Lemmas that impls and contracts cite.
 pub mod ValueOrderLaws

@@ -1,15 +1,19 @@
 //! Laws of whole runs, over every list of events in a federation of n sites, of which there are at most 16. Each
 //! function does nothing: its contract is the law.
-ghost use Rattle.std.specs.Prelude.{◌≡◌, ◌≢◌, ◌<◌, ◌≤◌, ℕ, [], ◌∷◌, ◌++◌, List, Some};
+ghost use Rattle.std.specs.Prelude.{◌≡◌, ◌≢◌, ◌<◌, ◌≤◌, ℕ, true, [], ◌∷◌, ◌++◌, List, Some, IsTrue};
 ghost use Rattle.fed_stamp.specs.declared.sites.TheConstants.{SITES};
 ghost use Rattle.fed_stamp.specs.Stamp.{StampValue};
 ghost use Rattle.fed_lattice.specs.Sets.{Has, Includes, IsSameSet};
 ghost use Rattle.fed_model.specs.declared.askers.Who.{Who};
 ghost use Rattle.fed_model.specs.declared.commands.Command.{Command};
 ghost use Rattle.fed_model.specs.declared.beginnings.Beginning.{Beginning};
+ghost use Rattle.fed_model.specs.declared.beginnings.Ending.{Ending};
+ghost use Rattle.fed_model.specs.declared.windows.Window.{Window};
 ghost use Rattle.fed_model.specs.declared.replies.Reply.{Reply};
-ghost use Rattle.fed_model.specs.Body.{Body, Body.OfJob, JobBody.Grant, JobBody.Begin};
+ghost use Rattle.fed_model.specs.Body.{Body, Body.OfJob, JobBody.Grant, JobBody.Begin, JobBody.Finish, Body.Reserve, Body.Cancel};
 ghost use Rattle.fed_model.specs.Lawful.{IsHolder, IsLawful, AreKin};
+ghost use Rattle.fed_model.specs.Retired.{is_within};
+ghost use Rattle.fed_model.specs.View.{view};
 ghost use Rattle.fed_model.specs.Limits.{IsWithinLimits};
 ghost use Rattle.fed_model.specs.declared.taken.Taken.{Taken};
 ghost use Rattle.fed_model.specs.Answer.{Answer.Replies, answer};
@@ -106,9 +110,61 @@ pub fn begins_are_done_once()
         (Do other asker (Command.Begin job later))).outcome ≢ Outcome.Replied again }
 {}
 
+/// Once a Retire was done, no Begin and no Grant of a job that it retires is done any more, at whatever site, and
+/// whether or not that site has heard of the Retire: it is a Retire of the job's origin whose range has the job's counter.
+pub fn retired_jobs_never_begin()
+    ensures begins { (n : ℕ) (early between : List Event) (site other : ℕ) (who asker : Who) (first last moment : ℕ)
+        (job : StampValue) (reply again : Reply) → n ≤ SITES → job.site ≡ site → is_within first last job.counter ≡ true →
+        (step n (run n early) (Do site who (Command.Retire first last))).outcome ≡ Outcome.Replied reply →
+        (step n (run n (early ++ Do site who (Command.Retire first last) ∷ between))
+        (Do other asker (Command.Begin job moment))).outcome ≢ Outcome.Replied again }
+    ensures grants { (n : ℕ) (early between : List Event) (site other : ℕ) (who asker : Who) (first last to : ℕ)
+        (job : StampValue) (reply again : Reply) → job.site ≡ site → is_within first last job.counter ≡ true →
+        (step n (run n early) (Do site who (Command.Retire first last))).outcome ≡ Outcome.Replied reply →
+        (step n (run n (early ++ Do site who (Command.Retire first last) ∷ between))
+        (Do other asker (Command.Grant job to))).outcome ≢ Outcome.Replied again }
+{}
+
+/// No job is retired that runs: where any site knows a job to be retired, and it has begun, the site that began it has
+/// its Finish.
+pub fn retired_jobs_do_not_run()
+    ensures { (n : ℕ) (events : List Event) → n ≤ SITES → (site other : ℕ) (job s : StampValue) (a : Beginning) →
+        IsTrue ((view ((run n events).site site).set).retired job) →
+        Has ((run n events).site other).set (s, OfJob job (Begin a)) →
+        (t : StampValue) × (b : Ending) × Has ((run n events).site s.site).set (t, OfJob job (Finish b)) }
+{}
+
+/// No reservation is retired that stands: where any site knows a reservation to be retired, some site has cancelled it.
+pub fn retired_reservations_are_cancelled()
+    ensures { (n : ℕ) (events : List Event) → n ≤ SITES → (site other : ℕ) (id : StampValue) (window : Window) →
+        IsTrue ((view ((run n events).site site).set).retired id) →
+        Has ((run n events).site other).set (id, Reserve window) →
+        (s : StampValue) × Has ((run n events).site s.site).set (s, Cancel id) }
+{}
+
+/// A job that is retired is retired ever after, at its origin and at each site that takes a packet which the origin
+/// shipped after it: no late, repeated or lost packet brings it back.
+pub fn retired_jobs_stay_retired()
+    ensures origin { (n : ℕ) (early between : List Event) (site : ℕ) (who : Who) (first last : ℕ)
+        (job : StampValue) (reply : Reply) → job.site ≡ site → is_within first last job.counter ≡ true →
+        (step n (run n early) (Do site who (Command.Retire first last))).outcome ≡ Outcome.Replied reply →
+        IsTrue ((view ((run n (early ++ Do site who (Command.Retire first last) ∷ between)).site site).set).retired job) }
+    ensures told { (n : ℕ) (early between late : List Event) (site to taker k : ℕ) (who : Who) (first last : ℕ)
+        (job : StampValue) (reply : Reply) (taken : Taken) → job.site ≡ site → is_within first last job.counter ≡ true →
+        (step n (run n early) (Do site who (Command.Retire first last))).outcome ≡ Outcome.Replied reply →
+        let sent = early ++ Do site who (Command.Retire first last) ∷ between in
+        (step n (run n sent) (Ship site to)).outcome ≡ Outcome.Packet k →
+        (step n (run n (sent ++ Ship site to ∷ late)) (Take taker k)).outcome ≡ Outcome.Taken taken →
+        IsTrue ((view ((step n (run n (sent ++ Ship site to ∷ late)) (Take taker k)).after.site taker).set).retired job) }
+    ensures ever { (n : ℕ) (early late : List Event) (site : ℕ) (job : StampValue) →
+        IsTrue ((view ((run n early).site site).set).retired job) →
+        IsTrue ((view ((run n (early ++ late)).site site).set).retired job) }
+{}
+
 /// Where the values of all events are in range, as the types of their parts keep them, the operations that each site
 /// holds are within limits, and so is what each packet gives: values, terms and windows are in range, a job that begins
-/// ends later, and of no site there are more than 10,000 jobs and 1,000 reservations.
+/// ends later, and of no site there are more than 10,000 jobs that are not retired, 1,000 ranges that are, and 1,000
+/// reservations: whatever each site has heard of the Retires of others.
 pub fn sets_stay_within_limits()
     ensures sites { (n : ℕ) (events : List Event) → n ≤ SITES → AreRanged events → (site : ℕ) →
         IsWithinLimits ((run n events).site site).set }
