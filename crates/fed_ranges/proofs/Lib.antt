@@ -1,0 +1,4 @@
+pub mod DropLaws
+pub mod RangeCounts
+pub mod RangeEnds
+pub mod RangePlaces
