@@ -2,7 +2,7 @@
 use Rattle.std.specs.BTreeMap.{is_at}
 use Rattle.std.specs.Map.{keys_of, values_of, lookup}
 use Rattle.std.specs.List.Sorted.{IsStrictlySortedBy}
-use Rattle.std.proofs.Common.{◌≡◌, ◌⊎◌, ℕ, ◌<◌, List, All, true, ◌||◌, Option, Some, None, is_some, IsSome, IfSome, unwrap_or, refl, sym, ap, subst, ◌∙◌, inl, inr}
+use Rattle.std.proofs.Common.{◌≡◌, ◌⊎◌, ℕ, ◌<◌, ◌≤◌, List, false, All, true, ◌||◌, Option, Some, None, is_some, IsSome, IfSome, unwrap_or, refl, sym, ap, subst, ◌∙◌, inl, inr}
 use Rattle.std.proofs.lemmas.Option.{IfSome_then}
 use Rattle.fed_stamp.specs.Stamp.{StampValue}
 use Rattle.fed_stamp.specs.Version.{covers, joined, raised, is_below}
@@ -16,7 +16,7 @@ use Rattle.fed_lattice.specs.Table.{IsAtEach}
 use Rattle.fed_lattice.proofs.TableValues.{each_insert_entry, each_joined_tables, values_each}
 use Rattle.fed_record.specs.declared.operations.Operation.{Operation}
 use Rattle.fed_model.specs.declared.windows.Window.{Window}
-use Rattle.fed_model.specs.Body.{Body, Body.Submit, Body.OfJob, Body.Reserve, Body.Cancel, job_of, reservation_of}
+use Rattle.fed_model.specs.Body.{Body, Body.Submit, Body.OfJob, Body.Reserve, Body.Cancel, Body.Retire, job_of, reservation_of}
 use Rattle.fed_model.specs.Field.{window_in}
 use Rattle.fed_record.specs.JobRecord.{JobRecordValue, job_reads}
 use Rattle.fed_theory.specs.JobSteps.{add_to_job, join_jobs}
@@ -25,7 +25,12 @@ use Rattle.fed_model.specs.Letter.{is_submitted}
 use Rattle.fed_record.specs.Operation.{body_of}
 use Rattle.fed_model.specs.Reservation.{ReservationView}
 use Rattle.fed_theory.specs.ValueOrders.{option_window_cmp}
-use Rattle.fed_board.specs.Board.{BoardValue, IsBoard, IsKnownJob, IsKnownReservation, HasJob, HasNamed, no_operation, merged, changed_job, changed_reservation}
+use Rattle.fed_ranges.specs.declared.ranges.Range.{Range}
+use Rattle.fed_ranges.specs.Retired.{RetiredValue, has_retired}
+use Rattle.fed_board.specs.Board.{BoardValue, IsBoard, IsKnownJob, IsKnownReservation, AreKept, HasJob, HasNamed, no_operation, merged, joined_retired}
+use Rattle.fed_board.proofs.ChangedBoards.{changed_job, changed_reservation, changed_ranges, with_more_retired}
+use Rattle.fed_board.proofs.DroppedTables.{each_dropped, kept_dropped}
+use Rattle.fed_board.proofs.RetiredTables.{fresh_kept, known_added, known_tables, later_retirements}
 use Rattle.fed_record.specs.CoveredJob.{covers_register, IsCoveredJob}
 use Rattle.fed_board.proofs.CoveredJobs.{covered_added, covered_joined, covered_nothing, later_covered, own_register, register_covered}
 use Rattle.fed_board.proofs.SubmittedJobs.{set_left, set_right, submitted_added, submitted_by, submitted_left, submitted_right}
@@ -55,11 +60,33 @@ IsSubmitting at job b = (job ≡ at) × ((s : StampValue) (j : JobView) → is_s
 on_board : (b : BoardValue) (job other : StampValue) → Some other ≡ Some job → HasJob b other → HasJob b job
 on_board b job other e = subst (HasJob b) (from_some other job e)
 
-named_job : (b : BoardValue) (at job : StampValue) (body : Body) → job_of at body ≡ Some job → HasNamed b body → HasJob b job ⊎ IsSubmitting at job body
+named_job : (b : BoardValue) (at job : StampValue) (body : Body) → job_of at body ≡ Some job → HasNamed b at body → HasJob b job ⊎ IsSubmitting at job body
 named_job b at job (Submit owner values held) of n = inr (sym (from_some at job of), λ s j. submitted_by s owner values held j)
 named_job b at job (OfJob other what) of n = inl (on_board b job other of n)
 named_job b at job (Reserve window) of n = cc
 named_job b at job (Cancel id) of n = cc
+named_job b at job (Retire first last) of n = cc
+
+-- it is not retired: it is on the board, or of a stamp that is not covered
+kept_where : {X : Type 0} (r : RetiredValue) (es : List (StampValue × X)) (id : StampValue) → AreKept r es → IsSome (lookup (is_at (stamp_cmp id)) es) → has_retired r id ≡ false
+kept_where {X} r es id k i = go (lookup (is_at (stamp_cmp id)) es) (k id) i
+  where
+    go : (a : Option X) → IfSome a (λ x. has_retired r id ≡ false) → IsSome a → has_retired r id ≡ false
+    go None p j = cc
+    go (Some x) p j = p
+
+kept_job : (b : BoardValue) (at job : StampValue) (body : Body) → IsBoard b → covers b.version at ≡ false → job_of at body ≡ Some job → HasNamed b at body → has_retired b.retired job ≡ false
+kept_job b at job body i fresh of n = elim (named_job b at job body of n) [
+  | inl here ↦ kept_where b.retired b.jobs job i.kept_jobs here
+  | inr new ↦ subst (λ id. has_retired b.retired id ≡ false) (sym new.0) (fresh_kept b.version b.retired i.retired at fresh)
+]
+
+kept_reservation : (b : BoardValue) (at id : StampValue) (body : Body) → IsBoard b → covers b.version at ≡ false → reservation_of at body ≡ Some id → HasNamed b at body → has_retired b.retired id ≡ false
+kept_reservation b at id (Submit owner values held) i fresh of n = cc
+kept_reservation b at id (OfJob job what) i fresh of n = cc
+kept_reservation b at id (Reserve window) i fresh of n = subst (λ k. has_retired b.retired k ≡ false) (from_some at id of) (fresh_kept b.version b.retired i.retired at fresh)
+kept_reservation b at id (Cancel other) i fresh of n = subst (λ k. has_retired b.retired k ≡ false) (from_some other id of) (kept_where b.retired b.reservations other i.kept_reservations n)
+kept_reservation b at id (Retire first last) i fresh of n = cc
 
 later_job : (v : List ℕ) (at job : StampValue) (r : JobRecordValue) → IsKnownJob v job r → IsKnownJob (raised v at) job r
 later_job v at job r k = record {
@@ -98,7 +125,7 @@ module _ (applied : JobRecordValue → StampValue → Operation → JobRecordVal
   unfolding add_to_job
   applied_touched r s c = ap (λ (j : JobView). j.touched) (law r s c)
 
-  changed_known : (b : BoardValue) (at job : StampValue) (op : Operation) → IsBoard b → at.site < 16 → covers (raised b.version at) at ≡ true → job_of at (body_of op) ≡ Some job → HasNamed b (body_of op)
+  changed_known : (b : BoardValue) (at job : StampValue) (op : Operation) → IsBoard b → at.site < 16 → covers (raised b.version at) at ≡ true → job_of at (body_of op) ≡ Some job → HasNamed b at (body_of op)
       → IsKnownJob (raised b.version at) job (applied (unwrap_or (lookup (is_at (stamp_cmp job)) b.jobs) no_operation) at op)
   changed_known b at job op i small seen of n =
       let v = b.version in
@@ -123,8 +150,11 @@ module _ (applied : JobRecordValue → StampValue → Operation → JobRecordVal
         }
       ]
 
-  pub changed_job_keeps : (b : BoardValue) (at job : StampValue) (op : Operation) → IsBoard b → at.site < 16 → covers (raised b.version at) at ≡ true → job_of at (body_of op) ≡ Some job → HasNamed b (body_of op) → IsBoard (changed_job applied b at op job)
-  changed_job_keeps b at job op i small seen of n = record {
+  pub changed_job_keeps : (b : BoardValue) (at job : StampValue) (op : Operation) → IsBoard b → at.site < 16 → covers b.version at ≡ false → covers (raised b.version at) at ≡ true → job_of at (body_of op) ≡ Some job → HasNamed b at (body_of op) → IsBoard (changed_job applied b at op job)
+  changed_job_keeps b at job op i small fresh seen of n = record {
+    retired = λ k. IfSome_then _ (i.retired k) (λ x. later_retirements b.version (raised b.version at) k x (below_raised b.version at));
+    kept_jobs = each_insert_entry stamp_cmp stamp_total exact_stamp (λ id (x : JobRecordValue). has_retired b.retired id ≡ false) b.jobs job _ i.kept_jobs (kept_job b at job (body_of op) i fresh of n);
+    kept_reservations = i.kept_reservations;
     jobs = each_insert_entry stamp_cmp stamp_total exact_stamp (IsKnownJob (raised b.version at)) b.jobs job _ (λ k. IfSome_then _ (i.jobs k) (λ r. later_job b.version at k r)) (changed_known b at job op i small seen of n);
     reservations = λ k. IfSome_then _ (i.reservations k) (λ r. later_reservation b.version at k r);
   }
@@ -140,9 +170,10 @@ module _ (b : BoardValue) (at id : StampValue) (op : Operation) (i : IsBoard b) 
   stamp_now : (window : Option (Option Window)) → covers_register (raised b.version at) (joined_registers option_window_cmp (unwrap_or now None) (with_stamp at window)) ≡ true
   stamp_now window = register_covered (raised b.version at) option_window_cmp (unwrap_or now None) (with_stamp at window) before (own_register at (raised b.version at) seen window)
 
-  changed_known_reservation : (body : Body) → reservation_of at body ≡ Some id → HasNamed b body → IsKnownReservation (raised b.version at) id (joined_registers option_window_cmp (unwrap_or now None) (with_stamp at (window_in body)))
+  changed_known_reservation : (body : Body) → reservation_of at body ≡ Some id → HasNamed b at body → IsKnownReservation (raised b.version at) id (joined_registers option_window_cmp (unwrap_or now None) (with_stamp at (window_in body)))
   changed_known_reservation (Submit owner values held) of n = cc
   changed_known_reservation (OfJob job what) of n = cc
+  changed_known_reservation (Retire first last) of n = cc
   changed_known_reservation (Reserve window) of n = record {
     placed = subst (λ (s : StampValue). s.site < 16) (from_some at id of) small;
     named = subst (λ s. covers (raised b.version at) s ≡ true) (from_some at id of) seen;
@@ -158,10 +189,24 @@ module _ (b : BoardValue) (at id : StampValue) (op : Operation) (i : IsBoard b) 
         stamp = stamp_now (Some None);
       }
 
-  pub changed_reservation_keeps : reservation_of at (body_of op) ≡ Some id → HasNamed b (body_of op) → IsBoard (changed_reservation b at op id)
-  changed_reservation_keeps of n = record {
+  pub changed_reservation_keeps : covers b.version at ≡ false → reservation_of at (body_of op) ≡ Some id → HasNamed b at (body_of op) → IsBoard (changed_reservation b at op id)
+  changed_reservation_keeps fresh of n = record {
+    retired = λ k. IfSome_then _ (i.retired k) (λ x. later_retirements b.version (raised b.version at) k x (below_raised b.version at));
+    kept_jobs = i.kept_jobs;
+    kept_reservations = each_insert_entry stamp_cmp stamp_total exact_stamp (λ k (x : ReservationView). has_retired b.retired k ≡ false) b.reservations id _ i.kept_reservations (kept_reservation b at id (body_of op) i fresh of n);
     jobs = λ k. IfSome_then _ (i.jobs k) (λ r. later_job b.version at k r);
     reservations = each_insert_entry stamp_cmp stamp_total exact_stamp (IsKnownReservation (raised b.version at)) b.reservations id _ (λ k. IfSome_then _ (i.reservations k) (λ r. later_reservation b.version at k r)) (changed_known_reservation (body_of op) of n);
+  }
+
+-- a range that is retired
+module _ (b : BoardValue) (at : StampValue) (range : Range) (i : IsBoard b) (small : at.site < 16) (seen : covers (raised b.version at) at ≡ true) where
+  pub changed_ranges_keeps : 1 ≤ range.first → range.first ≤ range.last → range.last < at.counter → IsBoard (changed_ranges b at range)
+  changed_ranges_keeps low some given = record {
+    retired = known_added b.version at range small seen low some given b.retired i.retired;
+    jobs = each_dropped (IsKnownJob (raised b.version at)) (has_retired (with_more_retired b at range)) b.jobs (λ k. IfSome_then _ (i.jobs k) (λ r. later_job b.version at k r));
+    reservations = each_dropped (IsKnownReservation (raised b.version at)) (has_retired (with_more_retired b at range)) b.reservations (λ k. IfSome_then _ (i.reservations k) (λ r. later_reservation b.version at k r));
+    kept_jobs = kept_dropped (with_more_retired b at range) b.jobs;
+    kept_reservations = kept_dropped (with_more_retired b at range) b.reservations;
   }
 
 -- ---- two boards merged
@@ -223,12 +268,19 @@ module _ (join : JobRecordValue → List ℕ → JobRecordValue → List ℕ →
         }
 
   pub merged_keeps : (b c : BoardValue) → IsBoard b → IsBoard c → IsBoard (merged join b c)
-  merged_keeps b c i k = record {
-    jobs = each_joined_tables stamp_cmp stamp_total exact_stamp no_operation join (IsKnownJob (joined b.version c.version)) b.jobs c.jobs b.version c.version
-        (λ id. joined_known b.version c.version id (lookup (is_at (stamp_cmp id)) b.jobs) (lookup (is_at (stamp_cmp id)) c.jobs) (i.jobs id) (k.jobs id));
-    reservations = each_joined_tables stamp_cmp stamp_total exact_stamp None (λ x v y w. joined_registers option_window_cmp x y) (IsKnownReservation (joined b.version c.version)) b.reservations c.reservations b.version c.version
-        (λ id. joined_known_reservation b.version c.version id (lookup (is_at (stamp_cmp id)) b.reservations) (lookup (is_at (stamp_cmp id)) c.reservations) (i.reservations id) (k.reservations id));
-  }
+  merged_keeps b c i k =
+      let version : List ℕ = joined b.version c.version in
+      let tables = each_joined_tables stamp_cmp stamp_total exact_stamp no_operation join (IsKnownJob version) b.jobs c.jobs b.version c.version
+      (λ id. joined_known b.version c.version id (lookup (is_at (stamp_cmp id)) b.jobs) (lookup (is_at (stamp_cmp id)) c.jobs) (i.jobs id) (k.jobs id)) in
+      let windows = each_joined_tables stamp_cmp stamp_total exact_stamp None (λ x v y w. joined_registers option_window_cmp x y) (IsKnownReservation version) b.reservations c.reservations b.version c.version
+      (λ id. joined_known_reservation b.version c.version id (lookup (is_at (stamp_cmp id)) b.reservations) (lookup (is_at (stamp_cmp id)) c.reservations) (i.reservations id) (k.reservations id)) in
+      record {
+        retired = known_tables b.version c.version b.retired c.retired i.retired k.retired;
+        jobs = each_dropped (IsKnownJob version) (has_retired (joined_retired b c)) _ tables;
+        reservations = each_dropped (IsKnownReservation version) (has_retired (joined_retired b c)) _ windows;
+        kept_jobs = kept_dropped (joined_retired b c) _;
+        kept_reservations = kept_dropped (joined_retired b c) _;
+      }
 
 -- ---- every job on a board is submitted, and every reservation is made
 pub submitted_values : (v : List ℕ) (es : List (StampValue × JobRecordValue)) → IsStrictlySortedBy stamp_cmp (keys_of es) → IsAtEach stamp_cmp (IsKnownJob v) es → All (λ r. is_submitted (job_reads r) ≡ true) (values_of es)

@@ -2,6 +2,12 @@
 pub mod Scenes
 pub mod KinScene
 pub mod GrantScene
+pub mod RangeSteps
+pub mod RetiredTables
+pub mod DroppedTables
+pub mod RetiringLoops
+pub mod Retirings
+pub mod MergedParts
 pub mod SubmittedJobs
 pub mod CoveredJobs
 pub mod BoardReads
@@ -15,3 +21,5 @@ pub mod RecordJoins
 pub mod ChangeLists
 pub mod FilterLoops
 pub mod ListedJobs
+pub mod FoundEntries
+pub mod ChangedBoards

@@ -1,7 +1,7 @@
 -- That the latest changes of all jobs stay listed, or need not be.
 use Rattle.std.specs.BTreeMap.{is_at}
 use Rattle.std.specs.Map.{lookup}
-use Rattle.std.proofs.Common.{◌≡◌, ℕ, ◌<◌, ◌≤◌, max, List, length, true, Option, Some, None, is_some, IfSome, unwrap_or, slice_index, sym, subst, inl, inr, arith}
+use Rattle.std.proofs.Common.{◌≡◌, ℕ, ◌<◌, ◌≤◌, max, List, length, Bool, true, Option, Some, None, is_some, IfSome, unwrap_or, slice_index, sym, subst, inl, inr, arith}
 use Rattle.std.proofs.lemmas.Bool.{cases_lt}
 use Rattle.std.proofs.lemmas.Option.{IfSome_then}
 use Rattle.fed_stamp.specs.Stamp.{StampValue}
@@ -17,7 +17,9 @@ use Rattle.fed_lattice.proofs.TableValues.{each_insert_entry}
 use Rattle.fed_lattice.proofs.VersionOfLaws.{counter_of_zeros, raised_cases}
 use Rattle.fed_record.specs.declared.operations.Operation.{Operation}
 use Rattle.fed_record.specs.JobRecord.{JobRecordValue}
+use Rattle.fed_ranges.specs.Dropped.{dropped}
 use Rattle.fed_board.specs.Board.{BoardValue, IsBoard, IsKnownJob, no_operation}
+use Rattle.fed_board.proofs.DroppedTables.{each_dropped}
 use Rattle.fed_board.specs.Changes.{SiteValue, IsListed, AreListed, IsRisen, AreRisen, Keeps, site_at}
 
 -- what need not be listed by the floor
@@ -40,6 +42,10 @@ below_floor cs v id r after k s small =
 
 pub listed_after : (cs : List SiteValue) (b : BoardValue) → IsBoard b → ((s : ℕ) → s < 16 → slice_index b.version s ≤ (site_at cs s).floor) → AreListed cs b.jobs
 listed_after cs b i after id = IfSome_then _ (i.jobs id) (λ r. below_floor cs b.version id r after)
+
+-- where jobs are dropped
+pub dropped_listed : (cs : List SiteValue) (gone : StampValue → Bool) (jobs : List (StampValue × JobRecordValue)) → AreListed cs jobs → AreListed cs (dropped gone jobs)
+dropped_listed cs gone jobs listed = each_dropped (λ id (r : JobRecordValue). (s : ℕ) → s < 16 → IsListed (site_at cs s) id (slice_index r.touched s)) gone jobs listed
 
 -- each job has a counter for each site
 pub counted : (b : BoardValue) → IsBoard b → IsAtEach stamp_cmp (λ job (r : JobRecordValue). length r.touched ≡ 16) b.jobs

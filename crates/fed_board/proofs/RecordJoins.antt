@@ -1,7 +1,8 @@
 -- What a board reads as with the records of another, and that what holds of every board is kept.
 use Rattle.std.specs.BTreeMap.{is_at}
 use Rattle.std.specs.Map.{lookup}
-use Rattle.std.proofs.Common.{◌≡◌, ℕ, List, Bool, true, false, cond, Option, Some, None, is_some, unwrap_or, refl, sym, ap, ap₂, ◌∙◌}
+use Rattle.std.specs.Prelude.{if◌then◌else◌}
+use Rattle.std.proofs.Common.{◌≡◌, ℕ, List, Bool, true, false, ◌||◌, cond, Option, Some, None, is_some, unwrap_or, refl, sym, ap, ap₂, ◌∙◌}
 use Rattle.std.proofs.lemmas.Bool.{or_right}
 use Rattle.std.proofs.lemmas.Option.{IfSome_then}
 use Rattle.fed_stamp.specs.Stamp.{StampValue}
@@ -11,6 +12,7 @@ use Rattle.fed_lattice.specs.ExactLaws.{exact_stamp}
 use Rattle.fed_lattice.specs.Latest.{stamp_cmp}
 use Rattle.fed_lattice.specs.LatestLaws.{stamp_total}
 use Rattle.fed_lattice.specs.Register.{joined_registers}
+use Rattle.fed_lattice.specs.JoinedEntries.{joined_entries}
 use Rattle.fed_lattice.specs.Table.{value_at}
 use Rattle.fed_lattice.proofs.EntryValues.{value_at-joined_entries, each_joined_entries}
 use Rattle.fed_record.specs.JobRecord.{JobRecordValue, job_reads}
@@ -19,10 +21,16 @@ use Rattle.fed_model.specs.JobView.{JobView}
 use Rattle.fed_model.specs.Letter.{is_submitted}
 use Rattle.fed_model.specs.Reservation.{ReservationView}
 use Rattle.fed_theory.specs.ValueOrders.{option_window_cmp}
-use Rattle.fed_board.specs.Board.{BoardValue, IsBoard, IsKnownJob, IsKnownReservation, no_operation, board_reads, with_records}
+use Rattle.fed_model.specs.JobView.{unknown}
+use Rattle.fed_ranges.specs.Dropped.{dropped}
+use Rattle.fed_ranges.specs.Retired.{RetiredValue, has_retired}
+use Rattle.fed_board.specs.Board.{BoardValue, IsBoard, IsKnownJob, IsKnownReservation, no_operation, board_reads, with_records, more_retired}
 use Rattle.fed_theory.specs.ViewSteps.{join_records}
 use Rattle.fed_board.proofs.BoardKeeps.{joined_known, joined_known_reservation}
+use Rattle.fed_board.proofs.BoardReads.{read_dropped}
 use Rattle.fed_board.proofs.CoveredJobs.{later_covered}
+use Rattle.fed_board.proofs.DroppedTables.{each_dropped, kept_dropped, value_dropped}
+use Rattle.fed_board.proofs.RetiredTables.{all_apart, at_entries, has_joined, known_entries, latest_joined}
 use Rattle.fed_board.proofs.ListedIdentifiers.{submitted_found}
 
 -- ---- beside a greater version
@@ -56,14 +64,26 @@ module _ (join : JobRecordValue → List ℕ → JobRecordValue → List ℕ →
   abbrev version : List ℕ
   version = joined b.version c.version
 
+  abbrev retired : RetiredValue
+  retired = more_retired b c
+
+  abbrev jobs : List (StampValue × JobRecordValue)
+  jobs = joined_entries stamp_cmp no_operation join b.jobs b.version c.jobs c.version
+
+  abbrev windows : List (StampValue × ReservationView)
+  windows = joined_entries stamp_cmp None (λ x v y w. joined_registers option_window_cmp x y) b.reservations b.version c.reservations c.version
+
   pub with_records_keeps : IsBoard b → IsBoard c → IsBoard (with_records join b c)
   with_records_keeps i k = record {
-    jobs = each_joined_entries stamp_cmp stamp_total exact_stamp no_operation join b.jobs c.jobs b.version c.version (IsKnownJob version)
+    retired = known_entries b.version c.version b.retired c.retired i.retired k.retired;
+    jobs = each_dropped (IsKnownJob version) (has_retired retired) jobs (each_joined_entries stamp_cmp stamp_total exact_stamp no_operation join b.jobs c.jobs b.version c.version (IsKnownJob version)
         (λ id e. joined_known join law b.version c.version id (lookup (is_at (stamp_cmp id)) b.jobs) (lookup (is_at (stamp_cmp id)) c.jobs) (i.jobs id) (k.jobs id) (or_right _ _ e))
-        (λ id. IfSome_then _ (i.jobs id) (λ r. kept_job b.version c.version id r));
-    reservations = each_joined_entries stamp_cmp stamp_total exact_stamp None (λ x v y w. joined_registers option_window_cmp x y) b.reservations c.reservations b.version c.version (IsKnownReservation version)
+        (λ id. IfSome_then _ (i.jobs id) (λ r. kept_job b.version c.version id r)));
+    reservations = each_dropped (IsKnownReservation version) (has_retired retired) windows (each_joined_entries stamp_cmp stamp_total exact_stamp None (λ x v y w. joined_registers option_window_cmp x y) b.reservations c.reservations b.version c.version (IsKnownReservation version)
         (λ id e. joined_known_reservation join law b.version c.version id (lookup (is_at (stamp_cmp id)) b.reservations) (lookup (is_at (stamp_cmp id)) c.reservations) (i.reservations id) (k.reservations id) (or_right _ _ e))
-        (λ id. IfSome_then _ (i.reservations id) (λ r. kept_reservation b.version c.version id r));
+        (λ id. IfSome_then _ (i.reservations id) (λ r. kept_reservation b.version c.version id r)));
+    kept_jobs = kept_dropped retired jobs;
+    kept_reservations = kept_dropped retired windows;
   }
 
   abbrev old_job : StampValue → JobRecordValue
@@ -75,7 +95,7 @@ module _ (join : JobRecordValue → List ℕ → JobRecordValue → List ℕ →
   abbrev job_by : Bool → StampValue → JobView
   job_by t id = cond t (join_jobs b.version (job_reads (old_job id)) c.version (job_reads (new_job id))) (job_reads (old_job id))
 
-  joined_job_read : IsBoard c → (id : StampValue) → job_reads (value_at stamp_cmp no_operation (with_records join b c).jobs id) ≡ job_by (is_submitted (job_reads (new_job id))) id
+  joined_job_read : IsBoard c → (id : StampValue) → job_reads (value_at stamp_cmp no_operation jobs id) ≡ job_by (is_submitted (job_reads (new_job id))) id
   joined_job_read k id =
       ap job_reads (value_at-joined_entries stamp_cmp stamp_total exact_stamp no_operation join b.jobs c.jobs b.version c.version id)
       ∙ go (is_some (lookup (is_at (stamp_cmp id)) c.jobs))
@@ -85,18 +105,30 @@ module _ (join : JobRecordValue → List ℕ → JobRecordValue → List ℕ →
       go true = law (old_job id) (new_job id) b.version c.version
       go false = refl
 
-  reservation_reads : (id : StampValue) → value_at stamp_cmp None (with_records join b c).reservations id ≡ joined_registers option_window_cmp (value_at stamp_cmp None b.reservations id) (value_at stamp_cmp None c.reservations id)
+  reservation_reads : (id : StampValue) → value_at stamp_cmp None windows id ≡ joined_registers option_window_cmp (value_at stamp_cmp None b.reservations id) (value_at stamp_cmp None c.reservations id)
   reservation_reads id =
       value_at-joined_entries stamp_cmp stamp_total exact_stamp None (λ x v y w. joined_registers option_window_cmp x y) b.reservations c.reservations b.version c.version id
       ∙ joined_none (is_some (lookup (is_at (stamp_cmp id)) c.reservations)) (value_at stamp_cmp None b.reservations id) (value_at stamp_cmp None c.reservations id) (lookup (is_at (stamp_cmp id)) c.reservations) refl refl
 
-  pub with_records_reads : IsBoard c → board_reads (with_records join b c) ≡ join_records (board_reads b) (board_reads c)
+  -- what is retired is what either has retired
+  pub gone : IsBoard b → IsBoard c → (id : StampValue) → has_retired retired id ≡ (has_retired b.retired id || has_retired c.retired id)
+  gone i k = has_joined b.retired c.retired b.version c.version retired (at_entries b.retired c.retired b.version c.version) (all_apart b.version b.retired i.retired) (all_apart c.version c.retired k.retired)
+
+  pub with_records_reads : IsBoard b → IsBoard c → board_reads (with_records join b c) ≡ join_records (board_reads b) (board_reads c)
   unfolding join_records
-  with_records_reads k = λ i. record {
-    version = version;
-    job = λ id. joined_job_read k id i;
-    reservation = λ id. reservation_reads id i;
-  }
+  with_records_reads i k =
+      let latest = latest_joined b.retired c.retired b.version c.version retired (at_entries b.retired c.retired b.version c.version) in
+      let job : (id : StampValue) → job_reads (value_at stamp_cmp no_operation (dropped (has_retired retired) jobs) id) ≡ (if has_retired b.retired id || has_retired c.retired id then unknown else job_by (is_submitted (job_reads (new_job id))) id) =
+      λ id. read_dropped (has_retired retired) jobs id ∙ (λ n. if gone i k id n then unknown else joined_job_read k id n) in
+      let window : (id : StampValue) → value_at stamp_cmp None (dropped (has_retired retired) windows) id ≡ (if has_retired b.retired id || has_retired c.retired id then None else joined_registers option_window_cmp (value_at stamp_cmp None b.reservations id) (value_at stamp_cmp None c.reservations id)) =
+      λ id. value_dropped None (has_retired retired) windows id ∙ (λ n. if gone i k id n then None else reservation_reads id n) in
+      λ n. record {
+        version = version;
+        retirements = latest n;
+        retired = λ id. gone i k id n;
+        job = λ id. job id n;
+        reservation = λ id. window id n;
+      }
 
   pub with_records_same : (now other : BoardValue) → b ≡ now → c ≡ other → with_records join b c ≡ with_records join now other
   with_records_same now other e f = ap₂ (with_records join) e f

@@ -10,9 +10,10 @@ use Rattle.fed_model.specs.declared.letters.Letter.TheVariants.{Exiting, Running
 use Rattle.fed_model.specs.declared.values.Changes.{Changes}
 use Rattle.fed_model.specs.declared.values.JobValues.{JobValues}
 use Rattle.fed_model.specs.declared.windows.Window.{Window}
-use Rattle.fed_model.specs.Body.{Body, Body.Submit, Body.OfJob, Body.Reserve, Body.Cancel, JobBody.Set, JobBody.Hold, JobBody.Release, JobBody.Delete, JobBody.Grant, JobBody.HandBack, JobBody.Begin, JobBody.Finish}
+use Rattle.fed_model.specs.Body.{Body, Body.Submit, Body.OfJob, Body.Reserve, Body.Cancel, Body.Retire, JobBody.Set, JobBody.Hold, JobBody.Release, JobBody.Delete, JobBody.Grant, JobBody.HandBack, JobBody.Begin, JobBody.Finish}
 use Rattle.fed_record.specs.Operation.{has_site_pair, has_hold_pair}
 use Rattle.fed_theory.specs.JobSteps.{add_to_job, join_jobs}
+use Rattle.fed_model.specs.JobView.{unknown}
 use Rattle.fed_model.specs.Letter.{any_below, has_site, is_submitted, letter}
 use Rattle.fed_model.specs.Identifiers.{jobs_in, reservations_in}
 use Rattle.fed_model.specs.View.{view}
@@ -193,6 +194,33 @@ reserved_window = refl
 
 cancelled_window : (view (reserved ++ (at 2 1, Cancel (at 1 0)) ∷ [])).reservation (at 1 0) ≡ Some (at 2 1, None)
 cancelled_window = refl
+
+-- ---- a job and a reservation of one site, of which it retires both
+abbrev named : History Body
+named = here ++ (at 2 0, Reserve window) ∷ []
+
+abbrev retired : History Body
+retired = named ++ (at 3 0, Retire 1 2) ∷ []
+
+retired_job : (view retired).job job ≡ unknown
+retired_job = refl
+
+retired_reservation : (view retired).reservation (at 2 0) ≡ None
+retired_reservation = refl
+
+-- a set that has not heard of it brings neither back
+retired_job_stays : (join_views (view named) (view retired)).job job ≡ unknown
+unfolding joined join_views
+retired_job_stays = refl
+
+retired_reservation_stays : (join_views (view named) (view retired)).reservation (at 2 0) ≡ None
+unfolding joined join_views
+retired_reservation_stays = refl
+
+-- a range is of the site that retires it
+other_site_stays : letter ((view (there ++ (at 3 0, Retire 1 2) ∷ [])).job (at 1 1)) ≡ Some Queued
+unfolding any_below
+other_site_stays = refl
 
 -- ---- identifiers in the order of their stamps
 exchanged_jobs : jobs_in (view (there ++ here)) ≡ at 1 0 ∷ at 1 1 ∷ []

@@ -3,3 +3,4 @@ pub mod Board
 pub mod Counts
 pub mod BoardLaws
 pub mod Changes
+pub mod Retiring

@@ -19,8 +19,12 @@ mod noting;
 pub mod readings;
 /// The records of a board, or of a part of one.
 pub mod records;
+/// How what is retired is dropped.
+mod retiring;
 /// By which changes jobs are behind records of them.
 mod rises;
+/// Whether values are identical.
+mod same;
 /// The changes of jobs that one site made.
 mod site_changes;
 

@@ -4,9 +4,11 @@ ghost use Rattle.fed_lattice.specs.Laws.{IsAssociative, IsCommutative, IsIdempot
 ghost use Rattle.fed_board.specs.Board.{merged};
 
 use crate::boards::Board;
-use fed_lattice::{Causal, Table};
+use crate::facts::board_is_covered;
+use fed_lattice::Causal;
+use fed_ranges::{Retired, tables_join_without_the_dropped};
 use fed_record::{JobRecord, Reservation};
-use fed_stamp::{JobId, Stamp};
+use fed_stamp::Stamp;
 
 // What is a law of every value that merges.
 fn joins_are_associative<V: Causal>()
@@ -26,28 +28,37 @@ pub fn merging_is_associative(a: &Board, b: &Board, c: &Board)
     ensures { merged ⟦<JobRecord as Causal>⟧.joined (merged ⟦<JobRecord as Causal>⟧.joined a.now b.now) c.now
         ≡ merged ⟦<JobRecord as Causal>⟧.joined a.now (merged ⟦<JobRecord as Causal>⟧.joined b.now c.now) }
 {
-    joins_are_associative::<Table<JobId, JobRecord>>();
-    joins_are_associative::<Table<Stamp, Reservation>>();
+    joins_are_associative::<Retired>();
+    tables_join_without_the_dropped::<Stamp, JobRecord>();
+    tables_join_without_the_dropped::<Stamp, Reservation>();
     a.tables_are_well_formed();
     b.tables_are_well_formed();
     c.tables_are_well_formed();
+    board_is_covered(a);
+    board_is_covered(b);
+    board_is_covered(c);
 }
 
 /// Two boards merge to the same from either side.
 pub fn merging_is_commutative(a: &Board, b: &Board)
     ensures { merged ⟦<JobRecord as Causal>⟧.joined a.now b.now ≡ merged ⟦<JobRecord as Causal>⟧.joined b.now a.now }
 {
-    joins_are_commutative::<Table<JobId, JobRecord>>();
-    joins_are_commutative::<Table<Stamp, Reservation>>();
+    joins_are_commutative::<Retired>();
+    tables_join_without_the_dropped::<Stamp, JobRecord>();
+    tables_join_without_the_dropped::<Stamp, Reservation>();
     a.tables_are_well_formed();
     b.tables_are_well_formed();
+    board_is_covered(a);
+    board_is_covered(b);
 }
 
 /// A board merges with itself to itself.
 pub fn merging_is_idempotent(a: &Board)
     ensures { merged ⟦<JobRecord as Causal>⟧.joined a.now a.now ≡ a.now }
 {
-    joins_are_idempotent::<Table<JobId, JobRecord>>();
-    joins_are_idempotent::<Table<Stamp, Reservation>>();
+    joins_are_idempotent::<Retired>();
+    tables_join_without_the_dropped::<Stamp, JobRecord>();
+    tables_join_without_the_dropped::<Stamp, Reservation>();
     a.tables_are_well_formed();
+    board_is_covered(a);
 }

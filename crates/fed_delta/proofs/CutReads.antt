@@ -3,7 +3,10 @@ use Rattle.std.specs.BTreeMap.{is_at}
 use Rattle.std.specs.Cmp.{eq_by_cmp_equiv}
 use Rattle.std.specs.List.Sorted.{IsStrictlySortedBy}
 use Rattle.std.specs.Map.{keys_of, lookup}
+use Rattle.std.specs.Ordering.{nat_cmp}
+use Rattle.std.specs.Prelude.{◌&&◌}
 use Rattle.std.proofs.Common.{◌≡◌, ℕ, List, [], Bool, true, false, cond, filter, Option, Some, None, IfSome, unwrap_or, refl, sym, ap, subst, ◌∙◌}
+use Rattle.std.proofs.lemmas.Option.{IfSome_then}
 use Rattle.std.proofs.lemmas.Map.Entries.{lookup-filter-values, option_filter}
 use Rattle.std.proofs.lemmas.Map.Keys.{IsDistinct-from_sorted}
 use Rattle.fed_stamp.specs.Stamp.{StampValue}
@@ -13,8 +16,11 @@ use Rattle.fed_lattice.specs.Table.{value_at, IsAtEach}
 use Rattle.fed_record.specs.JobRecord.{JobRecordValue, job_reads}
 use Rattle.fed_model.specs.JobView.{job_view}
 use Rattle.fed_model.specs.Reservation.{ReservationView}
-use Rattle.fed_board.specs.Board.{BoardValue, IsBoard, IsKnownJob, IsKnownReservation, no_operation, board_reads}
-use Rattle.fed_delta.specs.Cut.{is_changed_job, is_changed_reservation, cut}
+use Rattle.fed_board.specs.Board.{BoardValue, AreKept, IsBoard, IsKnownJob, IsKnownReservation, no_operation, board_reads}
+use Rattle.fed_ranges.specs.Retired.{has_retired, latest_retires}
+use Rattle.fed_theory.specs.Cut.{is_changed_job, is_changed_reservation, is_changed_site, cut}
+use Rattle.fed_delta.specs.Retired.{retired_beyond}
+use Rattle.fed_delta.proofs.RetiredCuts.{has_beyond, known_beyond, latest_beyond}
 
 -- ---- entries whose values pass a test
 module _ {X : Type 0} (p : X → Bool) (es : List (StampValue × X)) (s : IsStrictlySortedBy stamp_cmp (keys_of es)) where
@@ -52,18 +58,33 @@ reservation_changed need (Some r) = go (is_changed_reservation need r) where
   go true = refl
   go false = refl
 
-module _ (need : List ℕ) (b : BoardValue) (s : IsStrictlySortedBy stamp_cmp (keys_of b.jobs)) (t : IsStrictlySortedBy stamp_cmp (keys_of b.reservations)) where
+module _ (need : List ℕ) (b : BoardValue) (board : IsBoard b) (u : IsStrictlySortedBy nat_cmp (keys_of b.retired)) (s : IsStrictlySortedBy stamp_cmp (keys_of b.jobs)) (t : IsStrictlySortedBy stamp_cmp (keys_of b.reservations)) where
   abbrev changes : BoardValue
   changes = record {
     version = b.version;
+    retired = retired_beyond need b.retired;
     jobs = filter (λ (e : StampValue × JobRecordValue). is_changed_job need (job_reads e.1)) b.jobs;
     reservations = filter (λ (e : StampValue × ReservationView). is_changed_reservation need e.1) b.reservations;
   }
 
-  changes_known : IsBoard b → IsBoard changes
-  changes_known i = record {
-    jobs = each_changed (λ r. is_changed_job need (job_reads r)) b.jobs s (IsKnownJob b.version) i.jobs;
-    reservations = each_changed (is_changed_reservation need) b.reservations t (IsKnownReservation b.version) i.reservations;
+  changed_retired : (id : StampValue) → has_retired (retired_beyond need b.retired) id ≡ (is_changed_site need (latest_retires b.retired) id.site && has_retired b.retired id)
+  changed_retired = has_beyond need b.version b.retired u board.retired
+
+  -- what isn't retired on the board isn't among what is retired there beyond the version
+  still_kept : {X : Type 0} (es : List (StampValue × X)) → AreKept b.retired es → AreKept (retired_beyond need b.retired) es
+  still_kept es kept id = IfSome_then (lookup (is_at (stamp_cmp id)) es) (kept id) (λ x none. changed_retired id ∙ ap (λ e. is_changed_site need (latest_retires b.retired) id.site && e) none ∙ and_none (is_changed_site need (latest_retires b.retired) id.site))
+    where
+      and_none : (c : Bool) → (c && false) ≡ false
+      and_none true = refl
+      and_none false = refl
+
+  changes_known : IsBoard changes
+  changes_known = record {
+    retired = known_beyond need b.version b.retired u board.retired;
+    jobs = each_changed (λ r. is_changed_job need (job_reads r)) b.jobs s (IsKnownJob b.version) board.jobs;
+    reservations = each_changed (is_changed_reservation need) b.reservations t (IsKnownReservation b.version) board.reservations;
+    kept_jobs = each_changed (λ r. is_changed_job need (job_reads r)) b.jobs s (λ id x. has_retired (retired_beyond need b.retired) id ≡ false) (still_kept b.jobs board.kept_jobs);
+    kept_reservations = each_changed (is_changed_reservation need) b.reservations t (λ id x. has_retired (retired_beyond need b.retired) id ≡ false) (still_kept b.reservations board.kept_reservations);
   }
 
   changed_job_read : (id : StampValue) → job_reads (value_at stamp_cmp no_operation changes.jobs id)
@@ -82,19 +103,21 @@ module _ (need : List ℕ) (b : BoardValue) (s : IsStrictlySortedBy stamp_cmp (k
   unfolding cut
   changes_read = λ i. record {
     version = b.version;
+    retirements = latest_beyond need b.version b.retired u board.retired i;
+    retired = λ id. changed_retired id i;
     job = λ id. changed_job_read id i;
     reservation = λ id. reservation_reads id i;
   }
 
   -- the board that is made of them
-  module _ (made : BoardValue) (version : made.version ≡ b.version)
+  module _ (made : BoardValue) (version : made.version ≡ b.version) (retired : made.retired ≡ retired_beyond need b.retired)
       (jobs : made.jobs ≡ filter (λ (e : StampValue × JobRecordValue). is_changed_job need (job_reads e.1)) b.jobs)
       (reservations : made.reservations ≡ filter (λ (e : StampValue × ReservationView). is_changed_reservation need e.1) b.reservations) where
     is_changes : made ≡ changes
-    is_changes = λ i. record { version = version i; jobs = jobs i; reservations = reservations i }
+    is_changes = λ i. record { version = version i; retired = retired i; jobs = jobs i; reservations = reservations i }
 
-    pub made_known : IsBoard b → IsBoard made
-    made_known i = subst IsBoard (sym is_changes) (changes_known i)
+    pub made_known : IsBoard made
+    made_known = subst IsBoard (sym is_changes) changes_known
 
     pub made_reads : board_reads made ≡ cut (board_reads b) need
     made_reads = ap board_reads is_changes ∙ changes_read

@@ -7,7 +7,7 @@ use Rattle.fed_model.specs.declared.holds.HoldKind.{HoldKind}
 use Rattle.fed_record.specs.declared.operations.JobOperation.{JobOperation}
 use Rattle.fed_record.specs.declared.operations.Operation.{Operation}
 use Rattle.fed_model.specs.Hold.{same_kind}
-use Rattle.fed_model.specs.Body.{Body, Body.Submit, Body.OfJob, Body.Reserve, Body.Cancel, JobBody, JobBody.Set, JobBody.Hold, JobBody.Release, JobBody.Delete, JobBody.Grant, JobBody.HandBack, JobBody.Begin, JobBody.Finish}
+use Rattle.fed_model.specs.Body.{Body, Body.Submit, Body.OfJob, Body.Reserve, Body.Cancel, Body.Retire, JobBody, JobBody.Set, JobBody.Hold, JobBody.Release, JobBody.Delete, JobBody.Grant, JobBody.HandBack, JobBody.Begin, JobBody.Finish}
 
 -- the list has the pair
 abbrev pub has_site_pair : List (ℕ × StampValue) → ℕ → StampValue → Bool
@@ -33,6 +33,7 @@ body_of (Operation.Submit owner values held) = Submit owner values held
 body_of (Operation.OfJob job what) = OfJob job (job_body_of what)
 body_of (Operation.Reserve window) = Reserve window
 body_of (Operation.Cancel reservation) = Cancel reservation
+body_of (Operation.Retire first last) = Retire first last
 
 -- the operations of a history as the model has them
 abbrev pub bodies : History Operation → History Body

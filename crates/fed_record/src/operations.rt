@@ -76,21 +76,28 @@ pub enum Operation {
     Cancel {
         reservation: Stamp,
     },
+    /// Retires the identifiers of the site that makes it, of jobs and of reservations, whose counters are in the range.
+    Retire {
+        /// The least counter of the range.
+        first: u64,
+        /// The greatest counter of the range.
+        last: u64,
+    },
 }
 
 impl Operation {
-    /// The job that the operation is of, where its stamp is `at`, or `None` where it is of a reservation.
+    /// The job that the operation is of, where its stamp is `at`, or `None` where it is of no job.
     pub fn job(&self, at: Stamp) -> Option<JobId>
         ensures { result ≡ job_of at (body_of self.now) }
     {
         match self {
             Operation::Submit { .. } => Some(at),
             Operation::OfJob(job, _) => Some(*job),
-            Operation::Reserve { .. } | Operation::Cancel { .. } => None,
+            Operation::Reserve { .. } | Operation::Cancel { .. } | Operation::Retire { .. } => None,
         }
     }
 
-    /// The reservation that the operation is of, where its stamp is `at`, or `None` where it is of a job.
+    /// The reservation that the operation is of, where its stamp is `at`, or `None` where it is of no reservation.
     pub fn reservation(&self, at: Stamp) -> Option<Stamp>
         ensures { result ≡ reservation_of at (body_of self.now) }
     {

@@ -38,7 +38,7 @@ pub(crate) fn term(rt: &impl Abort, number: u64) -> Term {
 /// Adds operations whose stamps are new and whose jobs and reservations are there; once more where memory is refused.
 pub(crate) fn act(rt: &impl Abort, board: &mut Board, steps: &[Step]) {
     for (at, operation) in steps {
-        assert!(rt; !board.version().covers(*at) && board.has_named(operation));
+        assert!(rt; !board.version().covers(*at) && board.has_named(*at, operation));
         if board.apply(*at, operation).is_err() {
             board.apply(*at, operation).expect(rt, "memory");
         }
@@ -234,4 +234,31 @@ fn reservations_stand_until_cancelled(rt: HostRuntime) {
     see_reserved(&rt, &a, id);
     let b = after(&rt, &a, &[(at, Operation::Cancel { reservation: id })]);
     see_last(&rt, &a, &b, Reservation::from_parts(at, None), id);
+}
+
+/// The identifiers of the site with these counters are retired.
+pub(crate) fn retired(at: Stamp, first: u64, last: u64) -> Step {
+    (at, Operation::Retire { first, last })
+}
+
+/// Nothing of the job and of the reservation is on the board.
+fn see_nothing(rt: &impl Abort, board: &Board, job: Stamp, id: Stamp) {
+    assert!(rt; board.job(job).is_none() && board.job_count(job.site()) == 0);
+    assert!(rt; board.reservation(id).is_none() && board.reservation_count(id.site()) == 0);
+}
+
+/// A board that has not heard of it brings nothing back.
+fn see_retired(rt: &impl Abort, late: &Board, board: &Board, job: Stamp, id: Stamp) {
+    see_nothing(rt, board, job, id);
+    let both = merged(rt, late, board);
+    see_nothing(rt, &both, job, id);
+    assert!(rt; both == *board);
+}
+
+#[test]
+fn retired_identifiers_stay_away(rt: HostRuntime) {
+    let (job, id) = (stamp(1, 0), stamp(2, 0));
+    let late = board_of(&rt, &[(job, submit(false)), reserved(id)]);
+    let board = after(&rt, &late, &[retired(stamp(3, 0), 1, 2)]);
+    see_retired(&rt, &late, &board, job, id);
 }

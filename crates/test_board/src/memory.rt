@@ -7,7 +7,7 @@ use fed_delta::{Absorb, Delta, absorb, delta_since};
 use fed_record::{HoldKind, HoldKinds, JobOperation, Operation};
 use fed_stamp::{Stamp, Version};
 use std::process::Abort;
-use test_values::stamp;
+use test_values::{site, stamp};
 
 fn copied(rt: &impl Abort, board: &Board) -> Board {
     match board.copy() {
@@ -28,10 +28,10 @@ fn told(rt: &(impl Abort + AllocGlobal), board: &Board) -> Delta {
 /// Adds an operation whose stamp is new and whose job or reservation is there. A failed allocation leaves the board.
 fn applied(rt: &impl Abort, board: &mut Board, at: Stamp, operation: &Operation) {
     let before = copied(rt, board);
-    assert!(rt; !board.version().covers(at) && board.has_named(operation));
+    assert!(rt; !board.version().covers(at) && board.has_named(at, operation));
     if board.apply(at, operation).is_err() {
         assert!(rt; *board == before);
-        assert!(rt; !board.version().covers(at) && board.has_named(operation));
+        assert!(rt; !board.version().covers(at) && board.has_named(at, operation));
         board.apply(at, operation).expect(rt, "memory");
     }
 }
@@ -120,4 +120,25 @@ fn failed_allocations_of_a_delta_of_a_known_job(rt: HostRuntime) {
     let one = board_of(&rt, &[(job, submit(false))]);
     let later = gone_on(&rt, &one, job, next);
     see_equal(&rt, &one, &later, [job, next]);
+}
+
+/// A copy of the board, on which the site of the stamp retires its first job. A failed allocation leaves the board.
+fn retired_on(rt: &(impl Abort + AllocGlobal), board: &Board, at: Stamp) -> Board {
+    let mut later = copied(rt, board);
+    applied(rt, &mut later, at, &Operation::Retire { first: 1, last: 1 });
+    later
+}
+
+/// The board has no job, and each of both that takes in all that the other tells has none either.
+fn see_retired(rt: &(impl Abort + AllocGlobal), late: &Board, board: &Board) {
+    assert!(rt; board.jobs().next().is_none() && board.job_count(site(0)) == 0);
+    assert!(rt; absorbed(rt, late, board) == *board);
+    assert!(rt; absorbed(rt, board, late) == *board);
+}
+
+#[test]
+fn failed_allocations_of_a_retire(rt: HostRuntime) {
+    let late = board_of(&rt, &[(stamp(1, 0), submit(false))]);
+    let board = retired_on(&rt, &late, stamp(2, 0));
+    see_retired(&rt, &late, &board);
 }
