@@ -3,6 +3,7 @@ pub mod PacketLaws
 pub mod BoardLaws
 pub mod IdentifierLaws
 pub mod EachLaws
+pub mod RetiredLoops
 pub mod ReadLoops
 pub mod MemberLaws
 pub mod BodyLaws
@@ -11,6 +12,7 @@ pub mod WriteLaws
 pub mod PlainLaws
 pub mod RangeLaws
 pub mod StandingLaws
+pub mod RetiredLimits
 pub mod LimitLaws
 pub mod PrintedLaws
 pub mod FrameLaws

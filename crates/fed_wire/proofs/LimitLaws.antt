@@ -8,17 +8,14 @@ use Rattle.std.specs.Map.{keys_of, values_of, lookup}
 use Rattle.std.specs.Ordering.{nat_cmp}
 use Rattle.std.proofs.Common.{◌≡◌, ◌==◌, ◌≤◌, ◌<◌, ◌+◌, ◌&&◌, ℕ, List, [], ◌∷◌, Bool, true, false, cond, All, Option, Some, None, unwrap_or, refl, sym, ap, subst, ◌∙◌, arith, inl, inr}
 use Rattle.std.proofs.lemmas.Bool.{and_parts, and_from}
-use Rattle.std.proofs.lemmas.Cmp.{eq_by_cmp_equiv}
-use Rattle.std.proofs.lemmas.List.Elements.{All-head, All-tail, All-weaker, All-contains_itself, recursion_from_All}
-use Rattle.std.proofs.lemmas.Map.Keys.{IsDistinct-from_sorted}
+use Rattle.std.proofs.lemmas.List.Elements.{All-head, All-tail}
 use Rattle.std.proofs.lemmas.Map.Lookups.{exact_unsigned}
-use Rattle.std.proofs.lemmas.Map.Views.{IfSome-lookup_from_All, lookup-from_Contains}
+use Rattle.std.proofs.lemmas.Map.Views.{IfSome-lookup_from_All}
 use Rattle.fed_stamp.specs.Stamp.{StampValue}
 use Rattle.fed_stamp.specs.Version.{covers, met, is_below, IsVersion as IsAVersion}
 use Rattle.fed_stamp.specs.declared.stamps.TheConstants.{MAX_COUNTER}
 use Rattle.fed_stamp.proofs.VersionLaws.{met_below_right}
 use Rattle.fed_lattice.specs.Latest.{stamp_cmp}
-use Rattle.fed_lattice.specs.LatestLaws.{stamp_total}
 use Rattle.fed_lattice.specs.History.{History}
 use Rattle.fed_lattice.specs.Sets.{Has}
 use Rattle.fed_lattice.specs.VersionOf.{version_of}
@@ -33,10 +30,10 @@ use Rattle.fed_model.specs.Field.{owner_in, name_in, priority_in, nodes_in, limi
 use Rattle.fed_model.specs.Hold.{kind_cmp}
 use Rattle.fed_model.specs.HoldLaws.{kind_total, exact_kind}
 use Rattle.fed_record.specs.JobRecord.{JobRecordValue, job_reads}
-use Rattle.fed_model.specs.JobView.{JobView, job_view}
+use Rattle.fed_model.specs.JobView.{JobView, job_view, unknown}
 use Rattle.fed_model.specs.Letter.{is_submitted}
 use Rattle.fed_model.specs.Pairs.{adds_site, removes_site, adds_hold, removes_hold}
-use Rattle.fed_model.specs.Reservation.{ReservationView}
+use Rattle.fed_model.specs.Reservation.{ReservationView, reservation_view}
 use Rattle.fed_lattice.specs.ExactLaws.{same_stamp_itself}
 use Rattle.fed_board.specs.Board.{BoardValue, IsBoard, IsKnownJob, IsKnownReservation, no_operation, board_reads}
 use Rattle.fed_board.specs.Counts.{ids_of}
@@ -45,8 +42,8 @@ use Rattle.fed_model.specs.Identifiers.{covered_stamps, jobs_in, reservations_in
 use Rattle.fed_model.specs.View.{View, view, HasSubmit, HasReserve}
 use Rattle.fed_model.specs.declared.capacities.TheConstants.{MAX_JOBS, MAX_RESERVATIONS}
 use Rattle.fed_board.proofs.CountLaws.{ids-push}
-use Rattle.fed_theory.proofs.SubmitLaws.{submit_of, reserve_of}
-use Rattle.fed_delta.specs.Cut.{cut, is_changed_job, is_changed_reservation}
+use Rattle.fed_theory.proofs.SubmitLaws.{submit_of, unretired, read_whole, reserve_of, standing_whole, reservation_whole}
+use Rattle.fed_theory.specs.Cut.{cut, is_changed_job, is_changed_reservation}
 use Rattle.fed_model.specs.Ranges.{IsFrom, IsName, IsPriority, IsAccount, IsSite, IsInRange, IsWindow}
 use Rattle.fed_job_json.specs.declared.formats.Format.TheVariants.{Two}
 use Rattle.fed_record.specs.CoveredJob.{covers_register}
@@ -59,6 +56,7 @@ use Rattle.fed_board.proofs.CountedIdentifiers.{set_jobs_counted, set_reservatio
 use Rattle.fed_wire.specs.Packet.{PacketValue, IsPacket, job_stands, reservation_stands, covers_window}
 use Rattle.fed_wire.specs.Reservations.{IsReservation}
 use Rattle.fed_wire.proofs.RangeLaws.{owner_ranged, name_ranged, priority_ranged, nodes_ranged, limit_ranged, account_ranged, window_ranged, added_site, set_field, grant_is, version_is, pairs_are, progress_is, of_all}
+use Rattle.fed_wire.proofs.RetiredLimits.{each_entry, weaker, known_at, retired_ranged, retired_stand}
 use Rattle.fed_wire.proofs.StandingLaws.{all_stand}
 
 -- ---- stamps that are covered, by the tests of packets
@@ -69,7 +67,7 @@ pairs_covered v (p ∷ ps) f = and_from _ _ (f p (inl refl)) (pairs_covered v ps
 
 -- ---- one job
 module _ (ops : History Body) (lawful : IsLawful ops) (within : IsWithinLimits ops) (reached : List ℕ) (job : StampValue) (r : JobRecordValue)
-    (known : IsKnownJob reached job r) (e : job_reads r ≡ (view ops).job job)
+    (known : IsKnownJob reached job r) (seen : job_reads r ≡ (view ops).job job)
     (holds_sorted : IsStrictlySortedBy (pair_cmp kind_cmp) r.holds) (sites_sorted : IsStrictlySortedBy (pair_cmp nat_cmp) r.sites) where
   abbrev mine : History Body
   mine = of_job job ops
@@ -77,8 +75,15 @@ module _ (ops : History Body) (lawful : IsLawful ops) (within : IsWithinLimits o
   has_mine : (o : StampValue × Body) → Has mine o → Has ops o
   has_mine = of_all ops lawful within job
 
+  read : is_submitted ((view ops).job job) ≡ true
+  read = sym (ap is_submitted seen) ∙ known.submitted
+
   submitted : HasSubmit ops job
-  submitted = submit_of ops job (sym (ap is_submitted e) ∙ known.submitted)
+  submitted = submit_of ops job read
+
+  -- it is not retired, so it is read of all its operations
+  e : job_reads r ≡ job_view mine
+  e = seen ∙ read_whole ops job (unretired ops job read)
 
   field_is : {T : Type 0} (says : Body → Option T) (P : T → Type 0) → ((body : Body) → IsInRange body → IfSome (says body) P) → (o : Option (StampValue × T)) → o ≡ field says mine → is_some o ≡ true → IsField P o
   field_is says P law o same s = set_field mine ops within has_mine says P law o (sym same) s
@@ -119,7 +124,7 @@ module _ (ops : History Body) (lawful : IsLawful ops) (within : IsWithinLimits o
       }
 
 -- ---- one reservation
-module _ (ops : History Body) (lawful : IsLawful ops) (within : IsWithinLimits ops) (id : StampValue) (r : ReservationView) (made : is_some r ≡ true) (e : r ≡ (view ops).reservation id) where
+module _ (ops : History Body) (lawful : IsLawful ops) (within : IsWithinLimits ops) (id : StampValue) (r : ReservationView) (made : is_some r ≡ true) (seen : r ≡ (view ops).reservation id) where
   abbrev its : History Body
   its = of_reservation id ops
 
@@ -128,11 +133,13 @@ module _ (ops : History Body) (lawful : IsLawful ops) (within : IsWithinLimits o
 
   pub reservation_is : IsReservation (id, r)
   reservation_is =
-      let reserve : HasReserve ops id = reserve_of ops id lawful (sym (ap is_some e) ∙ made) in
+      let read : is_some ((view ops).reservation id) ≡ true = sym (ap is_some seen) ∙ made in
+      let reserve : HasReserve ops id = reserve_of ops id lawful read in
+      let e : r ≡ reservation_view its = seen ∙ reservation_whole ops id (standing_whole ops id read).0 in
       (within.stamps (id, Reserve reserve.0) reserve.1, set_field its ops within has_its window_in (λ w. IfSome w IsWindow) window_ranged r (sym e) made)
 
 -- ---- what a cut tells
-cut_job : (v : View) (need : List ℕ) (job : StampValue) → (cut v need).job job ≡ cond (is_changed_job need (v.job job)) (v.job job) (job_view [])
+cut_job : (v : View) (need : List ℕ) (job : StampValue) → (cut v need).job job ≡ cond (is_changed_job need (v.job job)) (v.job job) unknown
 unfolding cut
 cut_job v need job = refl
 
@@ -146,7 +153,7 @@ cut_version v need = refl
 
 job_told : (v : View) (need : List ℕ) (job : StampValue) (j : JobView) → j ≡ (cut v need).job job → is_submitted j ≡ true → j ≡ v.job job
 job_told v need job j e s = go (is_changed_job need (v.job job)) (e ∙ cut_job v need job) where
-  go : (b : Bool) → j ≡ cond b (v.job job) (job_view []) → j ≡ v.job job
+  go : (b : Bool) → j ≡ cond b (v.job job) unknown → j ≡ v.job job
   go true same = same
   go false same = absurd (let f : false ≡ true = sym (ap is_submitted same) ∙ s in cc)
 
@@ -182,15 +189,6 @@ reservations_told v need site = subst (λ w. ids_of site (filter (λ id. is_some
     (fewer_kept (λ id. is_some ((cut v need).reservation id)) (λ id. is_some (v.reservation id))
     (λ id s. sym (ap is_some (reservation_told v need id ((cut v need).reservation id) refl s)) ∙ s) site (covered_stamps v.version))
 
--- ---- entries
-each_entry : {X : Type 0} (es : List (StampValue × X)) → IsStrictlySortedBy stamp_cmp (keys_of es) → AllByRecursion (λ (e : StampValue × X). lookup (is_at (stamp_cmp e.0)) es ≡ Some e.1) es
-each_entry {X} es s = recursion_from_All _ es (All-weaker _ (λ (e : StampValue × X). lookup (is_at (stamp_cmp e.0)) es ≡ Some e.1)
-    (λ e h. lookup-from_Contains (eq_by_cmp_equiv stamp_total) e.0 e.1 es (IsDistinct-from_sorted stamp_cmp (keys_of es) s) h) es (All-contains_itself es))
-
-weaker : {X : Type 0} (P Q : X → Type 0) (xs : List X) → ((x : X) → P x → Q x) → AllByRecursion P xs → AllByRecursion Q xs
-weaker P Q [] f h = tt
-weaker P Q (x ∷ xs) f h = (f x h.0, weaker P Q xs f h.1)
-
 version_ranged : (v : List ℕ) → IsAVersion v → IsVersion v
 version_ranged v h = (h.0, each v h.1) where
   each : (w : List ℕ) → All (λ c. c ≤ MAX_COUNTER) w → AllByRecursion (IsFrom 0 MAX_COUNTER) w
@@ -219,6 +217,7 @@ pub record IsMade (p : PacketValue) : Type 0 where
   pub jobs : keys_of p.delta.changes.jobs ≡ jobs_in (board_reads p.delta.changes)
   pub reservations : keys_of p.delta.changes.reservations ≡ reservations_in (board_reads p.delta.changes)
   pub tags : HaveSortedTags p.delta.changes.jobs
+  pub sites : IsStrictlySortedBy nat_cmp (keys_of p.delta.changes.retired)
 
 module _ (p : PacketValue) (made : IsMade p) (ops : History Body) (seen : List ℕ) (lawful : IsLawful ops) (within : IsWithinLimits ops)
     (needs : p.delta.need ≡ met seen (version_of ops)) (told : board_reads p.delta.changes ≡ cut (view ops) p.delta.need) where
@@ -227,10 +226,6 @@ module _ (p : PacketValue) (made : IsMade p) (ops : History Body) (seen : List �
 
   abbrev Found : {X : Type 0} → List (StampValue × X) → StampValue × X → Type 0
   Found {X} es e = lookup (is_at (stamp_cmp e.0)) es ≡ Some e.1
-
-  known_at : {X : Type 0} (P : X → Type 0) (a : Option X) (x : X) → a ≡ Some x → IfSome a P → P x
-  known_at P (Some y) x same h = let e : y ≡ x = cc in subst P e h
-  known_at P None x same h = cc
 
   known_job : (e : StampValue × JobRecordValue) → Found changes.jobs e → IsKnownJob changes.version e.0 e.1
   known_job e f = known_at (IsKnownJob changes.version e.0) _ e.1 f (made.board.jobs e.0)
@@ -288,4 +283,7 @@ module _ (p : PacketValue) (made : IsMade p) (ops : History Body) (seen : List �
     reservations_stand = all_stand MAX_RESERVATIONS (λ e. covers changes.version e.0 && covers_window changes.version e.1) (reservation_stands changes.version) (λ before e s t. and_from _ _ s t) [] changes.reservations made.reservations_ascend few_reservations
         (weaker (Found changes.reservations) (λ e. (covers changes.version e.0 && covers_window changes.version e.1) ≡ true) changes.reservations
         (λ e f. let k = known_reservation e f in and_from _ _ k.named (window_covered e.1 k.stamp)) (each_entry changes.reservations made.reservations_ascend));
+    said = tt;
+    retired = retired_ranged ops within p.delta.need changes told reached_is made.board made.reached made.sites made.jobs_ascend made.reservations_ascend;
+    retired_stand = retired_stand ops within p.delta.need changes told reached_is made.board made.reached made.sites made.jobs_ascend made.reservations_ascend;
   }

@@ -2,7 +2,7 @@
 use Rattle.std.specs.Prelude.{◌||◌}
 use Rattle.std.specs.List.{AllByRecursion}
 use Rattle.std.specs.Str.{IsUtf8}
-use Rattle.std.proofs.Common.{◌≡◌, ℕ, ◌≤◌, max, suc, List, [], ◌∷◌, map, Bool, false, Option, Some, None, refl, ap, subst, ◌∙◌, ℤ, pos, negsuc, arith}
+use Rattle.std.proofs.Common.{◌≡◌, ℕ, ◌≤◌, max, suc, List, [], ◌∷◌, map, Bool, true, false, Option, Some, None, refl, ap, subst, ◌∙◌, ℤ, pos, negsuc, arith}
 use Rattle.serde_json.specs.Data.{Data, depth, items_depth, members_depth, string}
 use Rattle.serde_json.specs.Read.{read, max_depth}
 use Rattle.serde_json.specs.View.{items_of}
@@ -22,7 +22,9 @@ use Rattle.fed_job_json.specs.Job.{Job, job_members, job_value}
 use Rattle.fed_job_json.specs.Pairs.{kind_value}
 use Rattle.fed_job_json.specs.Progress.{Steps, progress_value}
 use Rattle.fed_job_json.specs.Stamps.{stamp_value, version_value}
-use Rattle.fed_wire.specs.Packet.{PacketValue, packet_members, packet_value}
+use Rattle.fed_ranges.specs.declared.ranges.Range.{Range}
+use Rattle.fed_range_json.specs.Retirements.{range_value, RetiredSite, retirements_value}
+use Rattle.fed_wire.specs.Packet.{PacketValue, tells_retired, number_of, with_retired, sender_member, packet_members, packet_value}
 use Rattle.fed_wire.specs.Reading.{text_value}
 use Rattle.fed_wire.specs.Reservations.{Reserved, reservation_value}
 use Rattle.fed_wire.specs.Printed.{IsPrinted}
@@ -156,9 +158,28 @@ plain_reservation (id, None) = record { whole = refl; shallow = omega arith }
 plain_reservation (id, Some (stamp, None)) = record { whole = refl; shallow = omega arith }
 plain_reservation (id, Some (stamp, Some w)) = record { whole = refl; shallow = omega arith }
 
+plain_range : (r : Range) → IsPlain 1 (range_value r)
+plain_range r = record { whole = refl; shallow = omega arith }
+
+plain_retirements : (r : RetiredSite) → IsPlain 3 (retirements_value r)
+plain_retirements r =
+    let ranges = plain_list range_value 1 plain_range r.1.ranges in
+    let k : depth (list_value (map range_value r.1.ranges)) ≤ 2 = ranges.shallow in
+    record { whole = rw ranges.whole refl; shallow = omega arith }
+
+plain_sender : (p : PacketValue) → AllByRecursion (λ m. IsPlain 5 m.1) (sender_member p)
+plain_sender p = (deeper 0 5 (natural_value p.sender) (omega arith) (plain_number p.sender), tt)
+
+plain_others : (told : Bool) (p : PacketValue) → AllByRecursion (λ m. IsPlain 5 m.1) (with_retired told p.delta.changes.retired (sender_member p))
+plain_others false p = plain_sender p
+plain_others true p = (
+  deeper 4 5 (list_value (map retirements_value p.delta.changes.retired)) (omega arith) (plain_list retirements_value 3 plain_retirements p.delta.changes.retired),
+  plain_sender p,
+)
+
 plain_packet : (p : PacketValue) → IsPlain 6 (packet_value Two p)
 plain_packet p = plain_object 5 (packet_members Two p) (
-  deeper 0 5 (natural_value 2) (omega arith) (plain_number 2),
+  deeper 0 5 (natural_value (number_of Two p)) (omega arith) (plain_number (number_of Two p)),
   (
     plain_list (job_value Two) 4 plain_job p.delta.changes.jobs,
     (
@@ -167,7 +188,7 @@ plain_packet p = plain_object 5 (packet_members Two p) (
         deeper 3 5 (version_value p.delta.changes.version) (omega arith) (plain_version p.delta.changes.version),
         (
           plain_list reservation_value 4 plain_reservation p.delta.changes.reservations,
-          (deeper 0 5 (natural_value p.sender) (omega arith) (plain_number p.sender), tt),
+          plain_others (tells_retired p.delta.changes.retired) p,
         ),
       ),
     ),

@@ -23,7 +23,7 @@ use Rattle.fed_model.specs.declared.grants.GrantStage.{GrantStage}
 use Rattle.fed_model.specs.declared.limits.TheConstants.{MAX_LIMIT}
 use Rattle.fed_model.specs.declared.beginnings.Beginning.{Beginning}
 use Rattle.fed_model.specs.declared.beginnings.Ending.{Ending}
-use Rattle.fed_model.specs.Body.{Body, Body.Submit, Body.OfJob, Body.Reserve, Body.Cancel, JobBody.Set, JobBody.Grant, JobBody.HandBack, JobBody.Begin, JobBody.Finish, is_of_job, of_job}
+use Rattle.fed_model.specs.Body.{Body, Body.Submit, Body.OfJob, Body.Reserve, JobBody.Set, JobBody.Grant, JobBody.HandBack, JobBody.Begin, JobBody.Finish, is_of_job, of_job}
 use Rattle.fed_model.specs.Field.{owner_in, name_in, priority_in, nodes_in, limit_in, account_in, begin_in, finish_in, window_in, field}
 use Rattle.fed_model.specs.Grant.{grant_in, grant_stage}
 use Rattle.fed_model.specs.Pairs.{adds_pair, adds_site, is_live, is_site_named}

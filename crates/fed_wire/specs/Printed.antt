@@ -23,6 +23,6 @@ without_jobs p = record {
   sender = p.sender;
   delta = record {
     need = p.delta.need;
-    changes = record { version = p.delta.changes.version; jobs = []; reservations = p.delta.changes.reservations };
+    changes = record { version = p.delta.changes.version; retired = p.delta.changes.retired; jobs = []; reservations = p.delta.changes.reservations };
   };
 }

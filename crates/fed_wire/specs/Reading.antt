@@ -1,11 +1,13 @@
 -- Reading a packet: the packet, or the first fault in the order of the checks.
 use Rattle.std.specs.Prelude.{ℕ, suc, Bool, true, false, ◌==◌, List, [], ◌∷◌, ◌++◌, length, codes, nat_le, if◌then◌else◌, Option, Some, None, option_and_then, Result, Ok, Err}
 use Rattle.std.specs.Str.{is_utf8}
+use Rattle.std.specs.Map.{keys_of}
 use Rattle.serde_json.specs.Data.{Data, array}
 use Rattle.serde_json.specs.Read.{read}
 use Rattle.serde_json.specs.Find.{get, as_number, as_u64}
 use Rattle.fed_stamp.specs.declared.stamps.TheConstants.{MAX_COUNTER}
 use Rattle.fed_lattice.specs.Results.{◌>>=◌}
+use Rattle.fed_ranges.specs.Retired.{RetiredValue}
 use Rattle.fed_json.specs.declared.flaws.Flaw.TheVariants.{Shape as Misshapen, Range as OutOfRange}
 use Rattle.fed_json.specs.Reading.{Reading, where_true}
 use Rattle.fed_json.specs.Numbers.{natural_in}
@@ -15,13 +17,14 @@ use Rattle.fed_job_json.specs.declared.formats.Format.{Format}
 use Rattle.fed_job_json.specs.declared.formats.Format.TheVariants.{One, Two}
 use Rattle.fed_job_json.specs.Stamps.{site_of, version_of}
 use Rattle.fed_job_json.specs.Job.{Job, job_of}
+use Rattle.fed_range_json.specs.Retirements.{retirements_of}
 use Rattle.fed_wire.specs.declared.faults.Part.{Part}
-use Rattle.fed_wire.specs.declared.faults.Part.TheVariants.{Whole, Sender, Need, Reached, Jobs, Reservations}
+use Rattle.fed_wire.specs.declared.faults.Part.TheVariants.{Whole, Sender, Need, Reached, Jobs, Reservations, Retired}
 use Rattle.fed_wire.specs.declared.faults.Place.{Place}
 use Rattle.fed_wire.specs.declared.faults.WireFault.{WireFault}
 use Rattle.fed_wire.specs.declared.faults.WireFault.TheVariants.{NotJson, Version, Shape, Range}
 use Rattle.fed_wire.specs.Reservations.{Reserved, reservation_of}
-use Rattle.fed_wire.specs.Packet.{PacketValue, job_stands, reservation_stands}
+use Rattle.fed_wire.specs.Packet.{PacketValue, job_stands, reservation_stands, site_stands}
 
 abbrev pub place : Part → ℕ → Place
 place part index = record { part = part; index = index }
@@ -90,29 +93,50 @@ jobs_in format reached d = member_in (codes "jobs") d >>= array_in Jobs (job_of 
 abbrev pub reservations_in : List ℕ → Data → Result (List Reserved) WireFault
 reservations_in reached d = member_in (codes "reservations") d >>= array_in Reservations reservation_of (reservation_stands reached)
 
-unfoldable pub body_in : Format → Data → Result PacketValue WireFault
-body_in format d = do
+-- there is something to tell: a packet in which nothing is retired has another format
+abbrev pub some_retired : RetiredValue → Result RetiredValue WireFault
+some_retired [] = Err (Range (place Retired 0))
+some_retired (r ∷ rs) = Ok (r ∷ rs)
+
+abbrev pub all_retired : List ℕ → List Job → List Reserved → Data → Result RetiredValue WireFault
+all_retired reached jobs reservations d = array_in Retired retirements_of (site_stands reached (keys_of jobs) (keys_of reservations)) d >>= some_retired
+
+-- of the member that there may be
+abbrev pub retired_from : Option Data → List ℕ → List Job → List Reserved → Result RetiredValue WireFault
+retired_from None reached jobs reservations = Ok []
+retired_from (Some d) reached jobs reservations = all_retired reached jobs reservations d
+
+-- where what is retired is said, it is a member
+abbrev pub retired_in : Bool → List ℕ → List Job → List Reserved → Data → Result RetiredValue WireFault
+retired_in false reached jobs reservations d = Ok []
+retired_in true reached jobs reservations d = member_in (codes "retired") d >>= all_retired reached jobs reservations
+
+unfoldable pub body_in : Format → Bool → Data → Result PacketValue WireFault
+body_in format told d = do
   sender ← sender_in d
   need ← need_in d
   reached ← reached_in d
   below ← unless_above (least_above 0 need reached)
   jobs ← jobs_in format reached d
   reservations ← reservations_in reached d
-  Ok (record { sender = sender; delta = record { need = need; changes = record { version = reached; jobs = jobs; reservations = reservations } } })
+  retired ← retired_in told reached jobs reservations d
+  Ok (record { sender = sender; delta = record { need = need; changes = record { version = reached; retired = retired; jobs = jobs; reservations = reservations } } })
 
-abbrev pub format_from : ℕ → Result Format WireFault
-format_from n = if n == 1 then Ok One else (if n == 2 then Ok Two else Err (Version n))
+-- how jobs are said, and whether what is retired is
+abbrev pub format_from : ℕ → Result (Format × Bool) WireFault
+format_from n = if n == 1 then Ok (One, false) else (if n == 2 then Ok (Two, false) else (if n == 3 then Ok (Two, true) else Err (Version n)))
 
-abbrev pub format_in : Data → Result Format WireFault
+abbrev pub format_in : Data → Result (Format × Bool) WireFault
 format_in d = or_fault (Shape (place Whole 0)) (option_and_then as_u64 (option_and_then as_number (get (codes "format") d))) >>= format_from
 
-abbrev pub packet_names : List (List ℕ)
-packet_names = codes "format" ∷ codes "jobs" ∷ codes "need" ∷ codes "reached" ∷ codes "reservations" ∷ codes "sender" ∷ []
+abbrev pub packet_names : Bool → List (List ℕ)
+packet_names false = codes "format" ∷ codes "jobs" ∷ codes "need" ∷ codes "reached" ∷ codes "reservations" ∷ codes "sender" ∷ []
+packet_names true = codes "format" ∷ codes "jobs" ∷ codes "need" ∷ codes "reached" ∷ codes "reservations" ∷ codes "retired" ∷ codes "sender" ∷ []
 
 unfoldable pub packet_of : Data → Result PacketValue WireFault
 packet_of d = do
-  format ← format_in d
-  if has_names packet_names d then body_in format d else Err (Shape (place Whole 0))
+  said ← format_in d
+  if has_names (packet_names said.1) d then body_in said.0 said.1 d else Err (Shape (place Whole 0))
 
 -- the JSON value that the bytes are read as
 abbrev pub text_value : List ℕ → Option Data

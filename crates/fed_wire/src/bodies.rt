@@ -1,5 +1,5 @@
 //! Packets read from JSON values.
-ghost use Rattle.std.specs.Prelude.{◌≡◌};
+ghost use Rattle.std.specs.Prelude.{◌≡◌, is_some};
 ghost use Rattle.serde_json.specs.Data.{Data};
 ghost use Rattle.serde_json.specs.View.{view};
 ghost use Rattle.fed_wire.specs.Faults.{Gives};
@@ -12,6 +12,7 @@ use crate::members::{PacketMembers, packet_members};
 use crate::packets::Packet;
 use crate::readings::{sender, version};
 use crate::reservations::read_reservations;
+use crate::retired::read_retired;
 use fed_delta::Delta;
 use fed_job_json::Format;
 use fed_stamp::{SiteId, Version};
@@ -36,7 +37,7 @@ pub(crate) fn body(
     members: &PacketMembers<'_>,
     format: Format,
 ) -> Result<Packet, WireFault>
-    ensures { (d : Data) → AreMembers d members.now → Gives (body_in format d) result }
+    ensures { (d : Data) → AreMembers d members.now → Gives (body_in format (is_some members.now.retired) d) result }
 {
     let sender = sender(members.sender)?;
     let need = version(members.need, Part::Need)?;
@@ -51,28 +52,31 @@ pub(crate) fn body(
     }
     let jobs = read_jobs(alloc, members.jobs, format, &reached)?;
     let reservations = read_reservations(alloc, members.reservations, &reached)?;
-    let delta = Delta::from_parts(need, reached, jobs, reservations);
+    let retired = read_retired(alloc, members.retired, &reached, &jobs, &reservations)?;
+    let delta = Delta::from_parts(need, reached, retired, jobs, reservations);
     Ok(Packet::new(sender, delta))
 }
 
-fn format(packet: &Value) -> Result<Format, WireFault>
+// How the jobs of the packet are said, and whether what is retired is.
+fn format(packet: &Value) -> Result<(Format, bool), WireFault>
     ensures { result ≡ format_in (view packet.now) }
 {
     match packet.get("format").and_then(Value::as_u64) {
-        Some(1) => Ok(Format::One),
-        Some(2) => Ok(Format::Two),
+        Some(1) => Ok((Format::One, false)),
+        Some(2) => Ok((Format::Two, false)),
+        Some(3) => Ok((Format::Two, true)),
         Some(number) => Err(WireFault::Version(number)),
         None => Err(WireFault::Shape { place: WHOLE }),
     }
 }
 
-/// The packet of a JSON value of either format.
+/// The packet of a JSON value of any format.
 #[tactic(auto, unfolding(crate::specs::Reading::packet_of))]
 pub(crate) fn packet(alloc: Global, value: &Value) -> Result<Packet, WireFault>
     ensures { Gives (packet_of (view value.now)) result }
 {
-    let format = format(value)?;
-    let Some(members) = packet_members(value) else {
+    let (format, tells) = format(value)?;
+    let Some(members) = packet_members(value, tells) else {
         return Err(WireFault::Shape { place: WHOLE });
     };
     body(alloc, &members, format)

@@ -22,6 +22,8 @@ pub enum Part {
     Jobs,
     /// The array of reservations.
     Reservations,
+    /// The array of what the sites have retired.
+    Retired,
 }
 
 /// Where in a packet a fault lies: in a part, at the site of a version or at the element of an array, from 0.
@@ -40,7 +42,7 @@ pub enum WireFault {
     #[error("the bytes are no JSON text")]
     NotJson,
     /// 2: the text is of another format.
-    #[error("the format {0} is neither 1 nor 2")]
+    #[error("the format {0} is none of 1, 2 and 3")]
     Version(u64),
     /// 3: a value is not of the form that stands in its place.
     #[error("a value of another form at {place:?}")]

@@ -23,6 +23,8 @@ mod printing;
 pub mod readings;
 /// Reservations read from JSON values.
 pub mod reservations;
+/// What the sites have retired, read from a JSON value.
+pub mod retired;
 /// Packets as text.
 pub mod texts;
 /// Packets without their jobs, written as JSON values.

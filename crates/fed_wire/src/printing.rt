@@ -18,7 +18,7 @@ use fed_record::JobRecord;
 use fed_stamp::{JobId, SITES};
 use std::alloc::{AllocError, Global};
 
-// The index of the first byte of the first job in the text, behind `{"format":2,"jobs":[`.
+// The index of the first byte of the first job in the text, behind `{"format":2,"jobs":[` or the same with 3.
 const JOBS_AT: usize = 20;
 
 fn frame_text(alloc: Global, packet: &Packet) -> Result<Vec<u8>, AllocError>
@@ -81,7 +81,7 @@ fn put_jobs(text: &mut Vec<u8>, alloc: Global, delta: &Delta) -> Result<(), Allo
     Ok(())
 }
 
-/// The format 2 text of the packet, with no space.
+/// The text of the packet, with no space: of format 3 where something is retired in it, and else of format 2.
 pub(crate) fn packet_text(alloc: Global, packet: &Packet) -> Result<Vec<u8>, AllocError>
     ensures text { IfOk result (λ b. b.items ≡ compact_text (packet_value Two packet.now)) }
     ensures printed { IfOk result (λ b. IsPrinted (packet_value Two packet.now)) }

@@ -38,7 +38,7 @@ fn packet_in_text(alloc: Global, bytes: &[u8]) -> Result<Packet, WireFault>
     }
 }
 
-/// The packet that the text of either format is of. The bytes are accepted exactly where they are read as the JSON value
+/// The packet that the text of any format is of. The bytes are accepted exactly where they are read as the JSON value
 /// of a packet within limits; else the fault is the first in the order of the checks. `NoMemory` is answered only where
 /// an allocation failed.
 pub fn read(alloc: Global, bytes: &[u8]) -> Result<Packet, WireFault>
@@ -49,7 +49,7 @@ pub fn read(alloc: Global, bytes: &[u8]) -> Result<Packet, WireFault>
     packet_in_text(alloc, bytes)
 }
 
-/// The format 2 text of the packet, with no space.
+/// The text of the packet, with no space: of format 3 where something is retired in it, and else of format 2.
 pub fn write(alloc: Global, packet: &Packet) -> Result<Vec<u8>, NoMemory>
     ensures text { IfOk result (λ b. b.items ≡ compact_text (packet_value Two packet.now)) }
     ensures again { IfOk result (λ b. text_value b.items ≡ Some (packet_value Two packet.now)) }

@@ -8,6 +8,9 @@ mod hostile;
 /// Texts and packets where memory may be refused.
 #[cfg(test)]
 mod memory;
+/// Texts of packets that tell what is retired.
+#[cfg(test)]
+mod retired;
 /// Texts of packets, read and written.
 #[cfg(test)]
 mod texts;

@@ -1,6 +1,7 @@
 //! Texts and packets where memory may be refused. Each call answers as with ample memory, or by `NoMemory`, and then so by
 //! its number: the tests pass whichever allocation fails, which `rt try --test --fail-alloc N` does for the Nth.
 use fed_wire::{WireFault, read, write};
+use std::process::Abort;
 
 /// The text, in format 2, of a packet of site 0 that tells of one job.
 const ONE_JOB: &str =
@@ -10,10 +11,15 @@ const ONE_JOB: &str =
      \"touched\":[1,0,0,0,0,0,0,0,0,0,0,0,0,0,0,0]}],\"need\":[0,0,0,0,0,0,0,0,0,0,0,0,0,0,0,0],\
      \"reached\":[1,0,0,0,0,0,0,0,0,0,0,0,0,0,0,0],\"reservations\":[],\"sender\":0}";
 
-#[test]
-fn failed_allocations(rt: HostRuntime) {
+/// The text of a packet of site 0 that tells what two sites have retired.
+const RETIRED: &str = "{\"format\":3,\"jobs\":[],\"need\":[0,0,0,0,0,0,0,0,0,0,0,0,0,0,0,0],\
+     \"reached\":[9,4,0,0,0,0,0,0,0,0,0,0,0,0,0,0],\"reservations\":[],\
+     \"retired\":[[0,9,[[1,3],[5,5]]],[1,4,[[1,1]]]],\"sender\":0}";
+
+// The text is read and written, or memory was refused.
+fn see_both_ways(rt: &(impl Abort + AllocGlobal), text: &str) {
     let alloc = rt.alloc();
-    let packet = match read(alloc, ONE_JOB.as_bytes()) {
+    let packet = match read(alloc, text.as_bytes()) {
         Ok(packet) => packet,
         Err(fault) => {
             assert!(rt; fault == WireFault::NoMemory && fault.number() == 5);
@@ -21,6 +27,16 @@ fn failed_allocations(rt: HostRuntime) {
         }
     };
     if let Ok(written) = write(alloc, &packet) {
-        assert!(rt; written.as_slice() == ONE_JOB.as_bytes());
+        assert!(rt; written.as_slice() == text.as_bytes());
     }
+}
+
+#[test]
+fn failed_allocations(rt: HostRuntime) {
+    see_both_ways(&rt, ONE_JOB);
+}
+
+#[test]
+fn failed_allocations_where_something_is_retired(rt: HostRuntime) {
+    see_both_ways(&rt, RETIRED);
 }

@@ -71,7 +71,7 @@ fn empty_packets_are_written(rt: HostRuntime) {
 fn faults_of_empty_packets(rt: HostRuntime) {
     let cases = [
         ("\"format\":1", "\"format\":7", Some(WireFault::Version(7))),
-        ("\"format\":1", "\"format\":3", Some(WireFault::Version(3))),
+        ("\"format\":1", "\"format\":4", Some(WireFault::Version(4))),
         ("\"format\":1", "\"format\":-1", shape(Part::Whole, 0)),
         (
             "\"sender\":0",
@@ -260,7 +260,7 @@ fn any_byte_is_answered_eighth(rt: HostRuntime) {
 }
 
 // The format 2 text of a reservation.
-fn one_reservation(rt: &(impl Abort + AllocGlobal)) -> String {
+pub(crate) fn one_reservation(rt: &(impl Abort + AllocGlobal)) -> String {
     let reserved = "\"reservations\":[{\"id\":[1,0],\"window\":[[0,50,60,8],[1,0]]}]";
     let text = with(rt, EMPTY, "\"reservations\":[]", reserved);
     let zeros = "\"reached\":[0,0,0,0,0,0,0,0,0,0,0,0,0,0,0,0]";

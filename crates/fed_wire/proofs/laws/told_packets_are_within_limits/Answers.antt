@@ -1,5 +1,6 @@
 use Rattle.std.specs.List.Sorted.{IsStrictlySortedBy}
 use Rattle.std.specs.Map.{keys_of}
+use Rattle.std.specs.Ordering.{nat_cmp}
 use Rattle.std.proofs.Common.{◌≡◌, ap, subst, ◌∙◌, arith}
 use Rattle.fed_stamp.specs.Version.{IsVersion}
 use Rattle.fed_lattice.specs.Latest.{stamp_cmp}
@@ -26,5 +27,6 @@ returns c =
       jobs = subst (λ (b : BoardValue). keys_of b.jobs ≡ jobs_in (board_reads b)) changes order.jobs;
       reservations = subst (λ (b : BoardValue). keys_of b.reservations ≡ reservations_in (board_reads b)) changes order.reservations;
       tags = subst (λ (b : BoardValue). HaveSortedTags b.jobs) changes tags;
+      sites = subst (λ (b : BoardValue). IsStrictlySortedBy nat_cmp (keys_of b.retired)) changes order.retired.0;
     } in
     told_within p made
