@@ -7,3 +7,5 @@ pub mod WantOfMemory
 pub mod Lefts
 pub mod Receipts
 pub mod SameReplicas
+mod Unsettled
+mod RangesWith

@@ -4,3 +4,4 @@ pub mod State
 pub mod Outcome
 pub mod Growth
 pub mod Step
+pub mod Retiring

@@ -6,7 +6,7 @@ use Rattle.fed_stamp.specs.Version.{joined, met}
 use Rattle.fed_board.specs.Board.{board_reads}
 use Rattle.fed_model.specs.View.{View, view}
 use Rattle.fed_theory.specs.ViewSteps.{add_to_view, join_records}
-use Rattle.fed_delta.specs.Cut.{cut}
+use Rattle.fed_theory.specs.Cut.{cut}
 use Rattle.fed_wire.specs.Packet.{PacketValue}
 use Rattle.fed_model.specs.Answer.{Answer, Answer.Refuses, Answer.Replies}
 use Rattle.fed_model.specs.Packet.{missing}
@@ -66,5 +66,5 @@ pub record IsMadeFor (s : State) (to : ℕ) (p : PacketValue) : Type 0 where
 abbrev pub hearing : State → ℕ → PacketValue
 hearing s from = record {
   sender = from;
-  delta = record { need = s.heard from; changes = record { version = s.heard from; jobs = []; reservations = [] } };
+  delta = record { need = s.heard from; changes = record { version = s.heard from; retired = []; jobs = []; reservations = [] } };
 }

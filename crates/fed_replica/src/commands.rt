@@ -6,6 +6,7 @@ ghost use Rattle.fed_replica.specs.Step.{IsStep};
 use crate::grant_steps::{begin, decline, finish, grant, hand_back};
 use crate::job_steps::{alter, delete, hold, release, submit};
 use crate::reservation_steps::{cancel, reserve};
+use crate::retire_steps::retire;
 use crate::steps::Step;
 use fed_board::Board;
 use fed_record::{Command, Refusal, Who};
@@ -40,5 +41,6 @@ pub(crate) fn next_step(
         } => finish(board, here, *job, *moment, *status),
         Command::Reserve { window } => reserve(board, here, who, window),
         Command::Cancel { reservation } => cancel(board, here, who, *reservation),
+        Command::Retire { first, last } => retire(board, here, *first, *last),
     }
 }

@@ -80,7 +80,8 @@ pub(crate) fn decline(board: &Board, here: SiteId, job: JobId) -> Result<Step, R
     if progress.finished.is_some() {
         return Err(Refusal::Gone);
     }
-    if !record.is_granted_to(here) {
+    let is_granted_here = record.is_granted_to(here);
+    if !is_granted_here {
         return Err(Refusal::NotGranted);
     }
     if progress.begun.is_some() {

@@ -4,12 +4,12 @@ ghost use Rattle.fed_stamp.specs.declared.sites.TheConstants.{SITES};
 ghost use Rattle.fed_stamp.specs.Version.{is_below, joined, met};
 ghost use Rattle.fed_lattice.specs.History.{History};
 ghost use Rattle.fed_model.specs.Body.{Body};
-ghost use Rattle.fed_board.specs.Board.{board_reads};
+ghost use Rattle.fed_board.specs.Board.{board_reads, empty_board};
 ghost use Rattle.fed_model.specs.Lawful.{AreKin};
 ghost use Rattle.fed_model.specs.View.{view};
 ghost use Rattle.fed_theory.specs.ViewSteps.{join_records};
 ghost use Rattle.fed_delta.specs.Absorb.{IsFaultOf};
-ghost use Rattle.fed_delta.specs.Cut.{cut};
+ghost use Rattle.fed_theory.specs.Cut.{cut};
 ghost use Rattle.fed_model.specs.Answer.{answer_to};
 ghost use Rattle.fed_model.specs.declared.refusals.Refusal.{Refusal};
 ghost use Rattle.fed_stamp.specs.Indexes.{put};
@@ -65,7 +65,7 @@ impl Replica {
     /// The replica of a site that has no operation and has heard nothing.
     pub fn new(alloc: Global, site: SiteId) -> Replica
         ensures site { result.site ≡ site }
-        ensures board { result.board ≡ record { version = replicate SITES 0; jobs = []; reservations = [] } }
+        ensures board { result.board ≡ empty_board }
         ensures heard { result.heard ≡ replicate SITES (replicate SITES 0) }
         ensures stands { board_reads result.board ≡ view [] }
     {
@@ -209,6 +209,7 @@ impl Replica {
         let delta = Delta::from_parts(
             heard,
             heard,
+            Table::bottom(self.alloc),
             Table::bottom(self.alloc),
             Table::bottom(self.alloc),
         );

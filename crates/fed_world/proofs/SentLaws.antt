@@ -14,7 +14,7 @@ use Rattle.fed_model.specs.Body.{Body}
 use Rattle.fed_board.specs.Board.{board_reads}
 use Rattle.fed_model.specs.Lawful.{AreKin, IsLawful}
 use Rattle.fed_model.specs.View.{View, view}
-use Rattle.fed_delta.specs.Cut.{cut}
+use Rattle.fed_theory.specs.Cut.{cut}
 use Rattle.fed_job_json.specs.declared.formats.Format.TheVariants.{Two}
 use Rattle.fed_wire.specs.declared.faults.WireFault.{WireFault}
 use Rattle.fed_wire.specs.Faults.{Gives}

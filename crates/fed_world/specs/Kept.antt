@@ -3,7 +3,7 @@ use Rattle.std.specs.Prelude.{◌≡◌, ℕ, ◌<◌, ◌≤◌, List, [], ◌�
 use Rattle.fed_stamp.specs.declared.sites.TheConstants.{SITES}
 use Rattle.fed_board.specs.Board.{board_reads}
 use Rattle.fed_model.specs.View.{view}
-use Rattle.fed_delta.specs.Cut.{cut}
+use Rattle.fed_theory.specs.Cut.{cut}
 use Rattle.serde_json.specs.Written.{compact_text}
 use Rattle.fed_job_json.specs.declared.formats.Format.TheVariants.{Two}
 use Rattle.fed_wire.specs.Packet.{PacketValue, IsPacket, packet_value}

@@ -16,7 +16,7 @@ pub apply-requires-clause-named : goal.apply-requires-clause-named
 apply-requires-clause-named c =
     let step = rw c.in-Adds.is at c.in-Ok.ensures in
     let of = sources _ _ _ _ _ _ (step_answer _ _ _ _ _ step) in
-    named c.self.inside.board c.self.inside.site c.args.who.now c.args.command.now _ (clear _ of.0) of.1
+    named c.self.inside.board c.self.inside.site c.args.who.now c.args.command.now _ _ (clear _ of.0) of.2 of.1
 
 pub returns-in-Err-clause-memory : goal.returns-in-Err-clause-memory
 returns-in-Err-clause-memory c =

@@ -1,6 +1,6 @@
 use Rattle.std.proofs.Common.{ap, ◌∙◌}
 use Rattle.fed_model.specs.View.{View}
-use Rattle.fed_delta.specs.Cut.{cut}
+use Rattle.fed_theory.specs.Cut.{cut}
 use Rattle.fed_delta.specs.Delta.{DeltaValue}
 use Rattle.fed_replica.proofs.replicas.Replica.ship.Goals as goal
 
