@@ -1,10 +1,11 @@
 """A plain model of sites: each keeps the set of its operations, and all that it says is worked out from that set.
 
+An identifier that its origin has retired, by an operation of the set, is read as one of which nothing is known.
+
 The model follows the definitions and not the program: it keeps no board, merges by the union of sets, ships whole sets,
 and looks at the operations of a job anew whenever it is asked for the job.
 """
 import json
-from collections import Counter
 from typing import NamedTuple
 
 from plain_words import GREATEST_COUNTER, GREATEST_MOMENT, GREATEST_NODES
@@ -12,6 +13,7 @@ from plain_words import Unread, read_line, read_roster, read_words, words_of, wo
 
 MOST_JOBS = 10_000
 MOST_RESERVATIONS = 1_000
+MOST_RANGES = 1_000
 KINDS = "uos"
 FIELDS = ("owner", "name", "priority", "nodes", "limit", "account")
 OPERATIONS = {"decline": "handback"}  # of commands that add an operation of another name
@@ -141,7 +143,11 @@ class Site:
         self.heard = [[0] * 16 for _ in range(16)]
         self.known_jobs = {}
         self.version = [0] * 16
-        self.counts = Counter()
+        # the stamps that are retired, and of each site the counter of its last Retire
+        self.retired = set()
+        self.retirements = [0] * 16
+        # the jobs and the reservations of this site that are not retired
+        self.named = {"submit": set(), "reserve": set()}
 
     def copy(self):
         """A site that holds the same."""
@@ -151,7 +157,9 @@ class Site:
         other.heard = [list(version) for version in self.heard]
         other.known_jobs = dict(self.known_jobs)
         other.version = list(self.version)
-        other.counts = Counter(self.counts)
+        other.retired = set(self.retired)
+        other.retirements = list(self.retirements)
+        other.named = {kind: set(stamps) for kind, stamps in self.named.items()}
         return other
 
     # The set
@@ -162,7 +170,14 @@ class Site:
         self.subjects.setdefault(operation.subject, []).append(operation)
         counter, site = operation.stamp
         self.version[site] = max(self.version[site], counter)
-        self.counts[operation.kind, site] += 1
+        if operation.kind == "retire":
+            self.retirements[site] = max(self.retirements[site], counter)
+            stamps = {(it, site) for it in range(operation.values["first"], operation.values["last"] + 1)}
+            self.retired |= stamps
+            for named in self.named.values():
+                named -= stamps
+        elif operation.kind in self.named and site == self.number and operation.stamp not in self.retired:
+            self.named[operation.kind].add(operation.stamp)
 
     def make(self, kind, subject, values):
         """Makes a new operation of this site; a subject None means the operation itself."""
@@ -171,9 +186,10 @@ class Site:
         return stamp
 
     def job(self, stamp):
-        """The job of this stamp, or None. What was worked out is kept until the job has another operation."""
+        """The job of this stamp, or None where there is none or it is retired. What was worked out is kept until the job has
+        another operation."""
         operations = self.subjects.get(stamp)
-        if not operations or operations[0].kind in ("reserve", "cancel"):
+        if not operations or stamp in self.retired or operations[0].kind in ("reserve", "cancel", "retire"):
             return None
         job = self.known_jobs.get(stamp)
         if job is None or len(job.operations) != len(operations):
@@ -187,9 +203,9 @@ class Site:
         return [job for job in found if job]
 
     def last_of_reservation(self, stamp):
-        """The greatest operation of a reservation, or None where there is no such reservation."""
+        """The greatest operation of a reservation, or None where there is no such reservation or it is retired."""
         operations = self.subjects.get(stamp, [])
-        if not any(it.kind == "reserve" for it in operations):
+        if stamp in self.retired or not any(it.kind == "reserve" for it in operations):
             return None
         return max(operations, key=lambda it: it.stamp)
 
@@ -198,9 +214,19 @@ class Site:
         found = (self.last_of_reservation(stamp) for stamp in sorted(self.subjects))
         return [last for last in found if last]
 
-    def count(self, kind):
-        """How many operations of a kind this site has made."""
-        return self.counts[kind, self.number]
+    def ranges(self, site):
+        """The ranges of the counters that are retired at a site, of which none touches another."""
+        return ranges_of(counter for counter, its in self.retired if its == site)
+
+    def is_settled(self, job):
+        """Whether a job of this site is finished, or was deleted before it began and no other site has its grant: it never
+        begins any more."""
+        return bool(job.finished) or job.deleted and not job.begun and job.granted() in (None, self.number)
+
+    def is_unsettled(self, stamp):
+        """Whether this is a job of this site that isn't settled, or a reservation that isn't cancelled."""
+        job, last = self.job(stamp), self.last_of_reservation(stamp)
+        return job is not None and not self.is_settled(job) or last is not None and last.kind == "reserve"
 
     # Names
 
@@ -220,7 +246,9 @@ class Site:
         """The numbers of all refusals that apply to a command. What needs a job that isn't known doesn't apply."""
         found = {15} if max(self.version) >= GREATEST_COUNTER and self.would_add(command) else set()
         if command.kind == "submit":
-            return found | ({14} if self.count("submit") >= MOST_JOBS else set())
+            return found | ({14} if len(self.named["submit"]) >= MOST_JOBS else set())
+        if command.kind == "retire":
+            return found | self.refusals_of_retire(command.values["first"], command.values["last"])
         if command.kind in ("reserve", "cancel"):
             return found | self.refusals_of_reservations(who, command)
         job = self.job(command.subject)
@@ -249,9 +277,18 @@ class Site:
         start, end, nodes = (command.values[it] for it in ("start", "end", "nodes"))
         if end <= start or end > GREATEST_MOMENT or not 1 <= nodes <= GREATEST_NODES:
             found.add(12)
-        if self.count("reserve") >= MOST_RESERVATIONS:
+        if len(self.named["reserve"]) >= MOST_RESERVATIONS:
             found.add(14)
         return found
+
+    def refusals_of_retire(self, first, last):
+        """Those of `retire`. A range is of counters that this site has given."""
+        if not 1 <= first <= last <= self.version[self.number]:
+            return {17}
+        stamps = [(counter, self.number) for counter in range(first, last + 1)]
+        found = {17} if any(self.is_unsettled(stamp) for stamp in stamps) else set()
+        counters = [counter for counter, site in self.retired.union(stamps) if site == self.number]
+        return found | ({14} if len(ranges_of(counters)) > MOST_RANGES else set())
 
     def refusals_of_jobs(self, who, command, job):
         """Those of the commands that name a job which is known."""
@@ -290,6 +327,9 @@ class Site:
             return Answer(f"refused {min(found)}\n")
         if command.kind in ("submit", "reserve"):
             return Answer(self.name(self.begin_subject(who, command)) + "\n", True)
+        if command.kind == "retire":
+            self.make("retire", None, command.values)
+            return Answer("done\n", True)
         adds = self.would_add(command)
         if adds:
             self.make(OPERATIONS.get(command.kind, command.kind), command.subject, self.values_of(command))
@@ -353,14 +393,22 @@ class Site:
         """The text of a packet that this site has just made: what changed beyond the packet's need."""
         jobs = [job for job in self.jobs() if not is_at_most(job.version, packet.need)]
         reservations = [last for last in self.reservations() if not covers(packet.need, last.stamp)]
-        return packet_text(packet.sender, packet.need, packet.reached, jobs, reservations) + "\n"
+        retired = self.retired_beyond(packet.need)
+        return packet_text(packet.sender, packet.need, packet.reached, jobs, reservations, retired) + "\n"
+
+    def retired_beyond(self, need):
+        """Of each site that has retired something beyond what is needed: its number, the counter of its last Retire, and all
+        ranges that are retired there."""
+        sites = [site for site, counter in enumerate(self.retirements) if counter > need[site]]
+        return [[site, self.retirements[site], self.ranges(site)] for site in sites]
 
     def compacted(self):
         """What a compacted journal of this site has behind its header: a packet that needs nothing and has all, and for each
         site that was heard of the line of a packet that tells nothing but what was heard."""
-        texts = [packet_text(self.number, [0] * 16, self.version, self.jobs(), self.reservations())]
+        zeros = [0] * 16
+        known = packet_text(self.number, zeros, self.version, self.jobs(), self.reservations(), self.retired_beyond(zeros))
         heard = [(sender, version) for sender, version in enumerate(self.heard) if any(version)]
-        return texts + ["take " + packet_text(sender, version, version, [], []) for sender, version in heard]
+        return [known] + ["take " + packet_text(sender, version, version, [], [], []) for sender, version in heard]
 
     # Listings
 
@@ -506,6 +554,17 @@ class Site:
         return answer._replace(text=self.text_of(answer.packet)) if answer.packet else answer
 
 
+def ranges_of(counters):
+    """The ranges that counters make, ascending, of which none touches another."""
+    ranges = []
+    for counter in sorted(counters):
+        if ranges and ranges[-1][1] + 1 == counter:
+            ranges[-1][1] = counter
+        else:
+            ranges.append([counter, counter])
+    return ranges
+
+
 def use_at(second, spans):
     """How many nodes are used at a second."""
     return sum(nodes for start, end, nodes in spans if start <= second < end)
@@ -557,8 +616,8 @@ def reservation_value(last):
     return {"id": list(last.subject), "window": [window, list(last.stamp)]}
 
 
-def packet_text(sender, need, reached, jobs, reservations):
-    """The text of a packet, without a line feed."""
+def packet_text(sender, need, reached, jobs, reservations, retired):
+    """The text of a packet, without a line feed. It is of format 3 where there is a range to tell."""
     value = {
         "format": 2,
         "jobs": [job_value(job) for job in jobs],
@@ -567,6 +626,8 @@ def packet_text(sender, need, reached, jobs, reservations):
         "reservations": [reservation_value(last) for last in reservations],
         "sender": sender,
     }
+    if retired:
+        value |= {"format": 3, "retired": retired}
     return json.dumps(value, separators=(",", ":"), sort_keys=True)
 
 

@@ -10,7 +10,7 @@ SITE_NAME = re.compile(r"[A-Za-z][A-Za-z0-9-]{0,14}")
 NODES_OF_SITE = re.compile(r"(.*?):([0-9]+)")
 DIGITS = re.compile(r"[0-9]+")
 READABLE = re.compile(rb"[ -~\t]*")
-VERBS = ("grant", "begin", "finish", "handback", "decline", "ship", "take", "plan")
+VERBS = ("grant", "begin", "finish", "handback", "decline", "retire", "ship", "take", "plan")
 ROLES = {"operator": "operator", "admin": "admin"}
 GREATEST_COUNTER = 1_000_000_000
 GREATEST_MOMENT = 1_000_000_000_000
@@ -289,8 +289,18 @@ def read_scheduled(roster, here, verb, words):
     return Command(verb, job, values)
 
 
+def read_retire(words):
+    """`retire FIRST LAST`, from the second word on."""
+    if len(words) != 2:
+        raise Unread
+    first, last = (wanted(read_number(word)) for word in words)
+    return Command("retire", None, {"first": first, "last": last})
+
+
 def read_verb(roster, here, verb, words):
     """What a line says whose first word is a verb."""
+    if verb == "retire":
+        return Said("acts", Who("scheduler", "user"), (read_retire(words),))
     if verb in ("grant", "begin", "finish", "handback", "decline"):
         return Said("acts", Who("scheduler", "user"), (read_scheduled(roster, here, verb, words),))
     if len(words) != 1:

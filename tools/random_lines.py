@@ -61,6 +61,14 @@ UNREADABLE = (
     "decline",
     "decline 1 argonne",
     "decline/admin qsub",
+    "retire",
+    "retire 1",
+    "retire 1 2 3",
+    "retire 1.argonne 2",
+    "retire -1 2",
+    "retire 1 18446744073709551616",
+    "retire qsub",
+    "retire/operator qsub",
     "ship",
     "ship nowhere",
     "take",
@@ -107,6 +115,7 @@ class RandomLines:
             + [self.finish] * 5
             + [self.hand_back] * 5
             + [self.decline] * 4
+            + [self.retire] * 4
             + [self.plan] * 5
             + [self.seen] * 1
             + [self.tell_roster] * 2
@@ -267,6 +276,20 @@ class RandomLines:
     def decline(self, site):
         """`decline`, mostly of a job that was deleted"""
         return self.of_granted(site, ("", "T"), "decline", "")
+
+    def retire(self, site):
+        """`retire`, mostly of what is settled"""
+        own = site.version[site.number]
+        settled = [job.stamp[0] for job in site.jobs(40) if job.stamp[1] == site.number and site.is_settled(job)]
+        if not settled or self.pick.random() < 0.2:
+            first = self.pick.randrange(own + 3)
+            return f"retire {first} {max(0, first + self.pick.randrange(-1, 9))}"
+        first = last = self.pick.choice(settled)
+        while first > 1 and not site.is_unsettled((first - 1, site.number)) and self.pick.random() < 0.8:
+            first -= 1
+        while last < own and not site.is_unsettled((last + 1, site.number)) and self.pick.random() < 0.8:
+            last += 1
+        return f"retire {first:0{self.pick.choice((1, 1, 12))}d} {last}"
 
     def plan(self, site):
         """`plan`"""

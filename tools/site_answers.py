@@ -106,6 +106,10 @@ def words(tally, sites):
     says("oz/operator reserve argonne 60 50 8", 1, "refused 12 (BadWindow): the reservation's end, 50, is not above its start, 60")
     says("oz/operator reserve argonne 50 60 0", 1, "refused 12 (BadWindow): 0 is no number of nodes from 1 to 1000000")
     says("oz/operator cancel 77", 1, "refused 13 (UnknownReservation): 77.argonne is no reservation that argonne knows, or is cancelled")
+    says("retire 0 2", 1, "refused 17 (NotSettled): the range begins at 0, and the identifiers of argonne begin at 1")
+    says("retire 1 3", 1, "refused 17 (NotSettled): 3.argonne can still begin")
+    says("retire 1 2", 0, "")
+    says("decline 2", 1, "refused 1 (UnknownJob): 2.argonne is no job that argonne knows")
     says("ann qmove 1", 1, "usage 1 (UnknownUtility): qmove is no utility: there are qsub, qalter, qhold, qrls, qdel and qstat")
     says("ann qsub -h -z 1", 1, "usage 2 (UnknownOption): qsub has no option -z")
     says("ann qsub -N a -l", 1, "usage 3 (MissingArgument): -l lacks its argument")
@@ -178,7 +182,7 @@ def strangers(tally, sites):
     sites.at("sparks", ["ann", "qsub"])
     status, output, errors = sites.run("at", "argonne", "take", text=sites.at("sparks", ["ship", "argonne"]).encode())
     tally.same("foreign", (status, output, errors.startswith("nettlebeam: foreign")), (1, "foreign\n", True))
-    for text, output in ([b"{}", "unread 3 whole 0\n"], [b"", "unread 1\n"], [b'{"format":3}\n', "unread 2 3\n"], [first + b"\n", "cannot be read\n"]):
+    for text, output in ([b"{}", "unread 3 whole 0\n"], [b"", "unread 1\n"], [b'{"format":4}\n', "unread 2 4\n"], [first + b"\n", "cannot be read\n"]):
         status, found, errors = sites.run("at", "argonne", "take", text=text)
         tally.same(f"take of {text[:20]}", (status, found, errors.count("\n")), (1, output, 1))
 

@@ -18,8 +18,9 @@ use Rattle.fed_easy.specs.declared.queues.QueuedJob.{QueuedJob}
 use Rattle.fed_easy.specs.Queue.{in_order}
 use Rattle.fed_easy.specs.QueueLaws.{queue_total, exact_queue}
 use Rattle.fed_easy.specs.QueueOrder.{queue_cmp}
-use Rattle.fed_easy.proofs.BoardEntries.{entry_waiting, key_has}
-use Rattle.fed_easy.proofs.Ordered.{all_has, all_from_has, less_other, same_lists, strict_from_sort}
+use Rattle.fed_board.proofs.FoundEntries.{all_has, key_has}
+use Rattle.fed_easy.proofs.BoardEntries.{entry_waiting}
+use Rattle.fed_easy.proofs.Ordered.{all_from_has, less_other, same_lists, strict_from_sort}
 use Rattle.fed_easy.proofs.QueueMembers.{has_job, kept_from, order_adds, order_from, order_sorted, queued_id}
 
 -- ---- jobs of different identifiers differ

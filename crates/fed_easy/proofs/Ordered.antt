@@ -9,11 +9,7 @@ use Rattle.std.proofs.lemmas.Cmp.{tied_itself}
 use Rattle.std.proofs.lemmas.Map.Keys.{apart_from_distinct, sorted_from_all_adjacent, sorted_head, sorted_tail}
 use Rattle.fed_lattice.specs.Sets.{Has, Includes}
 use Rattle.fed_tags.specs.TagLaws.{sorted_empty}
-
-pub all_has : {A : Type 0} (P : A → Type 0) (xs : List A) (x : A) → AllByRecursion P xs → Has xs x → P x
-all_has P [] x all h = elim h [ ]
-all_has P (y ∷ xs) x all (inl e) = subst P e all.0
-all_has P (y ∷ xs) x all (inr h) = all_has P xs x all.1 h
+use Rattle.fed_board.proofs.FoundEntries.{all_has}
 
 pub all_from_has : {A : Type 0} (P : A → Type 0) (xs : List A) → ((x : A) → Has xs x → P x) → AllByRecursion P xs
 all_from_has P [] h = tt

@@ -18,7 +18,8 @@ use Rattle.fed_easy.specs.Use.{last_end, use_at}
 use Rattle.fed_easy.proofs.BoardEntries.{entry_waiting}
 use Rattle.fed_easy.proofs.ByExtra.{by_extra_nodes}
 use Rattle.fed_easy.proofs.Falls.{falls_site}
-use Rattle.fed_easy.proofs.Ordered.{all_from_has, all_has}
+use Rattle.fed_board.proofs.FoundEntries.{all_has}
+use Rattle.fed_easy.proofs.Ordered.{all_from_has}
 use Rattle.fed_easy.proofs.QueueMembers.{order_from}
 use Rattle.fed_easy.proofs.Started.{idle_bookings}
 

@@ -9,7 +9,7 @@ use Rattle.fed_lattice.specs.Sets.{Has}
 use Rattle.fed_model.specs.Reservation.{ReservationView}
 use Rattle.fed_model.specs.Identifiers.{reservations_in}
 use Rattle.fed_board.specs.Board.{BoardValue, board_reads}
-use Rattle.fed_easy.proofs.BoardEntries.{entry_found}
+use Rattle.fed_board.proofs.FoundEntries.{entry_found}
 use Rattle.fed_looks.specs.Reserved.{lines_of_reservations, reservation_line}
 
 -- the lines of entries

@@ -21,7 +21,7 @@ use Rattle.fed_model.specs.Letter.{letter}
 use Rattle.fed_board.specs.Board.{BoardValue, no_operation, board_reads}
 use Rattle.fed_model.specs.Identifiers.{jobs_in}
 use Rattle.fed_model.specs.View.{View}
-use Rattle.fed_easy.proofs.BoardEntries.{entry_found}
+use Rattle.fed_board.proofs.FoundEntries.{entry_found}
 use Rattle.fed_json.specs.Numbers.{integer_value}
 use Rattle.fed_json.specs.Objects.{Named, members_from}
 use Rattle.fed_qstat.specs.JobText.{sites_of}

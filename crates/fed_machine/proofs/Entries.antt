@@ -9,7 +9,8 @@ use Rattle.fed_record.specs.JobRecord.{JobRecordValue, job_reads}
 use Rattle.fed_model.specs.Reservation.{ReservationView}
 use Rattle.fed_board.specs.Board.{BoardValue, no_operation, board_reads}
 use Rattle.fed_model.specs.Identifiers.{jobs_in, reservations_in}
-use Rattle.fed_easy.proofs.BoardEntries.{entry_found, ids_read}
+use Rattle.fed_board.proofs.FoundEntries.{entry_found}
+use Rattle.fed_easy.proofs.BoardEntries.{ids_read}
 use Rattle.fed_machine.specs.declared.machines.Reserved.{Reserved}
 use Rattle.fed_machine.specs.declared.machines.RunningJob.{RunningJob}
 use Rattle.fed_machine.specs.Machine.{in_order, reserved_cmp, reserved_from, reserved_in, run_cmp, run_from, runs_in}

@@ -12,9 +12,10 @@ use Rattle.fed_lattice.proofs.FilterLaws.{Has-filter}
 use Rattle.fed_model.specs.declared.beginnings.Beginning.{Beginning}
 use Rattle.fed_model.specs.Body.{Body, Body.OfJob, JobBody.Begin, is_of_job, of_job}
 use Rattle.fed_model.specs.Field.{begin_in, field}
-use Rattle.fed_model.specs.JobView.{JobView}
+use Rattle.fed_model.specs.JobView.{JobView, job_view, unknown}
 use Rattle.fed_theory.proofs.FoundLaws.{field_found}
 use Rattle.fed_model.specs.Identifiers.{jobs_in}
+use Rattle.fed_model.specs.Retired.{is_retired}
 use Rattle.fed_model.specs.View.{view}
 use Rattle.fed_model.specs.Ranges.{IsBeginning, IsInRange}
 use Rattle.fed_model.specs.Limits.{IsWithinLimits}
@@ -87,9 +88,16 @@ module _ (ops : History Body) (within : IsWithinLimits ops) where
       let found = field_found begin_in (of_job job ops) begun e in
       begin_said found.0 begun.1 (within.values (begun.0, found.0) (Has-filter (is_of_job job) ops (begun.0, found.0) found.1).0) found.2
 
+  begun_read : (job : StampValue) → IfSome ((view ops).job job).stages.begun HasBeginning
+  begun_read job = go (is_retired ops job)
+    where
+      go : (retired : Bool) → IfSome (if retired then unknown else job_view (of_job job ops)).stages.begun HasBeginning
+      go true = tt
+      go false = begun_within job (field begin_in (of_job job ops)) refl
+
   entries_run : (site : ℕ) → AllByRecursion MayRun (running_in site (view ops))
   entries_run site = kept_all (λ job. running_of site ((view ops).job job)) MayRun (jobs_in (view ops))
-      (λ job. job_runs site ((view ops).job job) (begun_within job (field begin_in (of_job job ops)) refl))
+      (λ job. job_runs site ((view ops).job job) (begun_read job))
 
   sited : HasSites ops
   sited e h = let at = (within.stamps e h).1 in omega arith

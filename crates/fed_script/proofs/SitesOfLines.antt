@@ -10,7 +10,7 @@ use Rattle.fed_words.specs.Fault.{OrFault}
 use Rattle.fed_words.specs.Request.{Asked, acts as acts_of, list as list_of, request_in}
 use Rattle.fed_words.proofs.SiteNames.{found_in_range}
 use Rattle.fed_script.specs.declared.verbs.Verb.{Verb}
-use Rattle.fed_script.specs.declared.verbs.Verb.TheVariants.{Grant, Begin, Finish, HandBack, Decline, Ship, Take, Plan}
+use Rattle.fed_script.specs.declared.verbs.Verb.TheVariants.{Grant, Begin, Finish, HandBack, Decline, Retire, Ship, Take, Plan}
 use Rattle.fed_script.specs.Asker.{scheduler, who_in}
 use Rattle.fed_script.specs.Forms.{◌>>=◌, one_word, two_words}
 use Rattle.fed_script.specs.Line.{Line, skips, acts, ships, takes, plans, compares, act, asked_at, cancels, later_line, later_line_in, reserves, scheduled, site_line, user_line, verb_line, words_in}
@@ -67,6 +67,7 @@ module _ (roster : List (List ℕ × ℕ)) (here : ℕ) (h : here < length roste
   verb_sites made Finish words line e = act_sites (length roster) here scheduler (scheduled roster here Finish words) line h e
   verb_sites made HandBack words line e = act_sites (length roster) here scheduler (scheduled roster here HandBack words) line h e
   verb_sites made Decline words line e = act_sites (length roster) here scheduler (scheduled roster here Decline words) line h e
+  verb_sites made Retire words line e = act_sites (length roster) here scheduler (scheduled roster here Retire words) line h e
 
   asked_line : (who : Who) (words : List (List ℕ)) (line : Line) → Some (asked_at here who (request_in roster here words)) ≡ Some line → HasSites (length roster) line
   asked_line who words line e =

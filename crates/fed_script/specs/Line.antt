@@ -9,7 +9,7 @@ use Rattle.fed_words.specs.declared.faults.UsageFault.{UsageFault}
 use Rattle.fed_words.specs.Fault.{OrFault}
 use Rattle.fed_words.specs.Request.{Asked, acts as acts_of, list as list_of, request_in}
 use Rattle.fed_script.specs.declared.verbs.Verb.{Verb}
-use Rattle.fed_script.specs.declared.verbs.Verb.TheVariants.{Grant, Begin, Finish, HandBack, Decline, Ship, Take, Plan}
+use Rattle.fed_script.specs.declared.verbs.Verb.TheVariants.{Grant, Begin, Finish, HandBack, Decline, Retire, Ship, Take, Plan}
 use Rattle.fed_script.specs.Asker.{scheduler, who_in}
 use Rattle.fed_script.specs.Forms.{Form, ◌>>=◌, one, two, three, four}
 use Rattle.fed_script.specs.Lines.{is_readable, words_of}
@@ -56,6 +56,7 @@ module _ (roster : List (List ℕ × ℕ)) (here : ℕ) where
   scheduled Finish = three (identifier roster here) moment status Command.Finish
   scheduled HandBack = one (identifier roster here) Command.HandBack
   scheduled Decline = one (identifier roster here) Command.Decline
+  scheduled Retire = two number number Command.Retire
   scheduled verb = λ words. None
 
   abbrev pub reserves : Form Command

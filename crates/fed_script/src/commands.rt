@@ -2,7 +2,7 @@
 ghost use Rattle.std.specs.Prelude.{◌≡◌};
 ghost use Rattle.fed_words.specs.Item.{words_of};
 ghost use Rattle.fed_script.specs.Line.{cancels, reserves, scheduled};
-ghost use Rattle.fed_script.specs.declared.verbs.Verb.TheVariants.{Grant, Begin, Finish, HandBack, Decline};
+ghost use Rattle.fed_script.specs.declared.verbs.Verb.TheVariants.{Grant, Begin, Finish, HandBack, Decline, Retire};
 
 use crate::forms::{four_words, one_word, three_words, two_words};
 use crate::values::{read_id, read_moment, read_status};
@@ -62,6 +62,16 @@ fn read_decline(roster: &Roster, here: SiteId, words: &[&str]) -> Option<Command
     Some(Command::Decline { job })
 }
 
+/// `retire FIRST LAST`: two counters of the site, which stand without the name of a site
+fn read_retire(roster: &Roster, here: SiteId, words: &[&str]) -> Option<Command>
+    ensures { result ≡ scheduled roster.now here Retire (words_of words.now) }
+{
+    let (first, last) = two_words(words)?;
+    let first = read_number(first)?;
+    let last = read_number(last)?;
+    Some(Command::Retire { first, last })
+}
+
 /// What a site's own scheduler asks by the words behind a verb, or `None` where they can't be read, or where the verb
 /// asks for something else than a command.
 pub(crate) fn read_scheduled(
@@ -78,6 +88,7 @@ pub(crate) fn read_scheduled(
         Verb::Finish => read_finish(roster, here, words),
         Verb::HandBack => read_hand_back(roster, here, words),
         Verb::Decline => read_decline(roster, here, words),
+        Verb::Retire => read_retire(roster, here, words),
         Verb::Ship | Verb::Take | Verb::Plan => None,
     }
 }

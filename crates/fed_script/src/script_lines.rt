@@ -161,14 +161,15 @@ fn read_verb(
         Verb::Ship => Ok(read_ship(roster, site, words)),
         Verb::Take => Ok(read_take(made, site, words)),
         Verb::Plan => Ok(read_plan(site, words)),
-        Verb::Grant | Verb::Begin | Verb::Finish | Verb::HandBack | Verb::Decline => {
-            act(
-                alloc,
-                site,
-                scheduler(),
-                read_scheduled(roster, site, verb, words),
-            )
-        }
+        Verb::Grant | Verb::Begin | Verb::Finish | Verb::HandBack | Verb::Decline | Verb::Retire =>
+            {
+                act(
+                    alloc,
+                    site,
+                    scheduler(),
+                    read_scheduled(roster, site, verb, words),
+                )
+            }
     }
 }
 

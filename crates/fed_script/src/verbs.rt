@@ -15,6 +15,8 @@ pub enum Verb {
     HandBack,
     /// `decline JOB`
     Decline,
+    /// `retire FIRST LAST`
+    Retire,
     /// `ship SITE`
     Ship,
     /// `take PACKET`
@@ -34,6 +36,7 @@ impl Verb {
             b"finish" => Some(Verb::Finish),
             b"handback" => Some(Verb::HandBack),
             b"decline" => Some(Verb::Decline),
+            b"retire" => Some(Verb::Retire),
             b"ship" => Some(Verb::Ship),
             b"take" => Some(Verb::Take),
             b"plan" => Some(Verb::Plan),

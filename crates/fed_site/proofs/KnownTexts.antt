@@ -15,7 +15,7 @@ use Rattle.fed_model.specs.View.{View, view}
 use Rattle.fed_theory.proofs.Cuts.{AreCounted, cut_lawful, cut_nothing}
 use Rattle.fed_theory.proofs.HeardLaws.{met_below}
 use Rattle.fed_theory.proofs.VersionGrowth.{zeros_below}
-use Rattle.fed_delta.specs.Cut.{cut}
+use Rattle.fed_theory.specs.Cut.{cut}
 use Rattle.fed_delta.proofs.CutLaws.{cut_whole}
 use Rattle.fed_job_json.specs.declared.formats.Format.TheVariants.{Two}
 use Rattle.fed_wire.specs.Packet.{PacketValue, IsPacket}

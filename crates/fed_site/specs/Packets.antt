@@ -10,10 +10,10 @@ use Rattle.fed_model.specs.Body.{Body}
 use Rattle.fed_board.specs.Board.{board_reads}
 use Rattle.fed_model.specs.Lawful.{IsLawful}
 use Rattle.fed_model.specs.View.{view}
-use Rattle.fed_delta.specs.Cut.{cut}
+use Rattle.fed_theory.specs.Cut.{cut}
 use Rattle.fed_job_json.specs.declared.formats.Format.TheVariants.{Two}
 use Rattle.fed_wire.specs.declared.faults.Part.{Part}
-use Rattle.fed_wire.specs.declared.faults.Part.TheVariants.{Whole, Sender, Need, Reached, Jobs, Reservations}
+use Rattle.fed_wire.specs.declared.faults.Part.TheVariants.{Whole, Sender, Need, Reached, Jobs, Reservations, Retired}
 use Rattle.fed_wire.specs.declared.faults.Place.{Place}
 use Rattle.fed_wire.specs.declared.faults.WireFault.{WireFault}
 use Rattle.fed_wire.specs.declared.faults.WireFault.TheVariants.{NotJson, Version, Shape, Range, NoMemory}
@@ -29,6 +29,7 @@ part_text Need = codes "need"
 part_text Reached = codes "reached"
 part_text Jobs = codes "jobs"
 part_text Reservations = codes "reservations"
+part_text Retired = codes "retired"
 
 abbrev pub place_text : Place → List ℕ
 place_text place = part_text place.part ++ codes " " ++ decimal place.index

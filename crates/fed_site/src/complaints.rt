@@ -61,9 +61,14 @@ fn why_refused(refusal: Refusal) -> &'static str {
         Refusal::UnknownReservation => {
             "this site does not know the reservation, or it is cancelled"
         }
-        Refusal::SiteFull => "the site has as many jobs or reservations as it may have",
+        Refusal::SiteFull => {
+            "the site has as many jobs, reservations or ranges of retired identifiers as it may have"
+        }
         Refusal::ClockFull => "the numbers that it needs are used up",
         Refusal::NoMemory => "there was no memory for it",
+        Refusal::NotSettled => {
+            "the range is none of this site, or a job or a reservation in it is not settled"
+        }
     }
 }
 
@@ -89,7 +94,7 @@ fn write_unread<W: fmt::Write>(f: &mut fmt::Formatter<W>, fault: WireFault) -> f
         WireFault::Version(version) => {
             write!(
                 f,
-                "unread 2 {version}: the packet is of format {version}, not of 1 or 2"
+                "unread 2 {version}: the packet is of format {version}, not of 1, 2 or 3"
             )
         }
         WireFault::Shape { place } => {

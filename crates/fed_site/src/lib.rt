@@ -16,6 +16,8 @@ mod knowing;
 pub mod laws;
 /// What the user is told of words that ask nothing.
 mod misused;
+/// What the user is told where identifiers aren't retired.
+mod not_retired;
 /// What the user is told of rosters that don't go on with the site's.
 mod other_rosters;
 /// What a line says at a site.

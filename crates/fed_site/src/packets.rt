@@ -34,6 +34,7 @@ pub(crate) fn part_text(part: Part) -> &'static str
         Part::Reached => "reached",
         Part::Jobs => "jobs",
         Part::Reservations => "reservations",
+        Part::Retired => "retired",
     }
 }
 

@@ -1,6 +1,7 @@
 //! What the user is told of a command that is refused: what was asked of what, and why it isn't done.
 
 use crate::complaints::RefusedCommand;
+use crate::not_retired::{not_settled_text, too_many_ranges_text};
 use crate::site::Site;
 use fed_qstat::{hold_letters, identifier_text, site_text};
 use fed_record::{Command, JobRecord, MAX_MOMENT, Refusal, Role, Who, Window};
@@ -26,6 +27,7 @@ fn name_of(refusal: Refusal) -> &'static str {
         Refusal::SiteFull => "SiteFull",
         Refusal::ClockFull => "ClockFull",
         Refusal::NoMemory => "NoMemory",
+        Refusal::NotSettled => "NotSettled",
     }
 }
 
@@ -66,7 +68,10 @@ fn job_of(command: &Command) -> Option<JobId> {
         | Command::Decline { job }
         | Command::Begin { job, .. }
         | Command::Finish { job, .. } => Some(*job),
-        Command::Submit { .. } | Command::Reserve { .. } | Command::Cancel { .. } => None,
+        Command::Submit { .. }
+        | Command::Reserve { .. }
+        | Command::Cancel { .. }
+        | Command::Retire { .. } => None,
     }
 }
 
@@ -214,6 +219,10 @@ fn why_of_site(alloc: Global, site: &Site, refused: &RefusedCommand) -> Result<S
         (Refusal::BadWindow, Command::Reserve { window }) => why_no_window(alloc, window),
         (Refusal::SiteFull, Command::Reserve { .. }) => {
             format!(in alloc; "{here} has made as many reservations as it may")
+        }
+        (Refusal::SiteFull, Command::Retire { .. }) => too_many_ranges_text(alloc, site),
+        (Refusal::NotSettled, Command::Retire { first, last }) => {
+            not_settled_text(alloc, site, *first, *last)
         }
         (Refusal::SiteFull, _) => {
             format!(in alloc; "{here} has as many jobs as may be submitted there")

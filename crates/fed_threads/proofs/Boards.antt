@@ -17,7 +17,7 @@ use Rattle.fed_model.specs.Lawful.{IsLawful}
 use Rattle.fed_model.specs.View.{View, view}
 use Rattle.fed_theory.specs.ViewSteps.{add_to_view, join_records}
 use Rattle.fed_theory.proofs.ViewLaws.{view_push}
-use Rattle.fed_delta.specs.Cut.{cut}
+use Rattle.fed_theory.specs.Cut.{cut}
 use Rattle.fed_delta.proofs.CutLaws.{stands_absorbed}
 use Rattle.fed_wire.specs.Packet.{PacketValue}
 use Rattle.fed_model.specs.Answer.{Answer, Answer.Refuses, Answer.Replies, answer, answer_to}

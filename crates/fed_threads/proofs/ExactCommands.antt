@@ -17,7 +17,7 @@ use Rattle.fed_model.specs.contracts.askers.RolePartialEq.TheImpl.{ghosts as rol
 use Rattle.fed_model.specs.contracts.askers.WhoPartialEq.TheImpl.{ghosts as askers}
 use Rattle.fed_model.specs.declared.values.Changes.{Changes}
 use Rattle.fed_model.specs.declared.commands.Command.{Command}
-use Rattle.fed_model.specs.declared.commands.Command.TheVariants.{Submit, Alter, Hold, Release, Delete, Grant, HandBack, Decline, Begin, Finish, Reserve, Cancel}
+use Rattle.fed_model.specs.declared.commands.Command.TheVariants.{Submit, Alter, Hold, Release, Delete, Grant, HandBack, Decline, Begin, Finish, Reserve, Cancel, Retire}
 use Rattle.fed_model.specs.declared.holds.HoldKinds.{HoldKinds}
 use Rattle.fed_model.specs.contracts.holds.HoldKindsPartialEq.TheImpl.{ghosts as kinds}
 use Rattle.fed_model.specs.contracts.values.JobValuesPartialEq.TheImpl.{ghosts as values}
@@ -80,6 +80,7 @@ same (Begin j m) (Begin k n) e = made _ (tells_pairs _ nat_eq tells_stamps tells
 same (Finish j m s) (Finish k n t) e = made _ (tells_pairs _ _ tells_stamps (tells_pairs nat_eq nat_eq tells_numbers tells_numbers)) (λ p. Finish p.0 p.1.0 p.1.1) (j, (m, s)) (k, (n, t)) e
 same (Reserve v) (Reserve w) e = made _ tells_windows Reserve v w e
 same (Cancel j) (Cancel k) e = made _ tells_stamps Cancel j k e
+same (Retire f l) (Retire g k) e = made _ (tells_pairs nat_eq nat_eq tells_numbers tells_numbers) (λ p. Retire p.0 p.1) (f, l) (g, k) e
 same _ _ e = apart e
 
 pub itself : {X : Type 0} (eq : X → X → Bool) → TellsApart eq → (a : X) → eq a a ≡ true
@@ -98,6 +99,7 @@ own (Begin j m) = itself _ (tells_pairs _ nat_eq tells_stamps tells_numbers) (j,
 own (Finish j m s) = itself _ (tells_pairs _ _ tells_stamps (tells_pairs nat_eq nat_eq tells_numbers tells_numbers)) (j, (m, s))
 own (Reserve v) = itself _ tells_windows v
 own (Cancel j) = itself _ tells_stamps j
+own (Retire f l) = itself _ (tells_pairs nat_eq nat_eq tells_numbers tells_numbers) (f, l)
 
 pub tells_commands : TellsApart commands.eq
 tells_commands a b = (same a b, λ e. subst (λ c. commands.eq a c ≡ true) e (own a))

@@ -1,6 +1,6 @@
 -- No job begins at two sites.
-use Rattle.std.specs.Prelude.{Some}
-use Rattle.std.proofs.Common.{◌≡◌, ◌≤◌, ℕ, List, length, true, sym, subst, ap, ◌∙◌}
+use Rattle.std.specs.Prelude.{Some, if◌then◌else◌}
+use Rattle.std.proofs.Common.{◌≡◌, ◌≤◌, ℕ, Bool, List, length, true, false, sym, subst, ap, ◌∙◌}
 use Rattle.fed_stamp.specs.Stamp.{StampValue}
 use Rattle.fed_stamp.proofs.StampLaws.{same_stamp-Decides}
 use Rattle.fed_lattice.specs.Sets.{Has}
@@ -9,6 +9,8 @@ use Rattle.fed_lattice.proofs.FilterLaws.{Has-filter}
 use Rattle.fed_model.specs.declared.beginnings.Beginning.{Beginning}
 use Rattle.fed_model.specs.Body.{Body, Body.OfJob, JobBody.Begin, is_of_job, of_job}
 use Rattle.fed_model.specs.Field.{begin_in}
+use Rattle.fed_model.specs.JobView.{job_view, unknown}
+use Rattle.fed_model.specs.Retired.{is_retired}
 use Rattle.fed_theory.proofs.FoundLaws.{field_found}
 use Rattle.fed_model.specs.View.{view}
 use Rattle.fed_replica.specs.State.{State}
@@ -29,9 +31,14 @@ begin_of ops job t _ b h of e = cc
 
 begun_of : (ops : History Body) (job : StampValue) (begun : StampValue × Beginning) → ((view ops).job job).stages.begun ≡ Some begun → Has ops (begun.0, OfJob job (Begin begun.1))
 begun_of ops job begun e =
-    let found = field_found begin_in (of_job job ops) begun e in
+    let found = field_found begin_in (of_job job ops) begun (read (is_retired ops job) e) in
     let kept = Has-filter (is_of_job job) ops (begun.0, found.0) found.1 in
     begin_of ops job begun.0 found.0 begun.1 kept.0 kept.1 found.2
+  where
+    -- of a job that is retired nothing is read
+    read : (retired : Bool) → (if retired then unknown else job_view (of_job job ops)).stages.begun ≡ Some begun → (job_view (of_job job ops)).stages.begun ≡ Some begun
+    read true f = cc
+    read false f = f
 
 module _ (whole : List (List ℕ × ℕ)) (few : length whole ≤ 16) (rosters : ℕ → List (List ℕ × ℕ)) (turns : List Turn) (may : MayTurns whole (beginning rosters) turns) (job : StampValue) where
   pub one_begin : (i j : ℕ) (one other : StampValue × Beginning) → (((after_turns (beginning rosters) turns).site i).view.job job).stages.begun ≡ Some one

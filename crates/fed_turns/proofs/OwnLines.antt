@@ -20,7 +20,7 @@ use Rattle.fed_words.specs.Request.{Asked, acts as acts_of, list as list_of, req
 use Rattle.fed_words.proofs.Given.{when_some}
 use Rattle.fed_words.proofs.SiteNames.{found_in_range}
 use Rattle.fed_script.specs.declared.verbs.Verb.{Verb}
-use Rattle.fed_script.specs.declared.verbs.Verb.TheVariants.{Grant, Begin, Finish, HandBack, Decline, Ship, Take, Plan}
+use Rattle.fed_script.specs.declared.verbs.Verb.TheVariants.{Grant, Begin, Finish, HandBack, Decline, Retire, Ship, Take, Plan}
 use Rattle.fed_script.specs.Asker.{is_slash, role_in, scheduler, user_in, who_in}
 use Rattle.fed_script.specs.Forms.{Reads, ◌>>=◌, one, one_word, two, two_words, three, three_words, four_words}
 use Rattle.fed_script.specs.Line.{Line, skips, acts, lists, misuses, ships, takes, plans, act, asked_at, cancels, own_line, reserves, scheduled, user_line, verb_line}
@@ -106,6 +106,7 @@ module _ (roster : List (List ℕ × ℕ)) (few : length roster ≤ 16) (here : 
   scheduled_ranged Finish words command e = of_three (IsRanged scheduler) command (identifier roster here) moment status Command.Finish (λ u v w a b c f g k. (in_range 0 MAX_MOMENT v b g, in_range 0 MAX_STATUS w c k)) words e
   scheduled_ranged HandBack words command e = of_one (IsRanged scheduler) command (identifier roster here) Command.HandBack (λ w a f. tt) words e
   scheduled_ranged Decline words command e = of_one (IsRanged scheduler) command (identifier roster here) Command.Decline (λ w a f. tt) words e
+  scheduled_ranged Retire words command e = of_two (IsRanged scheduler) command number number Command.Retire (λ v w a b f g. tt) words e
   scheduled_ranged Ship words command e = cc
   scheduled_ranged Take words command e = cc
   scheduled_ranged Plan words command e = cc
@@ -152,6 +153,7 @@ module _ (roster : List (List ℕ × ℕ)) (few : length roster ≤ 16) (here : 
     verb_is Finish words e = act_is scheduler (scheduled roster here Finish words) (scheduled_ranged Finish words) e
     verb_is HandBack words e = act_is scheduler (scheduled roster here HandBack words) (scheduled_ranged HandBack words) e
     verb_is Decline words e = act_is scheduler (scheduled roster here Decline words) (scheduled_ranged Decline words) e
+    verb_is Retire words e = act_is scheduler (scheduled roster here Retire words) (scheduled_ranged Retire words) e
 
     asked_is : (who : Who) (asked : OrFault Asked) → IsRangedAsked who asked → Some (asked_at here who asked) ≡ Some line → P line
     asked_is who (Ok (acts_of commands)) ranged e = let same : acts here who commands ≡ line = cc in subst P same (asks who commands ranged)

@@ -15,7 +15,7 @@ use Rattle.fed_board.specs.Board.{board_reads}
 use Rattle.fed_model.specs.Lawful.{AreKin}
 use Rattle.fed_model.specs.View.{View, view}
 use Rattle.fed_theory.specs.ViewSteps.{join_records}
-use Rattle.fed_delta.specs.Cut.{cut}
+use Rattle.fed_theory.specs.Cut.{cut}
 use Rattle.fed_delta.proofs.CutLaws.{stands_absorbed}
 use Rattle.fed_job_json.specs.declared.formats.Format.TheVariants.{Two}
 use Rattle.fed_wire.specs.Packet.{PacketValue}

@@ -35,7 +35,7 @@ fn beginning(rt: &impl Abort, ask: Ask, moment: u64) -> Beginning {
 
 /// Adds an operation whose stamp is new and whose job or reservation is there; once more where memory is refused.
 pub(crate) fn act(rt: &impl Abort, board: &mut Board, at: Stamp, operation: &Operation) {
-    assert!(rt; !board.version().covers(at) && board.has_named(operation));
+    assert!(rt; !board.version().covers(at) && board.has_named(at, operation));
     if board.apply(at, operation).is_err() {
         board.apply(at, operation).expect(rt, "memory");
     }

@@ -17,7 +17,7 @@ fn moment(second: u64) -> Moment {
 /// Adds an operation of site 0, whose counter is new and whose job or reservation is there.
 fn act(rt: &impl Abort, board: &mut Board, counter: u64, operation: &Operation) {
     let at = stamp(counter, 0);
-    assert!(rt; !board.version().covers(at) && board.has_named(operation));
+    assert!(rt; !board.version().covers(at) && board.has_named(at, operation));
     board.apply(at, operation).expect(rt, "memory");
 }
 

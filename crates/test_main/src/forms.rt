@@ -138,6 +138,40 @@ refused 12
 refused 12
 ";
 
+// Ranges of counters, at the ends of what may be retired.
+const RETIRED: &str = "\
+roster argonne:8
+argonne ann qsub
+argonne ann qdel 1
+argonne retire 0 1
+argonne retire 2 1
+argonne retire 1 3
+argonne retire 1 18446744073709551615
+argonne retire 18446744073709551615 18446744073709551615
+argonne retire 00000000000000000001 002
+argonne ann qdel 1
+argonne retire 1 3
+argonne ann qsub
+argonne retire 4 4
+argonne retire 5 5
+";
+
+const RETIRED_ANSWERS: &str = "\
+1.argonne
+done
+refused 17
+refused 17
+refused 17
+refused 17
+refused 17
+done
+refused 1
+done
+5.argonne
+done
+refused 17
+";
+
 #[test]
 fn white_space_and_comments(rt: HostRuntime) {
     assert!(rt; is_answered(rt.alloc(), FORMS, FORM_ANSWERS));
@@ -156,6 +190,11 @@ fn a_job_is_run(rt: HostRuntime) {
 #[test]
 fn reservations_are_made(rt: HostRuntime) {
     assert!(rt; is_answered(rt.alloc(), RESERVATIONS, RESERVATION_ANSWERS));
+}
+
+#[test]
+fn identifiers_are_retired(rt: HostRuntime) {
+    assert!(rt; is_answered(rt.alloc(), RETIRED, RETIRED_ANSWERS));
 }
 
 #[test]

@@ -13,10 +13,11 @@ fn script(alloc: Global) -> Result<String, AllocError> {
         script.push_str("argonne ann qsub\n")?;
     }
     script.push_str("argonne ann qdel 1\nargonne ann qsub\nargonne ann qstat 10000\n")?;
+    script.push_str("argonne retire 1 1\nargonne ann qsub\nargonne ann qsub\n")?;
     Ok(script)
 }
 
-// A job that was deleted is one of the site's jobs still.
+// A job that was deleted is one of the site's jobs still, until it is retired.
 const LAST_ANSWERS: &str = "\
 9999.argonne
 10000.argonne
@@ -24,6 +25,9 @@ refused 14
 done
 refused 14
 10000.argonne      STDIN            ann              Q      0        1      3600 -
+done
+10003.argonne
+refused 14
 ";
 
 #[test]

@@ -90,10 +90,14 @@ fn random_verb(alloc: Global, numbers: &mut Numbers) -> Result<String, AllocErro
     let job = numbers.pick(&HERE);
     let other = numbers.pick(&NAMES);
     let moment = numbers.below(60);
-    match numbers.below(6) {
+    let first = numbers.below(6);
+    let last = numbers.below(12);
+    match numbers.below(8) {
         0 | 1 => format!(in alloc; "grant {job} {other}"),
         2 | 3 => format!(in alloc; "begin {job} {moment}"),
         4 => format!(in alloc; "finish {job} {moment} 0"),
+        5 => format!(in alloc; "decline {job}"),
+        6 => format!(in alloc; "retire {first} {last}"),
         _ => format!(in alloc; "handback {job}"),
     }
 }

@@ -51,6 +51,9 @@ argonne finish 1 1000000000001 0
 argonne finish 1 0 256
 argonne finish 1 0 -1
 argonne finish 1 0 x
+argonne retire x 1
+argonne retire 1 -1
+argonne retire 1 18446744073709551616
 argonne plan 1000000000001
 argonne oz/operator reserve argonne -1 60 8
 argonne oz/operator reserve argonne 50 6e1 8
@@ -78,10 +81,13 @@ argonne grant qsub
 argonne begin qsub
 argonne finish qsub
 argonne handback qsub
+argonne decline qsub
+argonne retire qsub
 argonne ship qsub
 argonne take qsub
 argonne plan qsub
 argonne grant/admin qsub
+argonne retire/operator qstat
 argonne ship/operator qstat
 argonne plan/operator qstat";
 
@@ -96,6 +102,8 @@ argonne grant 1. argonne
 argonne grant 1 fermi
 argonne begin 1.argonne.lemont 0
 argonne handback 1@argonne
+argonne decline 1@argonne
+argonne retire 1.argonne 1
 argonne oz/operator cancel x
 argonne oz/operator cancel 1.fermi
 argonne oz/operator reserve fermi 50 60 8
@@ -118,6 +126,11 @@ argonne finish 1 0
 argonne finish 1 0 0 0
 argonne handback
 argonne handback 1 1
+argonne decline
+argonne decline 1 1
+argonne retire
+argonne retire 1
+argonne retire 1 1 1
 argonne ship
 argonne ship lemont lemont
 argonne take

@@ -52,7 +52,7 @@ fn complaints_tell_why(rt: HostRuntime) {
     );
     assert!(rt; complaint(&rt, &mut argonne, b"take nothing") == unread(WireFault::NotJson));
     assert!(rt;
-        complaint(&rt, &mut argonne, b"take {\"format\":3}") == unread(WireFault::Version(3))
+        complaint(&rt, &mut argonne, b"take {\"format\":4}") == unread(WireFault::Version(4))
     );
     let whole = Place {
         part: Part::Whole,
@@ -107,8 +107,8 @@ fn complaints_have_words(rt: HostRuntime) {
             "unread 1: the text is no JSON",
         ),
         (
-            Complaint::Unread(WireFault::Version(3)),
-            "unread 2 3: the packet is of format 3, not of 1 or 2",
+            Complaint::Unread(WireFault::Version(4)),
+            "unread 2 4: the packet is of format 4, not of 1, 2 or 3",
         ),
         (
             Complaint::Unread(WireFault::Shape { place }),

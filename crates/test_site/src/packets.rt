@@ -25,8 +25,8 @@ fn packets_are_answered(rt: HostRuntime) {
         says(
             &rt,
             &mut again,
-            b"take {\"format\":3}",
-            b"unread 2 3\n",
+            b"take {\"format\":4}",
+            b"unread 2 4\n",
             false
         )
     );

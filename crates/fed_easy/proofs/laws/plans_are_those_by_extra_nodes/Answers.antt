@@ -1,4 +1,4 @@
-use Rattle.std.proofs.Common.{All, subst}
+use Rattle.std.proofs.Common.{All}
 use Rattle.fed_board.specs.Board.{board_reads}
 use Rattle.fed_easy.specs.Promises.{IsSized}
 use Rattle.fed_easy.specs.Queue.{waiting_in}

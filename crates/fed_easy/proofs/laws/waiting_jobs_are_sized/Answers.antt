@@ -1,5 +1,5 @@
 use Rattle.std.specs.List.{AllByRecursion, filter_map}
-use Rattle.std.proofs.Common.{◌≡◌, All, refl, subst, sym, ◌∙◌}
+use Rattle.std.proofs.Common.{All, refl, subst}
 use Rattle.std.proofs.lemmas.List.Elements.{All-from_recursion}
 use Rattle.fed_easy.specs.Promises.{IsSized}
 use Rattle.fed_easy.proofs.BoardEntries.{entry_waiting, waiting_done}

@@ -16,3 +16,8 @@ pub returns-in-decline : goal.returns-in-decline
 returns-in-decline c =
     let word : c.args.word.now ≡ codes "decline" = text_from_reads c.args.word.now (codes "decline") (search rules) (search rules) in
     rw word refl
+
+pub returns-in-retire : goal.returns-in-retire
+returns-in-retire c =
+    let word : c.args.word.now ≡ codes "retire" = text_from_reads c.args.word.now (codes "retire") (search rules) (search rules) in
+    rw word refl
