@@ -1,6 +1,8 @@
-"""Scenes of what a service keeps and refuses: seals and senders of packets, accounting, the spool, lost memory, draining."""
+"""Scenes of what a service keeps and refuses: seals and senders of packets, accounting, retiring, the spool, lost memory,
+draining."""
 import collections
 import glob
+import grp
 import json
 import os
 import random
@@ -211,6 +213,11 @@ def accounts(tally, federation):
     tally.same("what was moved away isn't recorded again", [json.loads(line)["id"] for line in books(site)], [last])
 
 
+def names_in(index):
+    """The identifiers in the list of what is recorded."""
+    return sorted(line.split()[0].decode() for line in index.splitlines())
+
+
 def cut_accounts(tally, federation):
     """Accounting that is cut at each byte of what it writes is completed, and nothing of it stands there twice."""
     folder = f"{federation.folder}/books"
@@ -233,8 +240,17 @@ def cut_accounts(tally, federation):
         again.record(lines)
         again.record(lines)
         wrong += sorted(read(month).decode().splitlines()) != sorted(lines)
-        wrong += sorted(read(f"{folder}/recorded").split()) != sorted(index.split())
+        wrong += names_in(read(f"{folder}/recorded")) != names_in(index)
     tally.same(f"after each of {len(cuts)} cuts each is there once", wrong, 0)
+    begun, old = int(time.time()), b"1.argonne\n2.argonne\n"
+    write(f"{folder}/recorded", old)
+    again = accounting.Accounting(folder, "argonne")
+    tally.same("a list without moments is known", again.record(lines), 0)
+    tally.same("and is of this moment", min(again.known.values()) >= begun, True)
+    tally.same("so all were recorded by now", again.recorded_before(jobs, time.time()), {job["id"] for job in jobs})
+    tally.same("and none before", again.recorded_before(jobs, begun - 1), set())
+    tally.same("each moment is kept", accounting.Accounting(folder, "argonne").record(lines), 0)
+    tally.same("which takes no further line", names_in(read(f"{folder}/recorded")[len(old) :]), [f"{number}.argonne" for number in range(1, 4)])
     other = [dict(jobs[0], id="9.lemont"), dict(jobs[0], id="8.argonne", grant={"site": "lemont", "term": 1}), dict(jobs[0], deleted=False)]
     tally.same("what may still change isn't recorded", accounting.Accounting(folder, "argonne").record([json.dumps(it) for it in other]), 0)
     mine = dict(jobs[0], id="9.lemont", grant={"site": "argonne", "term": 1})
@@ -255,6 +271,53 @@ def declines(tally, federation):
     tally.true("the log tells it", f"{gone}: it was deleted before it began, so its grant is declined: done" in lemont.logged())
     tally.same("the other grant is open", lemont.jobs(kept)[kept]["grant"]["site"], "lemont")
     until(lambda: sorted(json.loads(line)["id"] for line in books(argonne)) == [gone], 20, "argonne records it")
+
+
+def retired_lines(site):
+    """The lines of the journal that retire something."""
+    texts = (line.split(" ", 2)[-1] for line in read(f"{site.home}/site/journal").decode().splitlines())
+    return [text for text in texts if text.startswith("retire ")]
+
+
+def retires(tally, federation):
+    """What was recorded a while ago is retired, in ranges that leave out what stays, and once."""
+    federation.has_links = True
+    group = grp.getgrgid(os.getgid()).gr_name
+    often = "[house]\nevery = 0.5\nretire = 2\n"
+    argonne, lemont = federation.make("argonne:4", "lemont:2", jobs="run = no", more=often, operators=group)
+    jobs = [argonne.submit("true\n") for _ in range(6)]
+    reserved = argonne.ask("reserve", "argonne", "100", "200", "1", role="operator").answer.decode().strip()
+    jobs.append(argonne.submit("true\n"))
+    mine = lemont.submit("true\n")
+    until(lambda: len(lemont.jobs()) == len(argonne.jobs()) == 8, 20, "both know all jobs")
+    for job in (jobs[0], jobs[1], jobs[3], jobs[6]):
+        argonne.ask("qdel", job)
+    argonne.ask("grant", jobs[5], "argonne")
+    argonne.ask("begin", jobs[5], "0")
+    running = jobs[5].split(".")[0]
+    tally.same("a job that runs isn't retired", argonne.said("retire", running, running), "refused 17\n")
+    argonne.ask("finish", jobs[5], "50", "0")
+    left = sorted([jobs[2], jobs[4], mine])
+    until(lambda: sorted(argonne.jobs()) == left, 30, "argonne has retired what is gone")
+    until(lambda: sorted(lemont.jobs()) == left, 30, "lemont knows nothing of it any more")
+    tally.true("the log tells it", "jobs of argonne that are recorded are retired" in argonne.logged())
+    tally.same("each is recorded", sorted(json.loads(line)["id"] for line in books(argonne)), sorted({*jobs, mine} - {*left}))
+    tally.true("the reservation stands", argonne.said("reservations").startswith(f"{reserved} "))
+    kept = retired_lines(argonne)
+    ranges = [tuple(map(int, text.split()[1:])) for text in kept]
+    stays = {int(name.split(".")[0]) for name in (jobs[2], jobs[4], reserved)}
+    tally.same("no range has what stays", [it for it in ranges if any(it[0] <= counter <= it[1] for counter in stays)], [])
+    argonne.kill()
+    argonne.start()
+    argonne.wait_ready()
+    time.sleep(2)
+    tally.same("what is retired isn't retired again", retired_lines(argonne), kept)
+    tally.same("nor recorded again", len(books(argonne)), 5)
+    tally.same("lemont has retired nothing of argonne's", retired_lines(lemont), [])
+    argonne.ask("qdel", jobs[2])
+    until(lambda: jobs[2] not in argonne.jobs(), 30, "another is retired")
+    tally.same("by one line more", len(retired_lines(argonne)), len(kept) + 1)
+    tally.same("it is unknown from then on", argonne.ask("qdel", jobs[2]).answer, b"refused 1\n")
 
 
 def spools(tally, federation):
@@ -393,4 +456,4 @@ def words(tally, federation):
     tally.same("looks are whole", counts, {"argonne": 1})
 
 
-SCENES = {it.__name__: it for it in (seals, senders, accounts, cut_accounts, declines, spools, drains, losses, leftovers, refusals, words)}
+SCENES = {it.__name__: it for it in (seals, senders, accounts, cut_accounts, declines, retires, spools, drains, losses, leftovers, refusals, words)}

@@ -52,7 +52,7 @@ def users(tally, federation):
     tally.same("another user's job is that user's", other("qsub", given="true\n")[:2], (0, "2.argonne\n"))
     tally.same("its owner", site.jobs("2")["2.argonne"]["owner"], OTHER)
     tally.same("no other user is named", other("qask", "root", "qdel", job)[:2], (2, ""))
-    for words in ("grant 1 argonne", "begin 1 0", "finish 1 0 0", "handback 1", "ship argonne", "take x", "script 1.argonne argonne"):
+    for words in ("grant 1 argonne", "begin 1 0", "finish 1 0 0", "handback 1", "decline 1", "retire 1 1", "ship argonne", "take x", "script 1.argonne argonne"):
         tally.same(f"another user can't ask {words}", other(*words.split())[:2], (2, ""))
     for words in ("jobs qsub", "why qsub -h", "why qsub 5", "seen qsub", "machine qsub", "chart qsub", "reservations qsub", "plan qsub"):
         tally.same(f"{words} submits nothing", other(*words.split())[:2], (2, ""))

@@ -1,7 +1,8 @@
 """Accounting: a line of JSON for each job that is gone, as the site tells it, in a file for each month; no job twice.
 
     accounting/2026-11.jsonl    the jobs that were recorded in that month
-    accounting/recorded         the identifiers of all of them, so that files of months may be moved away
+    accounting/recorded         the identifiers of all of them, so that files of months may be moved away, each with the second in
+                                which it was written there
 
 A job is recorded once nothing can change how it went. A finished one is so at every site. One that was deleted before it
 began is so at its origin, where no other site has its grant, and at the site that has its grant: the origin alone grants, and
@@ -13,6 +14,7 @@ found when it is read again, the piece of a line at a file's end is cut, and wha
 from __future__ import annotations
 
 import json
+import math
 import os
 import time
 from typing import Any, Dict, List, Sequence, Set, Tuple
@@ -64,6 +66,17 @@ def append(path: str, data: bytes) -> None:
         os.close(descriptor)
 
 
+def index_lines(names: Sequence[str], moment: int) -> bytes:
+    """The lines of these identifiers in the list of all."""
+    return "".join(f"{name} {moment}\n" for name in names).encode("ascii")
+
+
+def read_index(lines: Sequence[bytes]) -> Dict[str, int]:
+    """The identifiers of a list, each with its moment. Lines of older lists have none, and count where another has it."""
+    rows = [line.decode("ascii", "replace").split() for line in lines]
+    return {row[0]: int(row[1]) for row in rows if len(row) == 2 and row[1].isdigit()}
+
+
 def name_in(line: bytes) -> str:
     """The identifier in a line of a month; nothing where the line is none of this program."""
     try:
@@ -79,7 +92,7 @@ class Accounting:
     def __init__(self, folder: str, here: str):
         self.folder = folder
         self.here = here
-        self.known: Set[str] = set()
+        self.known: Dict[str, int] = {}
         self.is_open = False
 
     def path(self, name: str) -> str:
@@ -89,16 +102,18 @@ class Accounting:
     def open(self) -> None:
         """Reads what is recorded, and completes the list of identifiers."""
         os.makedirs(self.folder, mode=0o700, exist_ok=True)
-        index = {line.decode("ascii", "replace") for line in whole_lines(self.path(INDEX))}
-        found: List[str] = []
+        listed = whole_lines(self.path(INDEX))
+        index, moment = read_index(listed), int(time.time())
+        # a list that an older program wrote tells no moments
+        found = [line.decode("ascii", "replace").partition(" ")[0] for line in listed]
         for name in sorted(os.listdir(self.folder)):
             if name.endswith(SUFFIX):
                 found += [name_in(line) for line in whole_lines(self.path(name))]
-        missing = [name for name in found if name and name not in index]
+        missing = list(dict.fromkeys(name for name in found if name and name not in index))
         if missing:
-            append(self.path(INDEX), "".join(f"{name}\n" for name in missing).encode("ascii"))
+            append(self.path(INDEX), index_lines(missing, moment))
         sync(self.folder)
-        self.known = index | set(missing)
+        self.known = {**index, **dict.fromkeys(missing, moment)}
         self.is_open = True
 
     def record(self, lines: Sequence[str]) -> int:
@@ -114,7 +129,13 @@ class Accounting:
             self.is_open = False  # where one of these fails, what is there is read again
             append(self.path(time.strftime("%Y-%m") + SUFFIX), "".join(f"{line}\n" for _, line in new).encode("ascii"))
             sync(self.folder)
-            append(self.path(INDEX), "".join(f"{name}\n" for name, _ in new).encode("ascii"))
-            self.known.update(name for name, _ in new)
+            names, moment = [name for name, _ in new], int(time.time())
+            append(self.path(INDEX), index_lines(names, moment))
+            self.known.update(dict.fromkeys(names, moment))
             self.is_open = True
         return len(new)
+
+    def recorded_before(self, jobs: Sequence[Dict[str, Any]], moment: float) -> Set[str]:
+        """The identifiers of those jobs that are settled, and were recorded at the moment or before."""
+        names = [job["id"] for job in jobs if is_settled(job, self.here)]
+        return {name for name in names if self.known.get(name, math.inf) <= moment}

@@ -73,6 +73,7 @@ class HouseKeys:
     every: float = 86_400.0
     accounting: str = "{spool}/accounting"
     keep: float = 86_400.0
+    retire: float = 604_800.0
     compact: float = 86_400.0
     compact_bytes: int = 1024 * 1024
     history: str = ""

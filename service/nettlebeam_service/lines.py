@@ -16,7 +16,7 @@ RESERVED = ("grant", "begin", "finish", "handback", "ship", "take", "plan", "ret
 COMPLAINTS = ("refused ", "usage ", "gap ", "unread ", "foreign", "forgotten", "cannot be read", "no plan", "other roster")
 # their answers tell of a change of the queue or of the machine: behind a user, and by themselves
 CHANGING_OF_USERS = ("qsub", "qalter", "qhold", "qrls", "qdel", "reserve", "cancel")
-CHANGING_OF_SITES = ("grant", "begin", "finish", "handback", "decline", "take", "roster")
+CHANGING_OF_SITES = ("grant", "begin", "finish", "handback", "decline", "retire", "take", "roster")
 CHANGING = CHANGING_OF_USERS + CHANGING_OF_SITES
 
 USER = re.compile(r"[A-Za-z][A-Za-z0-9_.-]{0,14}\Z")
@@ -47,6 +47,7 @@ FOR_THE_SITE = forms(
     finish=f" {JOB} {NUMBER} [0-9]{{1,3}}",
     handback=f" {JOB}",
     decline=f" {JOB}",
+    retire=f" {NUMBER} {NUMBER}",
     ship=f" {NAME}",
     roster=f"(?: {NAME}:{NUMBER}){{1,16}}",
 )
