@@ -322,13 +322,14 @@ def retires(tally, federation):
 
 def spools(tally, federation):
     """The files of jobs that are gone are removed after a while, and those of others stay."""
-    (site,) = federation.make("argonne:4", more="[house]\nevery = 0.5\nkeep = 3\n")
+    (site,) = federation.make("argonne:4", more="[house]\nevery = 0.5\nkeep = 600\n")
     done, held = site.submit("true\n"), site.submit("true\n", "-h")
     running = site.submit("sleep 60\n")
     deleted = site.submit("true\n", "-h")
     site.ask("qdel", deleted)
     site.finished(done)
     until(lambda: site.jobs(running)[running]["letter"] == "R", 20, "a job runs")
+    until(lambda: len(books(site)) == 2, 20, "what is gone is recorded")
     time.sleep(1)
     tally.true("its files stay for a while", os.path.exists(f"{site.home}/spool/runs/{done}/exit"))
     tally.true("so does the script of one that was deleted", os.path.exists(f"{site.home}/spool/scripts/{deleted}"))
@@ -336,6 +337,10 @@ def spools(tally, federation):
     def kept(name):
         return os.path.exists(f"{site.home}/spool/scripts/{name}") or os.path.exists(f"{site.home}/spool/runs/{name}")
 
+    site.kill(signal.SIGTERM)
+    rewrite(site, "keep = 600", "keep = 1")
+    site.start()
+    site.wait_ready()
     until(lambda: not kept(done) and not kept(deleted), 20, "then they are gone")
     tally.same("those of others stay", [kept(held), kept(running)], [True, True])
     site.ask("qdel", running)
