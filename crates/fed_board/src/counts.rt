@@ -1,6 +1,7 @@
 //! How many identifiers each site gave.
-ghost use Rattle.std.specs.Prelude.{◌≡◌, ◌<◌, ℕ, slice_index, OnOk, OnErr};
-ghost use Rattle.std.specs.Map.{keys_of};
+ghost use Rattle.std.specs.Prelude.{◌≡◌, ◌<◌, ℕ, None, slice_index, OnOk, OnErr};
+ghost use Rattle.std.specs.BTreeMap.{is_at};
+ghost use Rattle.std.specs.Map.{keys_of, lookup};
 ghost use Rattle.fed_lattice.specs.Latest.{stamp_cmp};
 ghost use Rattle.fed_lattice.specs.Table.{applied_table};
 ghost use Rattle.fed_board.specs.Counts.{AreCounts, AreCounting};
@@ -38,8 +39,28 @@ pub(crate) fn count_more<V: Causal + Drop>(
     more
 }
 
+/// Changes the value at the identifier by the operation with the stamp `at`. The identifier that the operation makes is
+/// new, and isn't looked for. On an error the table is as before.
+fn apply_to<V: Causal<Change = Operation> + Drop>(
+    table: &mut Table<Stamp, V>,
+    id: Stamp,
+    at: Stamp,
+    operation: &Operation,
+) -> Result<(), NoMemory>
+    requires { id ≡ at → lookup (is_at (stamp_cmp id)) table.old ≡ None }
+    ensures applied { OnOk result
+        (table.new ≡ applied_table stamp_cmp V.bottom V.applied table.old at (id, operation.now)) }
+    ensures unchanged { OnErr result (table.new ≡ table.old) }
+{
+    if id == at {
+        table.apply_absent(id, at, operation)
+    } else {
+        table.apply_at(id, at, operation)
+    }
+}
+
 /// Changes the value at the identifier by the operation with the stamp `at`, and counts the identifier where it is
-/// new. On an error both are as before.
+/// new: the one that the operation makes is. On an error both are as before.
 pub(crate) fn change_at<V: Causal<Change = Operation> + Drop>(
     table: &mut Table<Stamp, V>,
     counts: &mut [u64; SITES],
@@ -47,7 +68,8 @@ pub(crate) fn change_at<V: Causal<Change = Operation> + Drop>(
     at: Stamp,
     operation: &Operation,
 ) -> Result<(), NoMemory>
-    requires { AreCounts counts.old (keys_of table.old) }
+    requires counts { AreCounts counts.old (keys_of table.old) }
+    requires new { id ≡ at → lookup (is_at (stamp_cmp id)) table.old ≡ None }
     ensures applied { OnOk result
         (table.new ≡ applied_table stamp_cmp V.bottom V.applied table.old at (id, operation.now)) }
     ensures counted { OnOk result (AreCounts counts.new (keys_of table.new)) }
@@ -55,7 +77,7 @@ pub(crate) fn change_at<V: Causal<Change = Operation> + Drop>(
     ensures uncounted { OnErr result (counts.new ≡ counts.old) }
 {
     let before = table.len();
-    table.apply_at(id, at, operation)?;
+    apply_to(table, id, at, operation)?;
     if table.len() > before {
         counts[id.site().get() as usize] += 1;
     }

@@ -157,6 +157,17 @@ impl<T: Exact> TagSet<T> {
         Ok(found)
     }
 
+    // Makes room for the first elements of a set at once. Without elements it takes none, so that there is no error.
+    fn make_room(&mut self, elements: usize) -> Result<(), NoMemory>
+        ensures unchanged { self.new ≡ self.old }
+        ensures nothing { elements ≡ 0 → IsOk result }
+    {
+        if elements > 0 && self.groups.is_empty() {
+            self.groups.try_reserve_exact(elements)?;
+        }
+        Ok(())
+    }
+
     /// Adds the elements with the stamp. On an error, which is want of memory, the set is as before. Where there is
     /// nothing to add there is none.
     pub fn add(&mut self, elements: &[T], at: Stamp) -> Result<(), NoMemory>
@@ -165,6 +176,7 @@ impl<T: Exact> TagSet<T> {
         ensures nothing { elements.now ≡ [] → IsOk result }
     {
         let fresh = self.find_lacking(elements, at)?;
+        self.make_room(fresh.len())?;
         for element in &fresh {
             if let Err(refused) = self.insert(*element, at) {
                 self.remove_stamped(&fresh, at);
