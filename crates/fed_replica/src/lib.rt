@@ -21,8 +21,8 @@ pub mod permissions;
 pub mod replicas;
 /// What is done where a reservation is asked for.
 pub mod reservation_steps;
-/// What is done where the site's own scheduler asks to retire identifiers.
-mod retire_steps;
+/// What is done where the site's own scheduler asks to retire identifiers, and which jobs may be retired.
+pub mod retire_steps;
 /// What a site does next where it doesn't refuse a command.
 pub mod steps;
 

@@ -37,8 +37,8 @@ fn ranges_with(board: &Board, here: SiteId, first: u64, last: u64) -> u64
     }
 }
 
-/// Whether the identifier is one of the site's in the range.
-fn is_named(id: Stamp, here: SiteId, first: u64, last: u64) -> bool
+/// Whether the identifier is one of the site's, and its counter in the range.
+pub fn is_named(id: Stamp, here: SiteId, first: u64, last: u64) -> bool
     ensures { result ≡ is_id_named here first last id }
 {
     id.site() == here && first <= id.counter() && id.counter() <= last
@@ -46,7 +46,7 @@ fn is_named(id: Stamp, here: SiteId, first: u64, last: u64) -> bool
 
 /// Whether the job will never begin any more, and doesn't run: it is finished, or it was deleted before it began, and no
 /// other site than this, its origin, has its grant.
-fn is_settled(job: &JobRecord, here: SiteId) -> bool
+pub fn is_settled(job: &JobRecord, here: SiteId) -> bool
     ensures { result ≡ is_job_settled here (job_reads job.now) }
 {
     let progress = job.progress();

@@ -5,26 +5,9 @@ use fed_board::Board;
 use fed_model::capacities::MAX_RANGES;
 use fed_qstat::{identifier_text, site_text};
 use fed_record::JobRecord;
-use fed_stamp::{JobId, SiteId, Stamp};
+use fed_replica::retire_steps::{is_named, is_settled};
+use fed_stamp::{JobId, Stamp};
 use std::alloc::{AllocError, Global};
-
-/// Whether the identifier is the site's own, and its counter one of the range.
-fn is_asked(here: SiteId, first: u64, last: u64, id: Stamp) -> bool {
-    id.site() == here && first <= id.counter() && id.counter() <= last
-}
-
-/// Whether a job of the site runs or could still begin.
-fn is_unsettled(here: SiteId, job: &JobRecord) -> bool {
-    let progress = job.progress();
-    if progress.finished.is_some() {
-        return false;
-    }
-    let is_taken = match job.holder() {
-        Some(holder) => holder != here,
-        None => false,
-    };
-    !job.deleted() || progress.begun.is_some() || is_taken
-}
 
 /// Why a job is not settled.
 fn unsettled_text(
@@ -56,7 +39,7 @@ fn unsettled_job_text(
 ) -> Result<Option<String>, AllocError> {
     let here = site.here();
     for (id, job) in site.board().jobs() {
-        if is_asked(here, first, last, *id) && is_unsettled(here, job) {
+        if is_named(*id, here, first, last) && !is_settled(job, here) {
             return Ok(Some(unsettled_text(alloc, site, *id, job)?));
         }
     }
@@ -81,7 +64,7 @@ fn standing_text(
     let here = site.here();
     let board = site.board();
     for (id, _reservation) in board.reservations() {
-        if is_asked(here, first, last, *id) && is_standing(board, *id) {
+        if is_named(*id, here, first, last) && is_standing(board, *id) {
             let name = identifier_text(alloc, site.roster(), *id)?;
             return Ok(Some(format!(in alloc; "{name} is a reservation that is not cancelled")?));
         }
