@@ -1,58 +1,29 @@
 //! Commands and lines that can't be read.
-use crate::sites::{begun, says, site_of};
+use crate::sites::{begun, says_all, site_of};
 use std::process::Abort;
 
 #[test]
 fn commands_are_answered(rt: HostRuntime) {
     let mut argonne = site_of(&rt, 0);
-    assert!(rt; says(&rt, &mut argonne, b"ann qsub", b"1.argonne\n", true));
-    assert!(rt;
-        says(
-            &rt,
-            &mut argonne,
-            b"ann qalter -p 5 9",
-            b"refused 1\n",
-            false
-        )
-    );
-    assert!(rt; says(&rt, &mut argonne, b"ann qsub -h", b"2.argonne\n", true));
-    assert!(rt; says(&rt, &mut argonne, b"ann qrls 2", b"done\n", true));
-    assert!(rt; says(&rt, &mut argonne, b"ann qrls 2", b"done\n", false));
-    assert!(rt; says(&rt, &mut argonne, b"grant 1 lemont", b"granted\n", true));
-    assert!(rt; says(&rt, &mut argonne, b"grant 1 lemont", b"yours\n", false));
-    assert!(rt;
-        says(
-            &rt,
-            &mut argonne,
-            b"ann qdel 7 2 1",
-            b"refused 1\ndone\ndone\n",
-            true
-        )
-    );
-    assert!(rt;
-        says(
-            &rt,
-            &mut argonne,
-            b"oz/operator reserve lemont 50 60 8",
-            b"7.argonne\n",
-            true
-        )
-    );
-    assert!(rt; says(&rt, &mut argonne, b"plan 0", b"", false));
-    assert!(rt; says(&rt, &mut argonne, b"take 1", b"unread 3 whole 0\n", false));
-    assert!(rt; says(&rt, &mut argonne, b"take", b"cannot be read\n", false));
-    assert!(rt; says(&rt, &mut argonne, b"", b"", false));
-    assert!(rt; says(&rt, &mut argonne, b"# a comment", b"", false));
-    assert!(rt; says(&rt, &mut argonne, b"roster a 1", b"usage 1\n", false));
-    assert!(rt;
-        says(
-            &rt,
-            &mut argonne,
-            b"equal argonne lemont",
-            b"usage 1\n",
-            false
-        )
-    );
+    let rows: [(&[u8], &[u8], bool); 16] = [
+        (b"ann qsub", b"1.argonne\n", true),
+        (b"ann qalter -p 5 9", b"refused 1\n", false),
+        (b"ann qsub -h", b"2.argonne\n", true),
+        (b"ann qrls 2", b"done\n", true),
+        (b"ann qrls 2", b"done\n", false),
+        (b"grant 1 lemont", b"granted\n", true),
+        (b"grant 1 lemont", b"yours\n", false),
+        (b"ann qdel 7 2 1", b"refused 1\ndone\ndone\n", true),
+        (b"oz/operator reserve lemont 50 60 8", b"7.argonne\n", true),
+        (b"plan 0", b"", false),
+        (b"take 1", b"unread 3 whole 0\n", false),
+        (b"take", b"cannot be read\n", false),
+        (b"", b"", false),
+        (b"# a comment", b"", false),
+        (b"roster a 1", b"usage 1\n", false),
+        (b"equal argonne lemont", b"usage 1\n", false),
+    ];
+    assert!(rt; says_all(&rt, &mut argonne, &rows));
 }
 
 #[test]
@@ -70,6 +41,9 @@ fn answers_have_what_was_begun(rt: HostRuntime) {
 #[test]
 fn lines_with_a_line_feed_are_not_read(rt: HostRuntime) {
     let mut argonne = site_of(&rt, 0);
-    assert!(rt; says(&rt, &mut argonne, b"take {\n}", b"cannot be read\n", false));
-    assert!(rt; says(&rt, &mut argonne, b"ann qsub\n", b"cannot be read\n", false));
+    let rows: [(&[u8], &[u8], bool); 2] = [
+        (b"take {\n}", b"cannot be read\n", false),
+        (b"ann qsub\n", b"cannot be read\n", false),
+    ];
+    assert!(rt; says_all(&rt, &mut argonne, &rows));
 }

@@ -8,15 +8,15 @@ use fed_wire::{Part, Place, WireFault};
 use fed_words::UsageFault;
 use std::process::Abort;
 
-/// What ann, a user, is refused at this index of a line: to delete the first site's job of this counter.
+/// The complaint that ann, a user, is refused at this index of a line: to delete the first site's job of this counter.
 fn undeleted(
     rt: &(impl Abort + AllocGlobal),
     index: usize,
     counter: u64,
     refusal: Refusal,
-) -> RefusedCommand {
+) -> Complaint {
     let site = SiteId::new(0).expect(rt, "a site");
-    RefusedCommand {
+    Complaint::Refused(RefusedCommand {
         index,
         who: Who {
             user: Word::new("ann").expect(rt, "a name"),
@@ -26,43 +26,47 @@ fn undeleted(
             job: JobId::new(counter, site).expect(rt, "an identifier"),
         },
         refusal,
-    }
+    })
+}
+
+fn unread(fault: WireFault) -> Option<Complaint> {
+    Some(Complaint::Unread(fault))
 }
 
 #[test]
 fn complaints_tell_why(rt: HostRuntime) {
     let mut argonne = site_of(&rt, 0);
     let lemont = SiteId::new(1).expect(&rt, "a site");
-    let unread = |fault: WireFault| Some(Complaint::Unread(fault));
-    assert!(rt; complaint(&rt, &mut argonne, b"take") == Some(Complaint::Unreadable));
-    assert!(rt;
-        complaint(&rt, &mut argonne, b"roster a 1")
-            == Some(Complaint::Misused(UsageFault::UnknownUtility))
-    );
-    assert!(rt;
-        complaint(&rt, &mut argonne, b"ann qdel 9")
-            == Some(Complaint::Refused(undeleted(&rt, 0, 9, Refusal::UnknownJob)))
-    );
-    assert!(rt; complaint(&rt, &mut argonne, b"ann qsub").is_none());
-    assert!(rt; complaint(&rt, &mut argonne, b"bob qsub").is_none());
-    // the first of two complaints, behind a command that is done
-    assert!(rt;
-        complaint(&rt, &mut argonne, b"ann qdel 1 2 9")
-            == Some(Complaint::Refused(undeleted(&rt, 1, 2, Refusal::NotPermitted)))
-    );
-    assert!(rt; complaint(&rt, &mut argonne, b"take nothing") == unread(WireFault::NotJson));
-    assert!(rt;
-        complaint(&rt, &mut argonne, b"take {\"format\":4}") == unread(WireFault::Version(4))
-    );
     let whole = Place {
         part: Part::Whole,
         index: 0,
     };
-    assert!(rt;
-        complaint(&rt, &mut argonne, b"take {}") == unread(WireFault::Shape { place: whole })
-    );
-    assert!(rt; complaint(&rt, &mut argonne, OF_A_THIRD) == Some(Complaint::Foreign));
-    assert!(rt; complaint(&rt, &mut argonne, BEHIND_OTHERS) == Some(Complaint::Gap(lemont)));
+    let rows: [(&[u8], Option<Complaint>); 11] = [
+        (b"take", Some(Complaint::Unreadable)),
+        (
+            b"roster a 1",
+            Some(Complaint::Misused(UsageFault::UnknownUtility)),
+        ),
+        (
+            b"ann qdel 9",
+            Some(undeleted(&rt, 0, 9, Refusal::UnknownJob)),
+        ),
+        (b"ann qsub", None),
+        (b"bob qsub", None),
+        // the first of two complaints, behind a command that is done
+        (
+            b"ann qdel 1 2 9",
+            Some(undeleted(&rt, 1, 2, Refusal::NotPermitted)),
+        ),
+        (b"take nothing", unread(WireFault::NotJson)),
+        (b"take {\"format\":4}", unread(WireFault::Version(4))),
+        (b"take {}", unread(WireFault::Shape { place: whole })),
+        (OF_A_THIRD, Some(Complaint::Foreign)),
+        (BEHIND_OTHERS, Some(Complaint::Gap(lemont))),
+    ];
+    for (line, wanted) in rows {
+        assert!(rt; complaint(&rt, &mut argonne, line) == wanted);
+    }
     assert!(rt; complaint(&rt, &mut site_of(&rt, 0), OF_A_MEMORY) == Some(Complaint::Forgotten));
 }
 
@@ -95,7 +99,7 @@ fn complaints_have_words(rt: HostRuntime) {
     };
     let told = [
         (
-            Complaint::Refused(undeleted(&rt, 0, 1, Refusal::Granted)),
+            undeleted(&rt, 0, 1, Refusal::Granted),
             "refused 4: the job is granted",
         ),
         (

@@ -1,5 +1,5 @@
 //! Looks at sites.
-use crate::sites::{said, says, site_among, site_of, taking};
+use crate::sites::{said, says, says_all, site_among, site_of, taking};
 use fed_site::Site;
 use std::process::Abort;
 
@@ -134,38 +134,20 @@ fn what_is_seen_is_told(rt: HostRuntime) {
     let mut lemont = site_of(&rt, 1);
     assert!(rt; says(&rt, &mut argonne, b"ann qsub", b"1.argonne\n", true));
     let first = taking(&rt, &mut argonne, b"ship lemont");
-    assert!(rt; says(&rt, &mut lemont, &first, b"taken\n", true));
-    assert!(rt; says(&rt, &mut lemont, b"bob qsub", b"2.lemont\n", true));
-    // argonne isn't known to have seen lemont's job
-    assert!(rt;
-        says(
-            &rt,
-            &mut lemont,
-            b"seen",
-            b"argonne 1 0\nlemont 2 2\n",
-            false
-        )
-    );
+    let rows: [(&[u8], &[u8], bool); 3] = [
+        (&first, b"taken\n", true),
+        (b"bob qsub", b"2.lemont\n", true),
+        // argonne isn't known to have seen lemont's job
+        (b"seen", b"argonne 1 0\nlemont 2 2\n", false),
+    ];
+    assert!(rt; says_all(&rt, &mut lemont, &rows));
     let back = taking(&rt, &mut lemont, b"ship argonne");
-    assert!(rt;
-        says(
-            &rt,
-            &mut argonne,
-            b"seen",
-            b"argonne 1 1\nlemont 0 0\n",
-            false
-        )
-    );
-    assert!(rt; says(&rt, &mut argonne, &back, b"taken\n", true));
-    assert!(rt;
-        says(
-            &rt,
-            &mut argonne,
-            b"seen",
-            b"argonne 1 1\nlemont 2 1\n",
-            false
-        )
-    );
+    let rows: [(&[u8], &[u8], bool); 3] = [
+        (b"seen", b"argonne 1 1\nlemont 0 0\n", false),
+        (&back, b"taken\n", true),
+        (b"seen", b"argonne 1 1\nlemont 2 1\n", false),
+    ];
+    assert!(rt; says_all(&rt, &mut argonne, &rows));
 }
 
 #[test]

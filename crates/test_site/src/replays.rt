@@ -1,5 +1,5 @@
 //! Lines that are kept, and their replay.
-use crate::sites::{held, said, site_of};
+use crate::sites::{held, list_the_same, said, site_of};
 use fed_site::Site;
 use fed_stamp::{Roster, SiteId};
 use std::process::Abort;
@@ -27,8 +27,6 @@ fn kept_lines_are_replayed(rt: HostRuntime) {
     let here = SiteId::new(0).expect(&rt, "a site");
     assert!(rt; usize::from(here.get()) < roster.len());
     let mut opened = Site::open(rt.alloc(), held(&rt, roster), here, &kept).expect(&rt, "memory");
-    assert!(rt;
-        said(&rt, &mut opened, b"ann qstat -f") == said(&rt, &mut argonne, b"ann qstat -f")
-    );
+    assert!(rt; list_the_same(&rt, &mut opened, &mut argonne));
     assert!(rt; said(&rt, &mut opened, b"ship lemont") == said(&rt, &mut argonne, b"ship lemont"));
 }

@@ -1,5 +1,7 @@
 //! Rosters that are told to sites.
-use crate::sites::{bytes, complaint, held, said, says, site_among, site_of, taking};
+use crate::sites::{
+    bytes, complaint, held, list_the_same, says, says_all, site_among, site_of, taking,
+};
 use fed_site::{Complaint, Site, Told};
 use fed_stamp::{Roster, SiteId};
 use std::process::Abort;
@@ -26,51 +28,24 @@ fn words(rt: &(impl Abort + AllocGlobal), site: &mut Site, line: &[u8]) -> Vec<u
 #[test]
 fn a_roster_goes_on(rt: HostRuntime) {
     let mut argonne = site_of(&rt, 0);
-    assert!(rt; says(&rt, &mut argonne, b"plan 0", b"", false));
-    assert!(rt;
-        says(
-            &rt,
-            &mut argonne,
-            b"ann qsub -l nodes=9",
-            b"1.argonne\n",
-            true
-        )
-    );
-    assert!(rt; says(&rt, &mut argonne, b"grant 1 argonne", b"granted\n", true));
-    assert!(rt; says(&rt, &mut argonne, b"plan 0", b"", false));
-    let told = b"roster argonne:9 lemont:2 batavia:1";
-    assert!(rt; says(&rt, &mut argonne, told, b"done\n", true));
-    assert!(rt; says(&rt, &mut argonne, told, b"done\n", false));
-    assert!(rt;
-        says(
-            &rt,
-            &mut argonne,
-            b"  roster argonne:9 lemont:2\tbatavia:1 ",
-            b"done\n",
-            false
-        )
-    );
-    assert!(rt; says(&rt, &mut argonne, b"plan 0", b"start 1.argonne\n", false));
-    assert!(rt;
-        says(
-            &rt,
-            &mut argonne,
-            b"seen",
-            b"argonne 2 2\nlemont 0 0\nbatavia 0 0\n",
-            false
-        )
-    );
+    let rows: [(&[u8], &[u8], bool); 9] = [
+        (b"plan 0", b"", false),
+        (b"ann qsub -l nodes=9", b"1.argonne\n", true),
+        (b"grant 1 argonne", b"granted\n", true),
+        (b"plan 0", b"", false),
+        (b"roster argonne:9 lemont:2 batavia:1", b"done\n", true),
+        (b"roster argonne:9 lemont:2 batavia:1", b"done\n", false),
+        (b"  roster argonne:9 lemont:2\tbatavia:1 ", b"done\n", false),
+        (b"plan 0", b"start 1.argonne\n", false),
+        (b"seen", b"argonne 2 2\nlemont 0 0\nbatavia 0 0\n", false),
+    ];
+    assert!(rt; says_all(&rt, &mut argonne, &rows));
     assert!(rt; is_other(&rt, &mut argonne, b"roster argonne:9 lemont:2"));
-    assert!(rt;
-        says(
-            &rt,
-            &mut argonne,
-            b"roster argonne:8 lemont:2 batavia:1",
-            b"done\n",
-            true
-        )
-    );
-    assert!(rt; says(&rt, &mut argonne, b"plan 0", b"", false));
+    let rows: [(&[u8], &[u8], bool); 2] = [
+        (b"roster argonne:8 lemont:2 batavia:1", b"done\n", true),
+        (b"plan 0", b"", false),
+    ];
+    assert!(rt; says_all(&rt, &mut argonne, &rows));
 }
 
 #[test]
@@ -91,36 +66,33 @@ fn other_rosters_change_nothing(rt: HostRuntime) {
     for line in lines {
         assert!(rt; is_other(&rt, &mut argonne, line));
     }
-    assert!(rt;
-        says(
-            &rt,
-            &mut argonne,
-            b"seen",
-            b"argonne 0 0\nlemont 0 0\n",
-            false
-        )
-    );
-    // a user of this name asks what others do
-    assert!(rt; says(&rt, &mut argonne, b"roster qsub", b"1.argonne\n", true));
-    assert!(rt; says(&rt, &mut argonne, b"roster", b"usage 1\n", false));
+    let rows: [(&[u8], &[u8], bool); 3] = [
+        (b"seen", b"argonne 0 0\nlemont 0 0\n", false),
+        // a user of this name asks what others do
+        (b"roster qsub", b"1.argonne\n", true),
+        (b"roster", b"usage 1\n", false),
+    ];
+    assert!(rt; says_all(&rt, &mut argonne, &rows));
 }
 
 #[test]
 fn the_word_at_fault_is_told(rt: HostRuntime) {
     let mut argonne = site_of(&rt, 0);
-    assert!(rt;
-        words(&rt, &mut argonne, b"roster argonne:8 batavia:2 lemont:4").as_slice()
-            == b"other roster: batavia:2 stands where lemont must".as_slice()
-    );
-    assert!(rt;
-        words(&rt, &mut argonne, b"roster argonne:8").as_slice()
-            == b"other roster: lemont is left out".as_slice()
-    );
-    assert!(rt;
-        words(&rt, &mut argonne, b"roster argonne:8 lemont:4 x:0").as_slice()
-            == b"other roster: x:0 is no further site: a name that isn't there yet, a colon, and 1 to 1000000 nodes; there are 16 sites at most".as_slice()
-    );
-    assert!(rt; words(&rt, &mut argonne, b"roster argonne:8 lemont:5").is_empty());
+    let rows: [(&[u8], &[u8]); 4] = [
+        (
+            b"roster argonne:8 batavia:2 lemont:4",
+            b"other roster: batavia:2 stands where lemont must",
+        ),
+        (b"roster argonne:8", b"other roster: lemont is left out"),
+        (
+            b"roster argonne:8 lemont:4 x:0",
+            b"other roster: x:0 is no further site: a name that isn't there yet, a colon, and 1 to 1000000 nodes; there are 16 sites at most",
+        ),
+        (b"roster argonne:8 lemont:5", b""),
+    ];
+    for (line, told) in rows {
+        assert!(rt; words(&rt, &mut argonne, line).as_slice() == told);
+    }
 }
 
 #[test]
@@ -138,30 +110,24 @@ fn packets_of_a_new_site_are_taken_once_it_is_known(rt: HostRuntime) {
             true
         )
     );
-    assert!(rt;
-        says(
-            &rt,
-            &mut argonne,
-            b"ship batavia",
-            b"cannot be read\n",
-            false
-        )
-    );
-    let told = b"roster argonne:6 lemont:4 batavia:2";
-    assert!(rt; says(&rt, &mut argonne, told, b"done\n", true));
     let first = taking(&rt, &mut batavia, b"ship argonne");
-    assert!(rt; says(&rt, &mut argonne, &first, b"taken\n", true));
+    let told = b"roster argonne:6 lemont:4 batavia:2";
+    let rows: [(&[u8], &[u8], bool); 3] = [
+        (b"ship batavia", b"cannot be read\n", false),
+        (told, b"done\n", true),
+        (&first, b"taken\n", true),
+    ];
+    assert!(rt; says_all(&rt, &mut argonne, &rows));
     let passed = taking(&rt, &mut argonne, b"ship lemont");
-    assert!(rt; says(&rt, &mut lemont, &passed, b"foreign\n", false));
-    assert!(rt; says(&rt, &mut lemont, b"jobs", b"", false));
-    assert!(rt; says(&rt, &mut lemont, told, b"done\n", true));
-    assert!(rt; says(&rt, &mut lemont, &passed, b"taken\n", true));
-    assert!(rt;
-        said(&rt, &mut lemont, b"ann qstat -f") == said(&rt, &mut argonne, b"ann qstat -f")
-    );
-    assert!(rt;
-        said(&rt, &mut lemont, b"ann qstat -f") == said(&rt, &mut batavia, b"ann qstat -f")
-    );
+    let rows: [(&[u8], &[u8], bool); 4] = [
+        (&passed, b"foreign\n", false),
+        (b"jobs", b"", false),
+        (told, b"done\n", true),
+        (&passed, b"taken\n", true),
+    ];
+    assert!(rt; says_all(&rt, &mut lemont, &rows));
+    assert!(rt; list_the_same(&rt, &mut lemont, &mut argonne));
+    assert!(rt; list_the_same(&rt, &mut lemont, &mut batavia));
 }
 
 #[test]
@@ -181,7 +147,5 @@ fn rosters_are_replayed(rt: HostRuntime) {
     assert!(rt; usize::from(here.get()) < roster.len());
     let mut opened = Site::open(rt.alloc(), held(&rt, roster), here, &lines).expect(&rt, "memory");
     assert!(rt; fed_site::are_same_rosters(opened.roster(), argonne.roster()));
-    assert!(rt;
-        said(&rt, &mut opened, b"ann qstat -f") == said(&rt, &mut argonne, b"ann qstat -f")
-    );
+    assert!(rt; list_the_same(&rt, &mut opened, &mut argonne));
 }

@@ -55,6 +55,28 @@ pub(crate) fn says(
     answered.bytes() == text && answered.is_kept() == kept
 }
 
+/// Whether it answers each line so, and keeps it or doesn't.
+pub(crate) fn says_all(
+    rt: &(impl Abort + AllocGlobal),
+    site: &mut Site,
+    rows: &[(&[u8], &[u8], bool)],
+) -> bool {
+    let mut all = true;
+    for (line, text, kept) in rows {
+        all &= says(rt, site, line, text, *kept);
+    }
+    all
+}
+
+/// Whether two sites list the same jobs.
+pub(crate) fn list_the_same(
+    rt: &(impl Abort + AllocGlobal),
+    one: &mut Site,
+    other: &mut Site,
+) -> bool {
+    said(rt, one, b"ann qstat -f") == said(rt, other, b"ann qstat -f")
+}
+
 /// Why it doesn't do as the line asks.
 pub(crate) fn complaint(
     rt: &(impl Abort + AllocGlobal),
