@@ -1,5 +1,5 @@
 //! Homes in memory and on the disk: made, opened again, and stopped at each call.
-ghost use Rattle.std.specs.Prelude.{List, ℕ, IfOk};
+ghost use Rattle.std.specs.Prelude.{List, ℕ, IfOk, IsTrue};
 ghost use Rattle.fed_journal.specs.Device.{LeavesJust};
 ghost use Rattle.fed_journal.specs.Memory.{memory_may_leave, memory_seen};
 ghost use Rattle.fed_home.specs.Home.{IsOpen, IsReplayed};
@@ -33,6 +33,11 @@ const KEPT: [&[u8]; 5] = [
 
 /// How many of these are there behind so many groups.
 const COUNTS: [usize; 4] = [0, 1, 3, 5];
+
+/// The entries behind the header that so many groups leave.
+fn kept_of(groups: usize) -> Option<&'static [&'static [u8]]> {
+    KEPT.get(..*COUNTS.get(groups)?)
+}
 
 /// A file in memory, which does so many calls and stops at the next.
 pub(crate) fn stopping(
@@ -69,6 +74,22 @@ pub(crate) fn opened(alloc: Global, file: &[u8]) -> Result<Home<Memory>, HomeFau
     }
 }
 
+/// What the home of a file answers to lines, and what the disk then has.
+pub(crate) fn answered(
+    alloc: Global,
+    file: &[u8],
+    lines: &[&[u8]],
+) -> Result<(Vec<Told>, Vec<u8>), HomeFault> {
+    let mut home = opened(alloc, file)?;
+    let answers = home.answer(lines, false)?;
+    Ok((answers, home.into_device().into_disk()))
+}
+
+/// Whether these are answers to so many lines, each with this text.
+pub(crate) fn are_all(answers: &[Told], count: usize, text: &[u8]) -> bool {
+    answers.len() == count && answers.iter().all(|told| told.answer.bytes() == text)
+}
+
 /// What the disk has of a new home.
 pub(crate) fn made(alloc: Global) -> Result<Vec<u8>, HomeFault> {
     match Home::make(alloc, running(alloc, b"")?, HEADER) {
@@ -77,65 +98,79 @@ pub(crate) fn made(alloc: Global) -> Result<Vec<u8>, HomeFault> {
     }
 }
 
+/// Whether a group of lines is answered, and not refused by a fault.
+fn answers_group(home: &mut Home<Memory>, lines: &[&[u8]]) -> bool
+    requires { IsOpen memory_seen memory_may_leave home.old }
+    ensures { IsTrue result → IsOpen memory_seen memory_may_leave home.new }
+{
+    home.answer(lines, false).is_ok()
+}
+
 /// Answers three groups, and tells how many were answered.
-pub(crate) fn answer_groups(home: &mut Home<Memory>) -> usize
+fn answer_groups(home: &mut Home<Memory>) -> usize
     requires { IsOpen memory_seen memory_may_leave home.old }
 {
-    if home.answer(&FIRST, false).is_err() {
+    if !answers_group(home, &FIRST) {
         return 0;
     }
-    if home.answer(&SECOND, false).is_err() {
+    if !answers_group(home, &SECOND) {
         return 1;
     }
-    if home.answer(&THIRD, false).is_err() {
+    if !answers_group(home, &THIRD) {
         return 2;
     }
     3
 }
 
+/// The entries of a file.
+pub(crate) fn entries_of(alloc: Global, file: &[u8]) -> Result<Vec<Vec<u8>>, HomeFault> {
+    match Journal::open(alloc, running(alloc, file)?) {
+        Ok((_, found)) => Ok(found.entries),
+        Err(unopened) => Err(HomeFault::from(unopened.fault)),
+    }
+}
+
+/// Whether the entries are the header and these lines.
+fn are_kept(entries: &[Vec<u8>], kept: &[&[u8]]) -> bool {
+    match entries.split_first() {
+        Some((first, lines)) => {
+            first.as_slice() == HEADER
+                && lines.len() == kept.len()
+                && lines
+                    .iter()
+                    .zip(kept.iter())
+                    .all(|(line, text)| line.as_slice() == *text)
+        }
+        None => false,
+    }
+}
+
 /// Whether the file has the header and what so many groups leave.
 fn has_groups(alloc: Global, file: &[u8], groups: usize) -> Result<bool, HomeFault> {
-    match Journal::open(alloc, running(alloc, file)?) {
-        Err(unopened) => Err(HomeFault::from(unopened.fault)),
-        Ok((_, found)) => {
-            let Some((first, lines)) = found.entries.split_first() else {
-                return Ok(false);
-            };
-            Ok(
-                first.as_slice() == HEADER
-                    && COUNTS.get(groups) == Some(&lines.len())
-                    && lines
-                        .iter()
-                        .zip(KEPT.iter())
-                        .all(|(line, text)| line.as_slice() == *text),
-            )
-        }
-    }
+    let entries = entries_of(alloc, file)?;
+    Ok(match kept_of(groups) {
+        Some(kept) => are_kept(&entries, kept),
+        None => false,
+    })
 }
 
 /// What a site lists that has answered the lines that so many groups keep.
 fn listed(alloc: Global, groups: usize) -> Result<Answered, Fail> {
+    let kept = kept_of(groups).ok_or("too many")?;
     let sites = [("argonne", 8), ("lemont", 4)];
     let roster = BoxedRoster::new(alloc, Roster::new(&sites)?)?;
-    let count = COUNTS.get(groups).copied().unwrap_or(0);
-    let kept = KEPT.get(..count).ok_or("too many")?;
     let mut site = Site::open(alloc, roster, SiteId::new(0).ok_or("a site")?, kept)?;
     Ok(site.answer(alloc, b"ann qstat -f")?)
 }
 
 /// Whether the home of a file lists what so many groups leave.
 fn lists_groups(alloc: Global, file: &[u8], groups: usize) -> Result<bool, Fail> {
-    let mut home = opened(alloc, file)?;
-    let answers = home.answer(&[b"ann qstat -f"], false)?;
-    let wanted = listed(alloc, groups)?;
-    match answers.first() {
-        Some(told) => Ok(answers.len() == 1 && told.answer.bytes() == wanted.bytes()),
-        None => Ok(false),
-    }
+    let (answers, _) = answered(alloc, file, &[b"ann qstat -f"])?;
+    Ok(are_all(&answers, 1, listed(alloc, groups)?.bytes()))
 }
 
 /// How many groups are answered, and what the disk has, where the machine stops at some call.
-fn stopped(
+pub(crate) fn stopped(
     alloc: Global,
     file: &[u8],
     calls: usize,
@@ -153,41 +188,37 @@ fn stopped(
     }
 }
 
+/// How many sites the roster of a file's home has.
+fn sites_of(alloc: Global, file: &[u8]) -> Result<usize, HomeFault> {
+    Ok(opened(alloc, file)?.site().roster().len())
+}
+
 #[test]
 fn a_home_is_made_and_answers(rt: HostRuntime) -> Result<(), Fail> {
     let alloc = rt.alloc();
-    let file = made(alloc)?;
-    let mut home = opened(alloc, &file)?;
-    let answers = home.answer(&[b"ann qsub"], false)?;
-    assert!(rt;
-        answers.len() == 1
-            && answers
-                .iter()
-                .all(|told| told.answer.bytes() == b"1.argonne\n".as_slice())
-    );
-    let disk = home.into_device().into_disk();
-    let mut again = opened(alloc, &disk)?;
-    let refused = again.answer(&[b"ann qalter -p 5 9"], false)?;
-    assert!(rt;
-        refused
-            .iter()
-            .all(|told| told.answer.bytes() == b"refused 1\n".as_slice())
-    );
-    assert!(rt; again.site().roster().len() == 2);
-    assert!(rt; again.into_device().into_disk() == disk);
-    let recovered = match Journal::open(alloc, running(alloc, &disk)?) {
-        Ok((_, recovered)) => recovered,
-        Err(unopened) => return Err(Fail::from(unopened.fault)),
-    };
-    assert!(rt; recovered.entries.len() == 2);
-    assert!(rt;
-        recovered
-            .entries
-            .iter()
-            .zip([HEADER, b"ann qsub"].iter())
-            .all(|(entry, text)| entry.as_slice() == *text)
-    );
+    let (answers, disk) = answered(alloc, &made(alloc)?, &[b"ann qsub"])?;
+    assert!(rt; are_all(&answers, 1, b"1.argonne\n"));
+    let (refused, same) = answered(alloc, &disk, &[b"ann qalter -p 5 9"])?;
+    assert!(rt; are_all(&refused, 1, b"refused 1\n"));
+    assert_eq!(rt; sites_of(alloc, &disk)?, 2);
+    assert!(rt; same == disk);
+    assert!(rt; are_kept(&entries_of(alloc, &disk)?, &FIRST));
     Ok(())
+}
+
+/// Whether the file has what so many groups leave, and its home lists that.
+fn stands_for(alloc: Global, file: &[u8], groups: usize) -> Result<bool, Fail> {
+    Ok(has_groups(alloc, file, groups)? && lists_groups(alloc, file, groups)?)
+}
+
+/// Whether the groups that are answered before a stop are left, with the next one or without it.
+fn is_whole_or_out(alloc: Global, file: &[u8], calls: usize, tear: Tear) -> Result<bool, Fail> {
+    let (groups, disk) = stopped(alloc, file, calls, tear)?;
+    let next = groups.saturating_add(1);
+    Ok(
+        groups == calls / 4
+            && (stands_for(alloc, &disk, groups)? || stands_for(alloc, &disk, next)?),
+    )
 }
 
 #[test]
@@ -197,15 +228,8 @@ fn each_stop_leaves_each_group_whole_or_out(rt: HostRuntime) -> Result<(), Fail>
     for calls in 0..13usize {
         for count in [0, 1, 7, 40, 200] {
             for tear in [Tear::Front(count), Tear::Back(count)] {
-                let (groups, disk) = stopped(alloc, &file, calls, tear)?;
-                assert!(rt; groups == calls / 4);
-                if has_groups(alloc, &disk, groups)? {
-                    assert!(rt; lists_groups(alloc, &disk, groups)?);
-                } else {
-                    let next = groups.saturating_add(1);
-                    assert!(rt; has_groups(alloc, &disk, next)?);
-                    assert!(rt; lists_groups(alloc, &disk, next)?);
-                }
+                let is_told = is_whole_or_out(alloc, &file, calls, tear)?;
+                assert!(rt; is_told);
             }
         }
     }
