@@ -125,6 +125,28 @@ impl Write for Room {
     }
 }
 
+/// Serves an input to the home of a file that stops after so many calls. Gives the fault that ends it, and what the disk then
+/// has.
+fn serve_file<W: Write>(
+    alloc: Global,
+    (file, calls): (&[u8], usize),
+    input: &mut Pieces<'_>,
+    output: &mut W,
+    asked: bool,
+) -> Result<(Option<ServeFault>, Vec<u8>), HomeFault> {
+    let mut home = opened(alloc, file, calls)?;
+    let ended = serve(
+        alloc,
+        &mut home,
+        &mut Vec::new(alloc),
+        input,
+        output,
+        asked,
+        usize::MAX,
+    );
+    Ok((ended.err(), home.into_device().into_disk()))
+}
+
 /// What is written to an input that comes in pieces, and what the disk then has.
 fn served(
     alloc: Global,
@@ -132,18 +154,12 @@ fn served(
     most: usize,
     asked: bool,
 ) -> Result<(Vec<u8>, Vec<u8>), ServeFault> {
-    let mut home = opened(alloc, MADE, usize::MAX)?;
     let mut output = Vec::new(alloc);
-    serve(
-        alloc,
-        &mut home,
-        &mut Vec::new(alloc),
-        &mut in_pieces(input, most),
-        &mut output,
-        asked,
-        usize::MAX,
-    )?;
-    Ok((output, home.into_device().into_disk()))
+    let mut input = in_pieces(input, most);
+    match serve_file(alloc, (MADE, usize::MAX), &mut input, &mut output, asked)? {
+        (None, disk) => Ok((output, disk)),
+        (Some(fault), _) => Err(fault),
+    }
 }
 
 #[test]
@@ -188,46 +204,35 @@ fn a_line_that_takes_a_packet_may_be_longer(rt: HostRuntime) -> Result<(), Fail>
     Ok(())
 }
 
-#[test]
-fn faults_are_told(rt: HostRuntime) -> Result<(), Fail> {
-    let alloc = rt.alloc();
-    let mut home = opened(alloc, MADE, usize::MAX)?;
-    let mut output = Vec::new(alloc);
+/// What the disk has of a home that has answered a line of an input which then fails.
+fn left_by_an_input(rt: &(impl Abort + AllocGlobal)) -> Result<Vec<u8>, HomeFault> {
+    let mut output = Vec::new(rt.alloc());
     let mut input = in_pieces(b"ann qsub\nann q", 9);
     input.end = Some(ErrorKind::TimedOut);
-    let mut begun = Vec::new(alloc);
-    let fault = serve(
-        alloc,
-        &mut home,
-        &mut begun,
+    let (fault, disk) = serve_file(
+        rt.alloc(),
+        (MADE, usize::MAX),
         &mut input,
         &mut output,
         false,
-        usize::MAX,
-    )
-    .err()
-    .ok_or("no fault")?;
-    assert_eq!(rt; fault.number(), 2);
-    assert_eq!(rt; output.as_slice(), b"1.argonne\n\n".as_slice());
+    )?;
+    assert!(rt; fault.map(ServeFault::number) == Some(2));
+    assert!(rt; output.as_slice() == b"1.argonne\n\n".as_slice());
+    Ok(disk)
+}
+
+#[test]
+fn faults_are_told(rt: HostRuntime) -> Result<(), Fail> {
+    let alloc = rt.alloc();
     // behind a fault the home is opened anew
-    let disk = home.into_device().into_disk();
-    let mut home = opened(alloc, &disk, usize::MAX)?;
+    let disk = left_by_an_input(&rt)?;
     let mut room = Room {
         bytes: Vec::new(alloc),
         room: 11,
     };
-    let fault = serve(
-        alloc,
-        &mut home,
-        &mut Vec::new(alloc),
-        &mut in_pieces(b"ann qsub\nann qsub\n", 9),
-        &mut room,
-        false,
-        usize::MAX,
-    )
-    .err()
-    .ok_or("no fault")?;
-    assert_eq!(rt; fault.number(), 3);
+    let mut input = in_pieces(b"ann qsub\nann qsub\n", 9);
+    let (fault, _) = serve_file(alloc, (&disk, usize::MAX), &mut input, &mut room, false)?;
+    assert_eq!(rt; fault.map(ServeFault::number), Some(3));
     assert_eq!(rt; room.bytes.as_slice(), b"2.argonne\n\n".as_slice());
     Ok(())
 }
@@ -244,19 +249,11 @@ fn lines_are_not_kept_where_the_disk_stops(rt: HostRuntime) -> Result<(), Fail> 
     ];
     for calls in 0..8usize {
         let (answered, number) = cases[calls / 2];
-        let mut home = opened(alloc, MADE, calls)?;
         let mut output = Vec::new(alloc);
-        let ended = serve(
-            alloc,
-            &mut home,
-            &mut Vec::new(alloc),
-            &mut in_pieces(b"ann qsub\nann qsub\n", 9),
-            &mut output,
-            false,
-            usize::MAX,
-        );
+        let mut input = in_pieces(b"ann qsub\nann qsub\n", 9);
+        let (fault, _) = serve_file(alloc, (MADE, calls), &mut input, &mut output, false)?;
         assert_eq!(rt; output.as_slice(), answered);
-        assert_eq!(rt; ended.err().map(ServeFault::number), Some(number));
+        assert_eq!(rt; fault.map(ServeFault::number), Some(number));
     }
     Ok(())
 }
@@ -265,32 +262,12 @@ fn lines_are_not_kept_where_the_disk_stops(rt: HostRuntime) -> Result<(), Fail> 
 #[test]
 fn an_input_goes_on_behind_lines_that_are_not_kept(rt: HostRuntime) -> Result<(), Fail> {
     let alloc = rt.alloc();
-    let mut home = opened(alloc, MADE, 4)?;
     let mut input = in_pieces(b"ann qsub\nann qsub\nann qstat\nann qsub\n", 9);
     let mut output = Vec::new(alloc);
-    let ended = serve(
-        alloc,
-        &mut home,
-        &mut Vec::new(alloc),
-        &mut input,
-        &mut output,
-        true,
-        usize::MAX,
-    );
-    let Err(ServeFault::NotKept(HomeFault::Failed(_))) = ended else {
-        return Err("all lines are kept".into());
-    };
-    let disk = home.into_device().into_disk();
-    let mut home = opened(alloc, &disk, usize::MAX)?;
-    serve(
-        alloc,
-        &mut home,
-        &mut Vec::new(alloc),
-        &mut input,
-        &mut output,
-        false,
-        usize::MAX,
-    )?;
+    let (fault, disk) = serve_file(alloc, (MADE, 4), &mut input, &mut output, true)?;
+    assert!(rt; matches!(fault, Some(ServeFault::NotKept(HomeFault::Failed(_)))));
+    let (none, _) = serve_file(alloc, (&disk, usize::MAX), &mut input, &mut output, false)?;
+    assert!(rt; none.is_none());
     assert_eq!(rt;
         output.as_slice(),
         b"1.argonne\n\nnot kept\n# not kept: the machine has stopped; neither this line is done nor another that came with it\n\n\
@@ -300,35 +277,45 @@ fn an_input_goes_on_behind_lines_that_are_not_kept(rt: HostRuntime) -> Result<()
     Ok(())
 }
 
-// Behind its first line the journal has more bytes than it was to have: the call is made again for the rest.
-#[test]
-fn an_input_goes_on_behind_a_journal_that_is_long(rt: HostRuntime) -> Result<(), Fail> {
-    let alloc = rt.alloc();
+/// How two calls on one home end, of which the first lets the journal have so many bytes, each with what it writes.
+fn served_twice(
+    alloc: Global,
+    input: &mut Pieces<'_>,
+    most_bytes: usize,
+) -> Result<[(Served, Vec<u8>); 2], ServeFault> {
     let mut home = opened(alloc, MADE, usize::MAX)?;
-    let mut input = in_pieces(b"ann qsub\nann qsub\n", 9);
     let mut output = Vec::new(alloc);
     let first = serve(
         alloc,
         &mut home,
         &mut Vec::new(alloc),
-        &mut input,
+        input,
         &mut output,
         false,
-        MADE.len(),
+        most_bytes,
     )?;
-    assert!(rt; first == Served::Long);
-    assert_eq!(rt; output.as_slice(), b"1.argonne\n\n".as_slice());
+    let mut rest = Vec::new(alloc);
     let last = serve(
         alloc,
         &mut home,
         &mut Vec::new(alloc),
-        &mut input,
-        &mut output,
+        input,
+        &mut rest,
         false,
         usize::MAX,
     )?;
+    Ok([(first, output), (last, rest)])
+}
+
+// Behind its first line the journal has more bytes than it was to have: the call is made again for the rest.
+#[test]
+fn an_input_goes_on_behind_a_journal_that_is_long(rt: HostRuntime) -> Result<(), Fail> {
+    let mut input = in_pieces(b"ann qsub\nann qsub\n", 9);
+    let [(first, output), (last, rest)] = served_twice(rt.alloc(), &mut input, MADE.len())?;
+    assert!(rt; first == Served::Long);
+    assert_eq!(rt; output.as_slice(), b"1.argonne\n\n".as_slice());
     assert!(rt; last == Served::Ended);
-    assert_eq!(rt; output.as_slice(), b"1.argonne\n\n2.argonne\n\n".as_slice());
+    assert_eq!(rt; rest.as_slice(), b"2.argonne\n\n".as_slice());
     Ok(())
 }
 
