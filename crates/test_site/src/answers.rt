@@ -1,5 +1,5 @@
 //! Commands and lines that can't be read.
-use crate::sites::{begun, says_all, site_of};
+use crate::sites::{begun, see_answers, site_of};
 use std::process::Abort;
 
 #[test]
@@ -23,7 +23,7 @@ fn commands_are_answered(rt: HostRuntime) {
         (b"roster a 1", b"usage 1\n", false),
         (b"equal argonne lemont", b"usage 1\n", false),
     ];
-    assert!(rt; says_all(&rt, &mut argonne, &rows));
+    see_answers(&rt, &mut argonne, &rows);
 }
 
 #[test]
@@ -45,5 +45,5 @@ fn lines_with_a_line_feed_are_not_read(rt: HostRuntime) {
         (b"take {\n}", b"cannot be read\n", false),
         (b"ann qsub\n", b"cannot be read\n", false),
     ];
-    assert!(rt; says_all(&rt, &mut argonne, &rows));
+    see_answers(&rt, &mut argonne, &rows);
 }

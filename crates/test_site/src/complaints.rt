@@ -64,8 +64,8 @@ fn complaints_tell_why(rt: HostRuntime) {
         (OF_A_THIRD, Some(Complaint::Foreign)),
         (BEHIND_OTHERS, Some(Complaint::Gap(lemont))),
     ];
-    for (line, wanted) in rows {
-        assert!(rt; complaint(&rt, &mut argonne, line) == wanted);
+    for (row, (line, wanted)) in rows.iter().enumerate() {
+        assert!(rt; complaint(&rt, &mut argonne, line) == *wanted, "row {row}");
     }
     assert!(rt; complaint(&rt, &mut site_of(&rt, 0), OF_A_MEMORY) == Some(Complaint::Forgotten));
 }

@@ -1,5 +1,5 @@
 //! What sites hold as text, and sites that begin from that.
-use crate::sites::{held, said, says, says_all, site_of, taking};
+use crate::sites::{held, said, says, see_answers, site_of, taking};
 use fed_site::Site;
 use fed_stamp::{Roster, SiteId};
 use std::process::Abort;
@@ -56,7 +56,7 @@ fn what_is_known_is_read_again(rt: HostRuntime) {
         (b"ann qsub -h -A phys", b"1.argonne\n", true),
         (b"oz/operator reserve lemont 50 60 2", b"2.argonne\n", true),
     ];
-    assert!(rt; says_all(&rt, &mut argonne, &rows));
+    see_answers(&rt, &mut argonne, &rows);
     let text = argonne.known_text(rt.alloc()).expect(&rt, "memory");
     assert!(rt; is_of(&rt, &text, &argonne));
     assert!(rt; !is_of(&rt, NOTHING, &argonne));

@@ -1,5 +1,5 @@
 //! Looks at sites.
-use crate::sites::{said, says, says_all, site_among, site_of, taking};
+use crate::sites::{said, says, see_answers, site_among, site_of, taking};
 use fed_site::Site;
 use std::process::Abort;
 
@@ -140,14 +140,14 @@ fn what_is_seen_is_told(rt: HostRuntime) {
         // argonne isn't known to have seen lemont's job
         (b"seen", b"argonne 1 0\nlemont 2 2\n", false),
     ];
-    assert!(rt; says_all(&rt, &mut lemont, &rows));
+    see_answers(&rt, &mut lemont, &rows);
     let back = taking(&rt, &mut lemont, b"ship argonne");
     let rows: [(&[u8], &[u8], bool); 3] = [
         (b"seen", b"argonne 1 1\nlemont 0 0\n", false),
         (&back, b"taken\n", true),
         (b"seen", b"argonne 1 1\nlemont 2 1\n", false),
     ];
-    assert!(rt; says_all(&rt, &mut argonne, &rows));
+    see_answers(&rt, &mut argonne, &rows);
 }
 
 #[test]

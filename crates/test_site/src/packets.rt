@@ -1,5 +1,5 @@
 //! Texts of packets.
-use crate::sites::{list_the_same, says, says_all, site_among, site_of, taking};
+use crate::sites::{list_the_same, says, see_answers, site_among, site_of, taking};
 use crate::texts::{BEHIND_OTHERS, OF_A_MEMORY, OF_A_THIRD, OF_THE_LAST, OUT_OF_RANGE};
 use std::process::Abort;
 
@@ -14,7 +14,7 @@ fn exchanged(rt: &(impl Abort + AllocGlobal)) -> Vec<u8> {
         (&first, b"known\n", true),
         (b"bob qsub", b"2.lemont\n", true),
     ];
-    assert!(rt; says_all(rt, &mut lemont, &rows));
+    see_answers(rt, &mut lemont, &rows);
     let back = taking(rt, &mut lemont, b"ship argonne");
     assert!(rt; says(rt, &mut argonne, &back, b"taken\n", true));
     assert!(rt; list_the_same(rt, &mut argonne, &mut lemont));
@@ -31,7 +31,7 @@ fn packets_are_answered(rt: HostRuntime) {
         (b"take {\"format\":4}", b"unread 2 4\n", false),
         (OUT_OF_RANGE, b"unread 4 sender 0\n", false),
     ];
-    assert!(rt; says_all(&rt, &mut site_of(&rt, 0), &rows));
+    see_answers(&rt, &mut site_of(&rt, 0), &rows);
     let mut other = site_among(&rt, &[("argonne", 8)], 0);
     assert!(rt; says(&rt, &mut other, &back, b"foreign\n", false));
 }
@@ -45,7 +45,7 @@ fn packets_of_strangers_are_answered(rt: HostRuntime) {
         (OF_THE_LAST, b"taken\n", true),
         (b"ann qsub", b"refused 15\n", false),
     ];
-    assert!(rt; says_all(&rt, &mut site_of(&rt, 0), &rows));
+    see_answers(&rt, &mut site_of(&rt, 0), &rows);
 }
 
 /// Two packets of argonne for lemont, which has taken the first alone.
@@ -60,7 +60,7 @@ fn shipped(rt: &(impl Abort + AllocGlobal), sites: &[(&str, u64)]) -> (Vec<u8>, 
         (&heard, b"known\n", true),
         (b"ann qsub", b"2.argonne\n", true),
     ];
-    assert!(rt; says_all(rt, &mut argonne, &rows));
+    see_answers(rt, &mut argonne, &rows);
     (first, taking(rt, &mut argonne, b"ship lemont"))
 }
 
@@ -73,5 +73,5 @@ fn a_packet_for_another_site_is_a_gap(rt: HostRuntime) {
         (&first, b"taken\n", true),
         (&second, b"taken\n", true),
     ];
-    assert!(rt; says_all(&rt, &mut site_among(&rt, &sites, 2), &rows));
+    see_answers(&rt, &mut site_among(&rt, &sites, 2), &rows);
 }

@@ -1,6 +1,6 @@
 //! Rosters that are told to sites.
 use crate::sites::{
-    bytes, complaint, held, list_the_same, says, says_all, site_among, site_of, taking,
+    bytes, complaint, held, list_the_same, says, see_answers, site_among, site_of, taking,
 };
 use fed_site::{Complaint, Site, Told};
 use fed_stamp::{Roster, SiteId};
@@ -39,13 +39,13 @@ fn a_roster_goes_on(rt: HostRuntime) {
         (b"plan 0", b"start 1.argonne\n", false),
         (b"seen", b"argonne 2 2\nlemont 0 0\nbatavia 0 0\n", false),
     ];
-    assert!(rt; says_all(&rt, &mut argonne, &rows));
+    see_answers(&rt, &mut argonne, &rows);
     assert!(rt; is_other(&rt, &mut argonne, b"roster argonne:9 lemont:2"));
     let rows: [(&[u8], &[u8], bool); 2] = [
         (b"roster argonne:8 lemont:2 batavia:1", b"done\n", true),
         (b"plan 0", b"", false),
     ];
-    assert!(rt; says_all(&rt, &mut argonne, &rows));
+    see_answers(&rt, &mut argonne, &rows);
 }
 
 #[test]
@@ -72,7 +72,7 @@ fn other_rosters_change_nothing(rt: HostRuntime) {
         (b"roster qsub", b"1.argonne\n", true),
         (b"roster", b"usage 1\n", false),
     ];
-    assert!(rt; says_all(&rt, &mut argonne, &rows));
+    see_answers(&rt, &mut argonne, &rows);
 }
 
 #[test]
@@ -90,8 +90,11 @@ fn the_word_at_fault_is_told(rt: HostRuntime) {
         ),
         (b"roster argonne:8 lemont:5", b""),
     ];
-    for (line, told) in rows {
-        assert!(rt; words(&rt, &mut argonne, line).as_slice() == told);
+    for (row, (line, told)) in rows.iter().enumerate() {
+        assert!(rt;
+            words(&rt, &mut argonne, line).as_slice() == *told,
+            "row {row}"
+        );
     }
 }
 
@@ -117,7 +120,7 @@ fn packets_of_a_new_site_are_taken_once_it_is_known(rt: HostRuntime) {
         (told, b"done\n", true),
         (&first, b"taken\n", true),
     ];
-    assert!(rt; says_all(&rt, &mut argonne, &rows));
+    see_answers(&rt, &mut argonne, &rows);
     let passed = taking(&rt, &mut argonne, b"ship lemont");
     let rows: [(&[u8], &[u8], bool); 4] = [
         (&passed, b"foreign\n", false),
@@ -125,7 +128,7 @@ fn packets_of_a_new_site_are_taken_once_it_is_known(rt: HostRuntime) {
         (told, b"done\n", true),
         (&passed, b"taken\n", true),
     ];
-    assert!(rt; says_all(&rt, &mut lemont, &rows));
+    see_answers(&rt, &mut lemont, &rows);
     assert!(rt; list_the_same(&rt, &mut lemont, &mut argonne));
     assert!(rt; list_the_same(&rt, &mut lemont, &mut batavia));
 }

@@ -55,17 +55,15 @@ pub(crate) fn says(
     answered.bytes() == text && answered.is_kept() == kept
 }
 
-/// Whether it answers each line so, and keeps it or doesn't.
-pub(crate) fn says_all(
+/// Looks that it answers each line so, and keeps it or doesn't.
+pub(crate) fn see_answers(
     rt: &(impl Abort + AllocGlobal),
     site: &mut Site,
     rows: &[(&[u8], &[u8], bool)],
-) -> bool {
-    let mut all = true;
-    for (line, text, kept) in rows {
-        all &= says(rt, site, line, text, *kept);
+) {
+    for (row, (line, text, kept)) in rows.iter().enumerate() {
+        assert!(rt; says(rt, site, line, text, *kept), "row {row}");
     }
-    all
 }
 
 /// Whether two sites list the same jobs.
