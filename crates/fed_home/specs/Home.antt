@@ -2,7 +2,7 @@
 use Rattle.std.specs.Prelude.{◌≡◌, ◌⊎◌, ℕ, List, [], ◌∷◌, Some, Ok}
 use Rattle.fed_replica.specs.State.{State, state_of}
 use Rattle.fed_site.specs.Site.{SiteValue}
-use Rattle.fed_journal.specs.Journal.{IsRead, IsSettled, device_of, entries_in}
+use Rattle.fed_journal.specs.Journal.{IsRead, IsSettled, device_of, entries_in, gate_of as gate_of_journal}
 use Rattle.fed_journal.specs.Lines.{recovered}
 use Rattle.fed_home.specs.declared.homes.Home.{Home}
 use Rattle.fed_home.specs.Replay.{replay, replayed_of}
@@ -18,6 +18,10 @@ site_of home = home.site
 -- what the site holds
 abbrev pub state_in : {D : Type 0} → Home D → State
 state_in home = state_of home.site.replica
+
+-- where it knows its journal's closed gate to stand, behind the entries that are acknowledged
+abbrev pub gate_of : {D : Type 0} → Home D → ℕ
+gate_of home = gate_of_journal home.journal
 
 -- The site reads as the replay of the entries, and all of that is on the disk.
 pub record IsReplayed {D : Type 0} (seen : D → List ℕ) (may_leave : D → List ℕ → Type 0) (home : Home D) (tail : List ℕ) : Type 0 where

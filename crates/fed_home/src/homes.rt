@@ -1,5 +1,5 @@
 //! Sites on a disk. Whatever a site says rests on entries that the disk has had before.
-ghost use Rattle.std.specs.Prelude.{◌≡◌, ◌≢◌, ◌≤◌, ◌<◌, ◌+◌, ◌++◌, ◌∷◌, [], List, ℕ, Ok, Some, false, length, map, IfErr, IfOk, IfSome, IsErrOf, MatchOption, MatchResult, OnOk};
+ghost use Rattle.std.specs.Prelude.{◌≡◌, ◌≢◌, ◌≤◌, ◌<◌, ◌+◌, ◌++◌, ◌∷◌, [], List, ℕ, Ok, Some, false, length, map, IfErr, IfOk, IfSome, IsErrOf, MatchOption, MatchResult, OnErr, OnOk};
 ghost use Rattle.std.specs.List.{All};
 ghost use Rattle.fed_site.specs.Journal.{after_lines, kept_lines};
 ghost use Rattle.fed_site.specs.Rosters.{roster_after_lines};
@@ -72,7 +72,7 @@ fn begin<D: Device + Drop>(
 }
 
 impl<D: Device + Drop> Home<D> {
-    ghost use Rattle.fed_home.specs.Home.{IsOpen, IsReplayed, state_in, home_device, site_of};
+    ghost use Rattle.fed_home.specs.Home.{IsOpen, IsReplayed, gate_of, state_in, home_device, site_of};
 
     /// Makes the home of a new site in a file that has no entry: it is new, or was cut short before the header was
     /// acknowledged. Gives what stood behind the closed gate too, which is cut. Errors: `Damaged` and `HasEntries` of a file
@@ -197,6 +197,9 @@ impl<D: Device + Drop> Home<D> {
         ensures fault { IfErr result (StopsAnswers (D.errors (home_device self.old)) (D.errors (home_device self.new))
             (length (at_rest (entries_in (D.seen (home_device self.old))
             ++ kept_lines (site_of self.old).roster (state_in self.old) (map (λ line. line.now) lines.now))))) }
+
+        // After an error the home still tells the gate behind what was acknowledged.
+        ensures gate { OnErr result (gate_of self.new ≡ gate_of self.old) }
     {
         let answered = answer_lines(self.alloc, &mut self.site, lines, asked)?;
         self.journal.append(&answered.kept)?;
@@ -270,6 +273,14 @@ impl<D: Device + Drop> Home<D> {
         ensures { result ≡ length (D.seen (home_device self.now)) }
     {
         self.journal.file_len()
+    }
+
+    /// Where the journal's closed gate stands behind the last entry that is acknowledged, in bytes from the front; also
+    /// after lines that could not be kept. A home that is opened again and tells less has lost entries.
+    pub fn gate(&self) -> usize
+        ensures { result ≡ gate_of self.now }
+    {
+        self.journal.gate()
     }
 
     /// The site.

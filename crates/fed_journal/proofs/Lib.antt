@@ -2,6 +2,7 @@ pub mod Appending
 pub mod Changed
 pub mod Contents
 pub mod Crash
+pub mod Failing
 pub mod Hexadecimal
 pub mod Moments
 pub mod Reading

@@ -25,6 +25,10 @@ pub record Has (file : List ℕ) (entries : List (List ℕ)) (tail digest : List
 abbrev pub device_of : {D : Type 0} → Journal D → D
 device_of journal = journal.device
 
+-- where it knows the closed gate to stand, behind the entries that are acknowledged
+abbrev pub gate_of : {D : Type 0} → Journal D → ℕ
+gate_of journal = journal.gate
+
 -- The journal knows what its file has, and all of that is on the disk.
 pub record IsRead {D : Type 0} (seen : D → List ℕ) (may_leave : D → List ℕ → Type 0) (journal : Journal D) (tail : List ℕ) : Type 0 where
   pub has : Has (seen journal.device) (entries_in (seen journal.device)) tail journal.digest journal.gate journal.len

@@ -1,5 +1,5 @@
 //! Journals: texts in groups, each group on the disk before it is acknowledged.
-ghost use Rattle.std.specs.Prelude.{◌≡◌, ◌≤◌, ◌++◌, ◌∷◌, [], List, ℕ, false, length, map, IfErr, IfOk, IsErrOf, MatchResult, OnOk};
+ghost use Rattle.std.specs.Prelude.{◌≡◌, ◌≤◌, ◌++◌, ◌∷◌, [], List, ℕ, false, length, map, IfErr, IfOk, IsErrOf, MatchResult, OnErr, OnOk};
 ghost use Rattle.std.specs.List.{All};
 ghost use Rattle.std.specs.declared.io.Error.{Error};
 ghost use Rattle.fed_journal.specs.Device.{Holds, LeavesJust, LeavesOnly, Torn};
@@ -101,7 +101,7 @@ fn open_gate<D: Device>(device: &mut D, gate: usize) -> Result<(), JournalFault>
 }
 
 impl<D: Device + Drop> Journal<D> {
-    ghost use Rattle.fed_journal.specs.Journal.{IsBeforeOrAfter, IsOldOrNew, IsRead, IsSettled, device_of, entries_in};
+    ghost use Rattle.fed_journal.specs.Journal.{IsBeforeOrAfter, IsOldOrNew, IsRead, IsSettled, device_of, entries_in, gate_of};
 
     /// Reads the journal of a file that the disk has, as after a crash, or of a new file, which is empty. Changes nothing:
     /// so the tail can be kept elsewhere before `repair` cuts it, and nothing is lost by a crash in between.
@@ -177,6 +177,9 @@ impl<D: Device + Drop> Journal<D> {
         ensures fault { IfErr result (StopsGroup (D.errors (device_of self.old)) (D.errors (device_of self.new))
             (length (at_rest (entries_in (D.seen (device_of self.old)) ++ map (λ text. text.now) texts.now)))) }
         ensures full { IsErrOf result JournalFault.Full → self.new ≡ self.old }
+
+        // After an error the journal still tells the gate behind what was acknowledged.
+        ensures gate { OnErr result (gate_of self.new ≡ gate_of self.old) }
     {
         if texts.is_empty() {
             return Ok(());
@@ -235,6 +238,14 @@ impl<D: Device + Drop> Journal<D> {
         ensures { result ≡ length (D.seen (device_of self.now)) }
     {
         self.len
+    }
+
+    /// Where the closed gate stands behind the last entry that is acknowledged, in bytes from the front; also after an
+    /// `append` that failed.
+    pub fn gate(&self) -> usize
+        ensures { result ≡ gate_of self.now }
+    {
+        self.gate
     }
 
     /// Gives the device back.

@@ -2,7 +2,6 @@
 pub mod EachWord
 pub mod Entries
 pub mod JobLaws
-pub mod LookCases
 pub mod Placed
 pub mod PlanWords
 pub mod Sites

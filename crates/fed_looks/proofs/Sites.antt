@@ -4,7 +4,7 @@ use Rattle.std.specs.List.{range_with_len}
 use Rattle.std.proofs.Common.{◌≡◌, Bool, true, false, refl, ℕ, suc, List, [], ◌∷◌, ◌++◌, sym, ap, ap₂, ◌∙◌}
 use Rattle.std.proofs.lemmas.List.{map-append}
 use Rattle.std.proofs.lemmas.List.Elements.{filter-append}
-use Rattle.fed_machine.proofs.Ranges.{grown}
+use Rattle.fed_qstat.proofs.Ranges.{grown}
 
 mapped_if : {D : Type 0} (f : ℕ → D) (b : Bool) (x : ℕ) → (if b then f x ∷ [] else []) ≡ map f (if b then x ∷ [] else [])
 mapped_if f true x = refl

@@ -7,21 +7,14 @@ mod job_lines;
 mod job_values;
 /// Laws of looks.
 pub mod laws;
-/// The texts of looks.
-mod look_texts;
 /// What words ask for a look.
 pub mod looks;
 /// What is reserved.
 mod reserved;
-/// What a site has seen of the others.
-mod seen;
 /// Why a job stands where it does.
 mod whys;
 
-pub use fed_machine::{chart_svg, machine_lines};
 pub use job_lines::jobs_json;
-pub use look_texts::look_text;
 pub use looks::{Look, MAX_LEFT_OUT, read_look};
 pub use reserved::reservation_lines;
-pub use seen::seen_lines;
 pub use whys::why_line;

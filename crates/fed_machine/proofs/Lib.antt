@@ -1,4 +1,3 @@
--- Lemmas on the bars of a chart, on the entries of a board, and on what is said of numbers.
+-- Lemmas on the bars of a chart and on the entries of a board.
 pub mod ChartApart
 pub mod Entries
-pub mod Ranges

@@ -3,3 +3,5 @@ pub mod Machine
 pub mod ChartBars
 pub mod ChartMarks
 pub mod Chart
+pub mod PlanText
+pub mod Planned

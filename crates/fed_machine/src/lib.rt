@@ -1,4 +1,4 @@
-//! What a site's machine has at a moment and later, in lines and as a picture. Each is a function of the roster, of what
+//! What a site's machine has at a moment and later, its plan too, in lines and as a picture. Each is a function of the roster, of what
 //! the board reads as, of the site and of the moment.
 #![tactic(auto)]
 
@@ -10,7 +10,13 @@ pub mod chart_bars;
 mod chart_marks;
 /// What is said of a site's machine.
 mod machines;
+/// The text of a plan.
+pub mod plan_texts;
+/// What is said of the plan of a site.
+mod planned_texts;
 
 pub use chart::chart_svg;
 pub use chart_bars::{Bar, Kind, bars_at};
 pub use machines::machine_lines;
+pub use plan_texts::plan_text;
+pub use planned_texts::{plan_line, plan_lines, plan_text_without};

@@ -11,7 +11,7 @@ use Rattle.fed_threads.specs.Seat.{Known, known_by}
 use Rattle.fed_script.specs.Line.{Line, skips, begins, acts, lists, misuses, ships, takes, plans, compares}
 use Rattle.fed_qstat.specs.Outcome.{answer_line, line_of_usage, text_of_outcome}
 use Rattle.fed_qstat.specs.Listed.{listed}
-use Rattle.fed_qstat.specs.Planned.{text_of_plan}
+use Rattle.fed_machine.specs.Planned.{text_of_plan}
 use Rattle.fed_main.specs.declared.live_sites.Log.{Log}
 
 -- what a thread's seat knows, and what was answered so far

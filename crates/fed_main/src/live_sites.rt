@@ -8,10 +8,11 @@ ghost use Rattle.fed_threads.specs.Seat.{known_by, starts};
 ghost use Rattle.fed_qstat.specs.Listed.{listed};
 ghost use Rattle.fed_qstat.specs.Outcome.{line_of_usage};
 ghost use Rattle.fed_main.specs.Thread.{asks as asks_site, reads, Answers, Does, Each, LineSays, Looked, MakesPacket, Only, ThreadSays};
-ghost use Rattle.fed_qstat.specs.Planned.{text_of_plan};
+ghost use Rattle.fed_machine.specs.Planned.{text_of_plan};
 
 use fed_board::Board;
-use fed_qstat::{listing_text, outcome_line, plan_line, usage_line};
+use fed_machine::plan_line;
+use fed_qstat::{listing_text, outcome_line, usage_line};
 use fed_record::{Command, Moment, Who};
 use fed_script::Line;
 use fed_stamp::{JobId, Roster, SiteId};

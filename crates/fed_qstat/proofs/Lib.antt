@@ -4,5 +4,6 @@ pub mod Columns
 pub mod DistinctIdentifiers
 pub mod ListedSets
 pub mod NamesBelow
+pub mod Ranges
 pub mod ShownFields
 pub mod StartLines

@@ -7,6 +7,4 @@ pub mod Layout
 pub mod Listed
 pub mod Listing
 pub mod Outcome
-pub mod PlanText
-pub mod Planned
 pub mod Short

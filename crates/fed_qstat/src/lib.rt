@@ -1,5 +1,5 @@
-//! What is said of the jobs of a board and of plans, and the texts that answer the lines of a site: the same in a replay,
-//! live, and at a site by itself.
+//! What is said of the jobs of a board, and the texts that answer the lines of a site: the same in a replay, live, and at
+//! a site by itself.
 #![tactic(auto)]
 
 /// What listings show of a job, piece by piece.
@@ -18,10 +18,6 @@ pub mod listings;
 mod outcomes;
 /// The columns of the short listing.
 mod padding;
-/// The text of a plan.
-pub mod plan_texts;
-/// What is said of the plan of a site.
-mod planned_texts;
 /// The short listing.
 mod short_lines;
 
@@ -30,5 +26,3 @@ pub use identifiers::{identifier_text, site_text};
 pub use listing_texts::listing_text;
 pub use listings::{full, list};
 pub use outcomes::{AnswerText, outcome_line, usage_line};
-pub use plan_texts::plan_text;
-pub use planned_texts::{plan_line, plan_lines, plan_text_without};

@@ -11,7 +11,7 @@ use Rattle.fed_model.specs.Run.{World, run, start, step}
 use Rattle.fed_script.specs.Line.{Line, skips, begins, acts, lists, misuses, ships, takes, plans, compares, first_line_in, later_line_in}
 use Rattle.fed_qstat.specs.Outcome.{answer_line, line_of_usage, text_of_outcome}
 use Rattle.fed_qstat.specs.Listed.{listed}
-use Rattle.fed_qstat.specs.Planned.{planned}
+use Rattle.fed_machine.specs.Planned.{planned}
 
 -- the sites, and the world of the run so far
 pub record Script : Type 0 where

@@ -10,12 +10,13 @@ ghost use Rattle.fed_script.specs.LineView.{said_by};
 ghost use Rattle.fed_replay.specs.ScriptWorld.{reads};
 ghost use Rattle.fed_qstat.specs.Outcome.{answer_line, text_of_outcome};
 ghost use Rattle.fed_qstat.specs.Listed.{listed};
-ghost use Rattle.fed_qstat.specs.Planned.{planned};
+ghost use Rattle.fed_machine.specs.Planned.{planned};
 ghost use Rattle.fed_replay.specs.Script.{after_commands, after_event, answered, compared, does, later, says, view_at};
 
 use fed_board::Board;
 use fed_lattice::NoMemory;
-use fed_qstat::{AnswerText, listing_text, outcome_line, plan_line, usage_line};
+use fed_machine::plan_line;
+use fed_qstat::{AnswerText, listing_text, outcome_line, usage_line};
 use fed_record::{Command, Moment, Who};
 use fed_script::laws::lines_name_sites_of_the_roster;
 use fed_script::{BoxedRoster, Line, read_later_line};

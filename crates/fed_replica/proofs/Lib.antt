@@ -1,4 +1,5 @@
 -- What sites answer, for callers too.
+pub mod FirstCases
 pub mod RemovedPairs
 pub mod Unrefused
 pub mod StepLaws

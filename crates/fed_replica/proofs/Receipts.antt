@@ -9,7 +9,7 @@ use Rattle.fed_model.specs.declared.taken.Taken.{Taken}
 use Rattle.fed_board.specs.Board.{board_reads}
 use Rattle.fed_theory.proofs.Posts.{none_missing, first_missing}
 use Rattle.fed_theory.specs.ViewSteps.{join_records}
-use Rattle.fed_wire.specs.Packet.{PacketValue}
+use Rattle.fed_delta.specs.Packet.{PacketValue}
 use Rattle.fed_replica.specs.Outcome.{outcome_of_packet_unless}
 use Rattle.fed_replica.specs.Replica.{ReplicaValue, heard_from}
 use Rattle.fed_replica.specs.State.{State, lacking, after_packet_unless, state_of}

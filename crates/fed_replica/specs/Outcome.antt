@@ -1,7 +1,7 @@
 -- What is answered to commands and to packets.
 use Rattle.std.specs.Prelude.{ℕ, Bool, true, false, not, Option, Some, None, Result, Ok, Err}
 use Rattle.fed_stamp.specs.Version.{is_below}
-use Rattle.fed_wire.specs.Packet.{PacketValue}
+use Rattle.fed_delta.specs.Packet.{PacketValue}
 use Rattle.fed_model.specs.declared.outcomes.Outcome.{Outcome}
 use Rattle.fed_model.specs.declared.refusals.Refusal.{Refusal}
 use Rattle.fed_model.specs.declared.replies.Reply.{Reply}

@@ -7,7 +7,7 @@ use Rattle.fed_board.specs.Board.{board_reads}
 use Rattle.fed_model.specs.View.{View, view}
 use Rattle.fed_theory.specs.ViewSteps.{add_to_view, join_records}
 use Rattle.fed_theory.specs.Cut.{cut}
-use Rattle.fed_wire.specs.Packet.{PacketValue}
+use Rattle.fed_delta.specs.Packet.{PacketValue}
 use Rattle.fed_model.specs.Answer.{Answer, Answer.Refuses, Answer.Replies}
 use Rattle.fed_model.specs.Packet.{missing}
 use Rattle.fed_replica.specs.Replica.{ReplicaValue, heard_from}

@@ -3,10 +3,14 @@
 
 /// What a replica answers to commands and to packets.
 pub mod answers;
+/// Tables of refusals.
+pub mod cases;
 /// What a site does where a command comes.
 pub mod commands;
 /// That the counts which a board keeps are those that refusals look at.
 pub mod counts;
+/// The desk of a job's origin: what it decides where a site asks for the job.
+pub mod desks;
 /// What operations take from the record of their job.
 pub mod effects;
 /// What is done where sites ask for something at a job.
@@ -27,6 +31,8 @@ pub mod retire_steps;
 pub mod steps;
 
 pub use answers::{Answered, Received};
+pub use cases::first_refusal;
 pub use counts::counts_are_read;
-pub use fed_model::Taken;
+pub use desks::{decide, decide_on, grant_refusal};
+pub use fed_model::{Decision, Taken};
 pub use replicas::Replica;

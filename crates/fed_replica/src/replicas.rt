@@ -21,12 +21,11 @@ use crate::answers::{Answered, Received, refused};
 use crate::commands::next_step;
 use crate::steps::Step;
 use fed_board::{Board, Records};
-use fed_delta::{Absorb, Delta, absorb, delta_since};
+use fed_delta::{Absorb, Delta, Packet, absorb, delta_since, sender_is_in_range};
 use fed_lattice::{Causal, NoMemory, Table};
 use fed_model::Taken;
 use fed_record::{Command, Refusal, Reply, Who};
 use fed_stamp::{SITES, SiteId, Version, site_is_in_range};
-use fed_wire::{Packet, sender_is_in_range};
 use std::alloc::Global;
 use std::marker::Model;
 

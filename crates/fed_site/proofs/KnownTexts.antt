@@ -18,7 +18,8 @@ use Rattle.fed_theory.proofs.VersionGrowth.{zeros_below}
 use Rattle.fed_theory.specs.Cut.{cut}
 use Rattle.fed_delta.proofs.CutLaws.{cut_whole}
 use Rattle.fed_job_json.specs.declared.formats.Format.TheVariants.{Two}
-use Rattle.fed_wire.specs.Packet.{PacketValue, IsPacket}
+use Rattle.fed_wire.specs.Packet.{IsPacket}
+use Rattle.fed_delta.specs.Packet.{PacketValue}
 use Rattle.fed_wire.specs.Reading.{packet_in}
 use Rattle.fed_wire.proofs.PacketLaws.{again}
 use Rattle.fed_replica.specs.State.{State}

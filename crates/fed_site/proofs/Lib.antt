@@ -5,4 +5,5 @@ pub mod ShortNames
 pub mod Replays
 pub mod Openings
 pub mod Lines
+pub mod LookCases
 pub mod KnownTexts

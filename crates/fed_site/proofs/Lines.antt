@@ -11,7 +11,7 @@ use Rattle.fed_site.specs.Journal.{SaidAs, after_lines}
 use Rattle.fed_site.specs.OwnLine.{OwnLine, told_by}
 use Rattle.fed_site.specs.Rosters.{roster_after, roster_after_lines, roster_told}
 use Rattle.fed_site.specs.Site.{SiteValue}
-use Rattle.fed_qstat.specs.Planned.{plan_if_any, plan_or_none}
+use Rattle.fed_machine.specs.Planned.{plan_if_any, plan_or_none}
 use Rattle.fed_site.specs.declared.complaints.Complaint.{Complaint}
 use Rattle.fed_site.specs.declared.site.Answered.{Answered}
 use Rattle.fed_site.specs.Answered.{begun_of, bytes_of, complaint_of, kept_of}

@@ -3,7 +3,7 @@ use Rattle.std.specs.Prelude.{if◌then◌else◌, nat_lt}
 use Rattle.std.proofs.Common.{◌≡◌, ℕ, zero, suc, Bool, true, false, List, [], get_or, replicate, refl, ap, ◌∙◌}
 use Rattle.fed_board.specs.Board.{board_reads}
 use Rattle.fed_model.specs.View.{view}
-use Rattle.fed_wire.specs.Packet.{PacketValue}
+use Rattle.fed_delta.specs.Packet.{PacketValue}
 use Rattle.fed_replica.specs.Replica.{ReplicaValue}
 use Rattle.fed_replica.specs.State.{empty_at, state_of}
 use Rattle.fed_site.specs.Known.{knowing}

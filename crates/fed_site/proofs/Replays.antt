@@ -4,14 +4,14 @@ use Rattle.std.proofs.Common.{◌≡◌, ℕ, ◌+◌, Bool, true, false, List, 
 use Rattle.fed_model.specs.declared.askers.Who.{Who}
 use Rattle.fed_model.specs.declared.commands.Command.{Command}
 use Rattle.fed_wire.specs.declared.faults.WireFault.{WireFault}
-use Rattle.fed_wire.specs.Packet.{PacketValue}
+use Rattle.fed_delta.specs.Packet.{PacketValue}
 use Rattle.fed_wire.specs.Reading.{packet_in}
 use Rattle.fed_model.specs.Answer.{Answer, Answer.Refuses, Answer.Replies, answer_to}
 use Rattle.fed_replica.specs.Outcome.{adds}
 use Rattle.fed_replica.specs.State.{State, after_answer, after_packet_unless, lacking}
 use Rattle.fed_script.specs.Line.{skips, begins, acts, lists, misuses, ships, takes, plans, compares}
 use Rattle.fed_qstat.specs.Outcome.{answer_line}
-use Rattle.fed_qstat.specs.Planned.{plan_if_any}
+use Rattle.fed_machine.specs.Planned.{plan_if_any}
 use Rattle.fed_site.specs.declared.complaints.Complaint.{Complaint}
 use Rattle.fed_site.specs.Journal.{after_lines, kept_line, kept_lines}
 use Rattle.fed_site.specs.OwnLine.{OwnLine, tells, carries, asks, says, own_line_of, told_by}

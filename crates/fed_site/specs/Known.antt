@@ -6,7 +6,8 @@ use Rattle.fed_stamp.specs.Version.{is_below}
 use Rattle.fed_board.specs.Board.{board_reads}
 use Rattle.fed_job_json.specs.declared.formats.Format.TheVariants.{Two}
 use Rattle.fed_wire.specs.declared.faults.WireFault.{WireFault}
-use Rattle.fed_wire.specs.Packet.{PacketValue, packet_value}
+use Rattle.fed_wire.specs.Packet.{packet_value}
+use Rattle.fed_delta.specs.Packet.{PacketValue}
 use Rattle.fed_wire.specs.Reading.{packet_in}
 use Rattle.fed_replica.specs.State.{State, hearing}
 use Rattle.fed_site.specs.Packets.{is_foreign}

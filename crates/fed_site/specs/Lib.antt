@@ -1,8 +1,10 @@
 -- What the contracts of this crate cite.
 pub mod Site
 pub mod Line
+pub mod LookText
 pub mod Packets
 pub mod Rosters
+pub mod Seen
 pub mod OwnLine
 pub mod OwnLineView
 pub mod Says

@@ -18,7 +18,8 @@ use Rattle.fed_wire.specs.declared.faults.Place.{Place}
 use Rattle.fed_wire.specs.declared.faults.WireFault.{WireFault}
 use Rattle.fed_wire.specs.declared.faults.WireFault.TheVariants.{NotJson, Version, Shape, Range, NoMemory}
 use Rattle.fed_model.specs.Limits.{IsWithinLimits}
-use Rattle.fed_wire.specs.Packet.{PacketValue, IsPacket, packet_value}
+use Rattle.fed_wire.specs.Packet.{IsPacket, packet_value}
+use Rattle.fed_delta.specs.Packet.{PacketValue}
 use Rattle.fed_wire.specs.Reading.{text_value}
 use Rattle.fed_replica.specs.State.{State, IsMadeFor}
 

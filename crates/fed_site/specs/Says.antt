@@ -4,7 +4,7 @@ use Rattle.std.specs.Option.{option_map, option_or}
 use Rattle.fed_model.specs.declared.askers.Who.{Who}
 use Rattle.fed_model.specs.declared.commands.Command.{Command}
 use Rattle.fed_wire.specs.declared.faults.WireFault.{WireFault}
-use Rattle.fed_wire.specs.Packet.{PacketValue}
+use Rattle.fed_delta.specs.Packet.{PacketValue}
 use Rattle.fed_wire.specs.Reading.{packet_in}
 use Rattle.fed_model.specs.Answer.{Answer, Answer.Refuses, Answer.Replies, answer_to}
 use Rattle.fed_replica.specs.State.{State, after_answer, after_packet_unless, lacking}
@@ -12,9 +12,9 @@ use Rattle.fed_model.specs.Outcome.{outcome_of_answer}
 use Rattle.fed_replica.specs.Outcome.{adds, outcome_of_packet_unless}
 use Rattle.fed_script.specs.Line.{Line, skips, acts, lists, misuses, ships, plans}
 use Rattle.fed_qstat.specs.Outcome.{answer_line, line_of_usage, text_of_outcome}
-use Rattle.fed_qstat.specs.Planned.{plan_if_any, plan_or_none}
+use Rattle.fed_machine.specs.Planned.{plan_if_any, plan_or_none}
 use Rattle.fed_qstat.specs.Listed.{listed}
-use Rattle.fed_looks.specs.LookText.{text_of_look}
+use Rattle.fed_site.specs.LookText.{text_of_look}
 use Rattle.fed_site.specs.declared.answers.Begun.{Begun}
 use Rattle.fed_site.specs.declared.complaints.Complaint.{Complaint}
 use Rattle.fed_site.specs.OwnLine.{OwnLine, tells, carries, asks, says, own_line_of}

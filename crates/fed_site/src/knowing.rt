@@ -8,10 +8,11 @@ ghost use Rattle.fed_site.specs.Known.{heard_line as line_of_heard, is_whole as 
 ghost use Rattle.fed_site.specs.Packets.{IsPacketText};
 
 use crate::packets::{is_foreign, of_text};
+use fed_delta::Packet;
 use fed_lattice::NoMemory;
 use fed_replica::Replica;
 use fed_stamp::{Roster, SiteId, Version, site_is_in_range};
-use fed_wire::{Packet, read, told_packets_are_within_limits, write};
+use fed_wire::{read, told_packets_are_within_limits, write};
 use std::alloc::Global;
 
 /// Whether the packet is the site's own, needs nothing, and tells of no site that the roster hasn't.

@@ -15,7 +15,7 @@ ghost use Rattle.fed_site.specs.Rosters.{begins, roster_after, roster_after_line
 ghost use Rattle.fed_site.specs.Says.{site_says};
 
 use fed_board::records_that_read_the_same_are_equal;
-use fed_wire::Packet;
+use fed_delta::Packet;
 
 /// A line that isn't kept changes nothing.
 pub fn lines_that_are_not_kept_change_nothing()

@@ -14,6 +14,8 @@ mod identifier_lines;
 mod knowing;
 /// Laws of what sites say and keep.
 pub mod laws;
+/// The texts of looks.
+mod look_texts;
 /// What the user is told of words that ask nothing.
 mod misused;
 /// What the user is told where identifiers aren't retired.
@@ -30,6 +32,8 @@ mod reasons;
 mod refused;
 /// Rosters that go on.
 mod rosters;
+/// What a site has seen of the others.
+mod seen;
 /// Sites.
 pub mod site;
 /// Answers, and what the user is told beside them.
@@ -38,6 +42,8 @@ pub mod tellings;
 pub use answers::{Begun, LineText, TextAnswer};
 pub use complaints::{Complaint, RefusedCommand};
 pub use identifier_lines::IdentifierLine;
+pub use look_texts::look_text;
 pub use rosters::are_same_rosters;
+pub use seen::seen_lines;
 pub use site::{Answered, Site};
 pub use tellings::{Told, words_beside};

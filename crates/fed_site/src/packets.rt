@@ -14,12 +14,13 @@ ghost use Rattle.fed_wire.specs.Reading.{packet_in};
 
 use crate::answers::{LineText, TextAnswer, undone};
 use crate::complaints::Complaint;
+use fed_delta::Packet;
 use fed_lattice::NoMemory;
 use fed_model::Outcome;
 use fed_qstat::{AnswerText, outcome_line};
 use fed_replica::{Received, Replica, Taken};
 use fed_stamp::{Roster, SiteId, Version, site_is_in_range};
-use fed_wire::{Packet, Part, Place, WireFault, read, told_packets_are_within_limits, write};
+use fed_wire::{Part, Place, WireFault, read, told_packets_are_within_limits, write};
 use std::alloc::{AllocError, Global};
 use std::borrow::CowStr;
 

@@ -23,8 +23,11 @@ use Rattle.fed_model.specs.declared.beginnings.Ending.{Ending}
 use Rattle.fed_model.specs.declared.refusals.Refusal.{Refusal}
 use Rattle.fed_model.specs.declared.replies.Reply.{Reply}
 use Rattle.fed_model.specs.declared.windows.Window.{Window}
-use Rattle.fed_model.specs.Body.{Body, Body.Submit, Body.OfJob, Body.Reserve, JobBody.Grant, JobBody.HandBack, JobBody.Begin, JobBody.Finish, is_of_job, is_of_reservation, of_job, of_reservation, Body.Cancel, Body.Retire}
-use Rattle.fed_model.specs.Field.{begin_in, finish_in, window_in, field}
+use Rattle.fed_model.specs.Body.{Body, Body.Submit, Body.OfJob, Body.Reserve, JobBody.Grant, JobBody.HandBack, JobBody.Begin, JobBody.Finish, JobBody.Delete, is_of_job, is_of_reservation, of_job, of_reservation, Body.Cancel, Body.Retire}
+use Rattle.fed_model.specs.Field.{begin_in, deletion_in, finish_in, window_in, field}
+use Rattle.fed_lattice.specs.Flag.{has_changes}
+use Rattle.fed_lattice.specs.Part.{part}
+use Rattle.fed_lattice.specs.PartLaws.{source}
 use Rattle.fed_model.specs.JobView.{JobView, job_view}
 use Rattle.fed_model.specs.Letter.{is_submitted, is_gone, is_granted_to}
 use Rattle.fed_model.specs.Retired.{is_within, is_retired}
@@ -66,11 +69,12 @@ IsLive ops (OfJob job (Grant site term)) = is_retired ops job ≡ false
 IsLive ops (OfJob job (Begin beginning)) = is_retired ops job ≡ false
 IsLive ops _ = Unit {0}
 
--- the job is finished; or it has not begun, and no other site than this holds its grant
+-- the job is finished; or it has not begun, no other site than this holds its grant, and it is deleted
 abbrev pub IsOver : History Body → ℕ → StampValue → Type 0
 IsOver ops here job =
     ((s : StampValue) × (a : Ending) × Has ops (s, OfJob job (Finish a)))
-    ⊎ (((s : StampValue) (a : Beginning) → Has ops (s, OfJob job (Begin a)) → ⊥) × ((site : ℕ) → IsHolder ops job site → site ≡ here))
+    ⊎ (((s : StampValue) (a : Beginning) → Has ops (s, OfJob job (Begin a)) → ⊥) × ((site : ℕ) → IsHolder ops job site → site ≡ here)
+    × ((s : StampValue) × Has ops (s, OfJob job Delete)))
 
 -- each job that is retired is over, or was retired before, and each reservation is cancelled, or was retired before
 abbrev pub IsClosing : History Body → StampValue → Body → Type 0
@@ -168,6 +172,22 @@ module _ (ops : History Body) (l : IsLawful ops) (here : ℕ) (t : StampValue) (
       let f = field_found finish_in (of_job job ops) o.0 o.1 in
       let m = Has-filter (is_of_job job) ops (o.0.0, f.0) f.1 in
       (o.0.0, o.0.1, subst (λ (body : Body). Has ops (o.0.0, body)) (finish_body job f.0 o.0.1 o.0.0 f.2 m.1) m.0)
+
+  -- a job that is deleted has a Delete
+  delete_body : (job : StampValue) (body : Body) (u : Unit {0}) (s : StampValue) → deletion_in body ≡ Some u → is_of_job job (s, body) ≡ true → body ≡ OfJob job Delete
+  delete_body job (OfJob named Delete) u s e of = let p : named ≡ job = same_stamp_is named job of in (λ i. OfJob (p i) Delete)
+  delete_body job _ u s e of = cc
+
+  deletion : (job : StampValue) → (job_view (of_job job ops)).stages.deleted ≡ true → (s : StampValue) × Has ops (s, OfJob job Delete)
+  deletion job e = go (part deletion_in (of_job job ops)) refl e
+    where
+      go : (h : History (Unit {0})) → part deletion_in (of_job job ops) ≡ h → has_changes h ≡ true → (s : StampValue) × Has ops (s, OfJob job Delete)
+      go [] is e = cc
+      go (c ∷ h) is e =
+          let there : Has (part deletion_in (of_job job ops)) c = subst (λ (l : History (Unit {0})). Has l c) (sym is) (inl refl) in
+          let f = source deletion_in (of_job job ops) c there in
+          let m = Has-filter (is_of_job job) ops (c.0, f.0) f.1 in
+          (c.0, subst (λ (body : Body). Has ops (c.0, body)) (delete_body job f.0 c.1 c.0 f.2 m.1) m.0)
 
   gone_from_finished : (job : StampValue) → is_some (job_view (of_job job ops)).stages.finished ≡ true → is_gone (job_view (of_job job ops)) ≡ true
   gone_from_finished job e =
@@ -292,7 +312,8 @@ module _ (ops : History Body) (l : IsLawful ops) (here : ℕ) (t : StampValue) (
         | inl f ↦ inl (finished job f)
         | inr d ↦ (
             let parts = and_parts (j.stages.deleted && is_none j.stages.begun) (not (is_taken here j)) d in
-            inr (not_begun job (not-true (is_some j.stages.begun) (and_parts j.stages.deleted (is_none j.stages.begun) parts.0).1), λ site h. holder_stage job site h j.stages.grant refl (not-true _ parts.1)))
+            let both = and_parts j.stages.deleted (is_none j.stages.begun) parts.0 in
+            inr (not_begun job (not-true (is_some j.stages.begun) both.1), λ site h. holder_stage job site h j.stages.grant refl (not-true _ parts.1), deletion job both.0))
       ]
 
   -- what is in the range is settled

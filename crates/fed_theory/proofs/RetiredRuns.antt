@@ -1,6 +1,6 @@
 -- Once a job is retired it never begins, and it stays retired.
 use Rattle.std.specs.Prelude.{if◌then◌else◌, nat_lt, ◌==◌, Option, Some, None, Result, Ok, Err}
-use Rattle.std.proofs.Common.{◌≡◌, ℕ, ◌≤◌, ◌<◌, List, ◌∷◌, ◌++◌, Bool, true, false, refl, sym, ap, subst, ◌∙◌, inl, inr}
+use Rattle.std.proofs.Common.{◌⊎◌, ◌≡◌, ℕ, ◌≤◌, ◌<◌, List, ◌∷◌, ◌++◌, Bool, true, false, refl, sym, ap, subst, ◌∙◌, inl, inr}
 use Rattle.std.proofs.lemmas.Bool.{and_from, both_ways, eq-eqb, eqb-true, ltb-true, not-false}
 use Rattle.fed_stamp.specs.declared.versions.ClockFull.{ClockFull}
 use Rattle.fed_stamp.specs.Stamp.{StampValue}
@@ -16,9 +16,9 @@ use Rattle.fed_model.specs.declared.commands.Command.{Command}
 use Rattle.fed_model.specs.declared.refusals.Refusal.{Refusal}
 use Rattle.fed_model.specs.declared.replies.Reply.{Reply}
 use Rattle.fed_model.specs.declared.taken.Taken.{Taken}
-use Rattle.fed_model.specs.Body.{Body, Body.Submit, Body.OfJob, JobBody.Begin, JobBody.Finish, Body.Reserve, Body.Cancel, Body.Retire}
+use Rattle.fed_model.specs.Body.{Body, Body.Submit, Body.OfJob, JobBody.Begin, JobBody.Finish, JobBody.Delete, Body.Reserve, Body.Cancel, Body.Retire}
 use Rattle.fed_model.specs.Retired.{is_within, retires}
-use Rattle.fed_model.specs.View.{view}
+use Rattle.fed_model.specs.View.{view, HasSubmit}
 use Rattle.fed_model.specs.Answer.{Answer, Answer.Refuses, Answer.Replies, effect, replies, answer_unless, answer_to, answer}
 use Rattle.fed_model.specs.Desk.{first_of}
 use Rattle.fed_model.specs.Refusals.{refusals}
@@ -173,3 +173,15 @@ retired_cancelled n events few site other id window e h =
     let r = retiring (w.site site).set id e in
     let c = g.1.cancelled r.0 id ((g.1.cuts site).within r.0 r.1) r.2 (window, (g.1.cuts other).within (id, Reserve window) h) in
     (c.0, g.1.own c.0.site (c.0, Cancel id) c.1 refl)
+
+-- a job that a site knows to be retired has ended: some site has finished it, or deleted it
+pub retired_ended : (n : ℕ) (events : List Event) → n ≤ 16 → (site other : ℕ) (job : StampValue) → (view ((run n events).site site).set).retired job ≡ true → HasSubmit ((run n events).site other).set job
+    → ((s : StampValue) × (a : Ending) × Has ((run n events).site s.site).set (s, OfJob job (Finish a))) ⊎ ((s : StampValue) × Has ((run n events).site s.site).set (s, OfJob job Delete))
+retired_ended n events few site other job e sub =
+    let w = run n events in
+    let g = run_good n events few in
+    let r = retiring (w.site site).set job e in
+    elim (g.1.closed r.0 job ((g.1.cuts site).within r.0 r.1) r.2 (sub.0, sub.1, sub.2, (g.1.cuts other).within (job, Submit sub.0 sub.1 sub.2) sub.3)) [
+      | inl f ↦ inl (f.0, f.1, g.1.own f.0.site (f.0, OfJob job (Finish f.1)) f.2 refl)
+      | inr idle ↦ inr (idle.2.0, g.1.own idle.2.0.site (idle.2.0, OfJob job Delete) idle.2.1 refl)
+    ]

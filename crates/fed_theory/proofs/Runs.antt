@@ -292,6 +292,7 @@ module _ (w : World) (here : ℕ) (small : here < 16) (history : History Body) (
       greatest = λ s other k g. h.greatest s other k (Has-left history (new ∷ []) _ g);
       kept = λ s g. h.kept s (Has-left history (new ∷ []) _ g);
     }),
+    (only.2.0, Has-left history (new ∷ []) _ only.2.1),
   )
 
   -- who holds the grant holds it by what its origin knows
@@ -310,6 +311,7 @@ module _ (w : World) (here : ℕ) (small : here < 16) (history : History Body) (
   over_all job at (inr only) = inr (
     λ s a h. only.0 s a (good.own here _ h (only.1 s.site (held_here job at s.site (good.lawful.begun_held job s a h)))),
     λ site h. only.1 site (held_here job at site h) ∙ sym at,
+    (only.2.0, (good.cuts here).within _ only.2.1),
   )
 
   submitted_old : (job : StampValue) → (new.0 ≡ job → ⊥) → HasSubmit (history ++ new ∷ []) job → HasSubmit history job

@@ -1,6 +1,6 @@
 //! Laws of whole runs, over every list of events in a federation of n sites, of which there are at most 16. Each
 //! function does nothing: its contract is the law.
-ghost use Rattle.std.specs.Prelude.{◌≡◌, ◌≢◌, ◌<◌, ◌≤◌, ℕ, true, [], ◌∷◌, ◌++◌, List, Some, IsTrue};
+ghost use Rattle.std.specs.Prelude.{◌⊎◌, ◌≡◌, ◌≢◌, ◌<◌, ◌≤◌, ℕ, true, [], ◌∷◌, ◌++◌, List, Some, IsTrue};
 ghost use Rattle.fed_stamp.specs.declared.sites.TheConstants.{SITES};
 ghost use Rattle.fed_stamp.specs.Stamp.{StampValue};
 ghost use Rattle.fed_lattice.specs.Sets.{Has, Includes, IsSameSet};
@@ -10,10 +10,10 @@ ghost use Rattle.fed_model.specs.declared.beginnings.Beginning.{Beginning};
 ghost use Rattle.fed_model.specs.declared.beginnings.Ending.{Ending};
 ghost use Rattle.fed_model.specs.declared.windows.Window.{Window};
 ghost use Rattle.fed_model.specs.declared.replies.Reply.{Reply};
-ghost use Rattle.fed_model.specs.Body.{Body, Body.OfJob, JobBody.Grant, JobBody.Begin, JobBody.Finish, Body.Reserve, Body.Cancel};
+ghost use Rattle.fed_model.specs.Body.{Body, Body.OfJob, JobBody.Grant, JobBody.Begin, JobBody.Finish, JobBody.Delete, Body.Reserve, Body.Cancel};
 ghost use Rattle.fed_model.specs.Lawful.{IsHolder, IsLawful, AreKin};
 ghost use Rattle.fed_model.specs.Retired.{is_within};
-ghost use Rattle.fed_model.specs.View.{view};
+ghost use Rattle.fed_model.specs.View.{view, HasSubmit};
 ghost use Rattle.fed_model.specs.Limits.{IsWithinLimits};
 ghost use Rattle.fed_model.specs.declared.taken.Taken.{Taken};
 ghost use Rattle.fed_model.specs.Answer.{Answer.Replies, answer};
@@ -132,6 +132,15 @@ pub fn retired_jobs_do_not_run()
         IsTrue ((view ((run n events).site site).set).retired job) →
         Has ((run n events).site other).set (s, OfJob job (Begin a)) →
         (t : StampValue) × (b : Ending) × Has ((run n events).site s.site).set (t, OfJob job (Finish b)) }
+{}
+
+/// No job is retired that waits: where any site knows a job to be retired that was submitted, some site has finished or
+/// deleted it.
+pub fn retired_jobs_have_ended()
+    ensures { (n : ℕ) (events : List Event) → n ≤ SITES → (site other : ℕ) (job : StampValue) →
+        IsTrue ((view ((run n events).site site).set).retired job) → HasSubmit ((run n events).site other).set job →
+        ((s : StampValue) × (a : Ending) × Has ((run n events).site s.site).set (s, OfJob job (Finish a)))
+        ⊎ ((s : StampValue) × Has ((run n events).site s.site).set (s, OfJob job Delete)) }
 {}
 
 /// No reservation is retired that stands: where any site knows a reservation to be retired, some site has cancelled it.

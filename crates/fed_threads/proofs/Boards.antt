@@ -19,7 +19,7 @@ use Rattle.fed_theory.specs.ViewSteps.{add_to_view, join_records}
 use Rattle.fed_theory.proofs.ViewLaws.{view_push}
 use Rattle.fed_theory.specs.Cut.{cut}
 use Rattle.fed_delta.proofs.CutLaws.{stands_absorbed}
-use Rattle.fed_wire.specs.Packet.{PacketValue}
+use Rattle.fed_delta.specs.Packet.{PacketValue}
 use Rattle.fed_model.specs.Answer.{Answer, Answer.Refuses, Answer.Replies, answer, answer_to}
 use Rattle.fed_model.specs.Packet.{Site, Packet, missing, taken, takes_unless, take as take_packet}
 use Rattle.fed_theory.proofs.Allowed.{answer_allowed}

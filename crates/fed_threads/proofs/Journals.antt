@@ -5,7 +5,7 @@ use Rattle.fed_stamp.specs.Version.{is_below}
 use Rattle.fed_stamp.proofs.VersionLaws.{below_itself, below_joined_left}
 use Rattle.fed_theory.specs.ViewSteps.{add_to_view, join_records}
 use Rattle.fed_theory.proofs.VersionGrowth.{below_raised}
-use Rattle.fed_wire.specs.Packet.{PacketValue}
+use Rattle.fed_delta.specs.Packet.{PacketValue}
 use Rattle.fed_model.specs.Answer.{Answer, Answer.Refuses, Answer.Replies, answer_to}
 use Rattle.fed_replica.specs.Replica.{ReplicaValue}
 use Rattle.fed_model.specs.declared.outcomes.Outcome.{Outcome}

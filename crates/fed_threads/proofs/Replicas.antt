@@ -14,7 +14,7 @@ use Rattle.fed_model.specs.Packet.{missing}
 use Rattle.fed_model.specs.View.{View}
 use Rattle.fed_board.specs.Board.{board_reads}
 use Rattle.fed_theory.specs.ViewSteps.{add_to_view, join_records}
-use Rattle.fed_wire.specs.Packet.{PacketValue}
+use Rattle.fed_delta.specs.Packet.{PacketValue}
 use Rattle.fed_replica.proofs.Lefts.{heard_in}
 use Rattle.fed_replica.specs.Outcome.{outcome_of_packet_unless, said_by}
 use Rattle.fed_replica.specs.Replica.{ReplicaValue, heard_from}

@@ -11,7 +11,7 @@ use Rattle.fed_model.specs.declared.refusals.Refusal.{Refusal}
 use Rattle.fed_model.specs.Body.{Body}
 use Rattle.fed_theory.specs.ViewSteps.{add_to_view}
 use Rattle.fed_theory.proofs.VersionGrowth.{own_raised}
-use Rattle.fed_wire.specs.Packet.{PacketValue}
+use Rattle.fed_delta.specs.Packet.{PacketValue}
 use Rattle.fed_model.specs.Desk.{first_of}
 use Rattle.fed_model.specs.Answer.{answer_unless, replies, effect, answer_to}
 use Rattle.fed_model.specs.Refusals.{refusals}

@@ -1,6 +1,6 @@
 -- A site's journal, run again from the site's empty replica.
 use Rattle.std.specs.Prelude.{◌≡◌, ℕ, ◌+◌, List, [], ◌∷◌, ◌++◌, length, Option, Some, None}
-use Rattle.fed_wire.specs.Packet.{PacketValue}
+use Rattle.fed_delta.specs.Packet.{PacketValue}
 use Rattle.fed_model.specs.Answer.{answer_to}
 use Rattle.fed_replica.specs.Replica.{ReplicaValue}
 use Rattle.fed_replica.specs.State.{State, IsState, empty_at, after_answer, lacking, after_packet_unless}

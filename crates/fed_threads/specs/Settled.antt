@@ -2,7 +2,7 @@
 use Rattle.std.specs.Prelude.{◌≡◌, ◌<◌, ◌+◌, ℕ, List, [], ◌∷◌, ◌++◌, length, slice_index, Bool, ◌&&◌, ◌==◌, Option, Some, None}
 use Rattle.std.specs.List.{position}
 use Rattle.std.specs.Option.{option_map_or}
-use Rattle.fed_wire.specs.Packet.{PacketValue}
+use Rattle.fed_delta.specs.Packet.{PacketValue}
 use Rattle.fed_model.specs.Packet.{Packet}
 use Rattle.fed_model.specs.declared.events.Event.{Event}
 use Rattle.fed_model.specs.declared.outcomes.Outcome.{Outcome}

@@ -8,9 +8,10 @@ ghost use Rattle.fed_threads.specs.Placing.{with_next};
 ghost use Rattle.fed_threads.specs.Settled.{event_of, number_of, shown, ships_after, site_of, with_entry, Agrees, HoldsPacket, StaysInside};
 
 use crate::journal::{Asked, Entry};
+use fed_delta::Packet;
 use fed_lattice::NoMemory;
 use fed_stamp::{Roster, SiteId};
-use fed_wire::{Packet, read};
+use fed_wire::read;
 use fed_world::exchanges::one_packet_is_sent;
 use fed_world::{Event, Outcome, World};
 use std::alloc::Global;

@@ -1,9 +1,9 @@
 //! What sites were asked, and what they answered.
 ghost use Rattle.std.specs.Prelude.{◌≡◌, ◌↔◌, IsTrue};
 
+use fed_delta::Packet;
 use fed_record::{Command, Who};
 use fed_stamp::SiteId;
-use fed_wire::Packet;
 use fed_world::Outcome;
 
 /// What was asked of a site.

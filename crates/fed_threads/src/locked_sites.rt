@@ -13,11 +13,11 @@ ghost use Rattle.fed_model.specs.declared.outcomes.Outcome.TheVariants as Outcom
 
 use crate::journal::{Asked, Entry};
 use fed_board::Board;
+use fed_delta::{Packet, sender_is_in_range};
 use fed_lattice::NoMemory;
 use fed_record::{Command, Refusal, Reply, Who};
 use fed_replica::{Received, Replica};
 use fed_stamp::{SiteId, Version, site_is_in_range, version_is_in_range};
-use fed_wire::{Packet, sender_is_in_range};
 use fed_world::Outcome;
 use std::alloc::Global;
 use std::marker::Model;

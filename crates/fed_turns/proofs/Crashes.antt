@@ -18,7 +18,7 @@ use Rattle.fed_site.proofs.ReadLines.{told_is}
 use Rattle.fed_site.proofs.Replays.{replayed, replayed_roster}
 use Rattle.fed_site.proofs.RosterLines.{after_begins, begins_length}
 use Rattle.fed_home.proofs.Replays.{after_both, kept_both, roster_after_both}
-use Rattle.fed_qstat.specs.Planned.{plan_if_any}
+use Rattle.fed_machine.specs.Planned.{plan_if_any}
 use Rattle.fed_site.specs.Says.{IsReply, Reply, Said, Text, PacketFor, after_own, after_plan, site_says}
 use Rattle.fed_turns.specs.Crash.{Happening, answered, cut, MayAllHappen, MayHappen, journal_of, lines_all, lines_at, lines_if, turn_unseen, turns_from, turns_of, turns_unseen, unseen}
 use Rattle.fed_turns.specs.Home.{course_of}

@@ -23,12 +23,12 @@ use Rattle.fed_theory.proofs.NextStamps.{next_is}
 use Rattle.fed_theory.proofs.RunSteps.{put_other}
 use Rattle.fed_theory.proofs.Runs.{put_same}
 use Rattle.fed_wire.specs.declared.faults.WireFault.{WireFault}
-use Rattle.fed_wire.specs.Packet.{PacketValue}
+use Rattle.fed_delta.specs.Packet.{PacketValue}
 use Rattle.fed_wire.specs.Reading.{packet_in}
 use Rattle.fed_replica.specs.State.{State, after_answer, after_packet_unless, lacking}
 use Rattle.fed_script.specs.Line.{skips, begins as begins_line, acts, lists, misuses, ships, takes, plans, compares}
 use Rattle.fed_qstat.specs.Outcome.{answer_line}
-use Rattle.fed_qstat.specs.Planned.{plan_if_any}
+use Rattle.fed_machine.specs.Planned.{plan_if_any}
 use Rattle.fed_site.specs.declared.complaints.Complaint.{Complaint}
 use Rattle.fed_site.specs.OwnLine.{OwnLine, tells, carries, asks, says, own_line_of}
 use Rattle.fed_site.specs.Packets.{is_foreign, is_forgotten}

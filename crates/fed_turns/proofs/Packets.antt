@@ -12,8 +12,8 @@ use Rattle.fed_model.specs.View.{view}
 use Rattle.fed_theory.specs.Cut.{cut}
 use Rattle.fed_job_json.specs.declared.formats.Format.TheVariants.{Two}
 use Rattle.fed_wire.specs.declared.faults.WireFault.{WireFault}
-use Rattle.fed_wire.specs.Packet.{PacketValue}
-use Rattle.fed_wire.specs.PacketLaws.{tells_packets}
+use Rattle.fed_delta.specs.Packet.{PacketValue}
+use Rattle.fed_delta.specs.PacketLaws.{tells_packets}
 use Rattle.fed_wire.specs.Reading.{packet_in}
 use Rattle.fed_wire.proofs.PacketLaws.{again}
 use Rattle.fed_model.specs.Packet.{Packet, shipped}

@@ -18,7 +18,7 @@ use Rattle.fed_theory.specs.ViewSteps.{join_records}
 use Rattle.fed_theory.specs.Cut.{cut}
 use Rattle.fed_delta.proofs.CutLaws.{stands_absorbed}
 use Rattle.fed_job_json.specs.declared.formats.Format.TheVariants.{Two}
-use Rattle.fed_wire.specs.Packet.{PacketValue}
+use Rattle.fed_delta.specs.Packet.{PacketValue}
 use Rattle.fed_wire.specs.Reading.{packet_in}
 use Rattle.fed_wire.proofs.PacketLaws.{again}
 use Rattle.fed_model.specs.Packet.{Packet, missing, taken, takes_unless}

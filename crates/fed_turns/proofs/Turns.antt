@@ -10,7 +10,7 @@ use Rattle.fed_model.specs.declared.askers.Who.{Who}
 use Rattle.fed_model.specs.declared.commands.Command.{Command}
 use Rattle.fed_words.specs.declared.faults.UsageFault.{UsageFault}
 use Rattle.fed_wire.specs.declared.faults.WireFault.{WireFault}
-use Rattle.fed_wire.specs.Packet.{PacketValue}
+use Rattle.fed_delta.specs.Packet.{PacketValue}
 use Rattle.fed_wire.specs.Reading.{packet_in}
 use Rattle.fed_model.specs.Packet.{shipped}
 use Rattle.fed_model.specs.Ranges.{IsRanged}
@@ -23,9 +23,9 @@ use Rattle.fed_theory.proofs.RunSteps.{put_other, ship_here, take_here}
 use Rattle.fed_theory.proofs.Runs.{packet_Has, put_same, run-append}
 use Rattle.fed_qstat.specs.Listed.{listed}
 use Rattle.fed_qstat.specs.Outcome.{answer_line, line_of_usage, text_of_outcome}
-use Rattle.fed_qstat.specs.Planned.{plan_if_any, plan_or_none}
+use Rattle.fed_machine.specs.Planned.{plan_if_any, plan_or_none}
 use Rattle.fed_looks.specs.Look.{Look}
-use Rattle.fed_looks.specs.LookText.{text_of_look}
+use Rattle.fed_site.specs.LookText.{text_of_look}
 use Rattle.fed_site.specs.Journal.{kept_line}
 use Rattle.fed_site.specs.OwnLine.{asks, says, own_line_of}
 use Rattle.fed_site.specs.Packets.{is_foreign, is_forgotten}

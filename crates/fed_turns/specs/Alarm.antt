@@ -1,6 +1,6 @@
 -- Texts that a site takes as a packet of its federation.
 use Rattle.std.specs.Prelude.{◌≡◌, ℕ, true, false, List, codes, Ok}
-use Rattle.fed_wire.specs.Packet.{PacketValue}
+use Rattle.fed_delta.specs.Packet.{PacketValue}
 use Rattle.fed_wire.specs.Reading.{packet_in}
 use Rattle.fed_replica.specs.State.{State}
 use Rattle.fed_qstat.specs.Outcome.{answer_line}

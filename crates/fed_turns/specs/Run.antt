@@ -3,8 +3,8 @@ use Rattle.std.specs.Prelude.{◌≡◌, ◌+◌, ◌-◌, ℕ, suc, Bool, false
 use Rattle.fed_model.specs.View.{view}
 use Rattle.fed_model.specs.Packet.{Site, Packet, shipped}
 use Rattle.fed_wire.specs.declared.faults.WireFault.{WireFault}
-use Rattle.fed_wire.specs.Packet.{PacketValue}
-use Rattle.fed_wire.specs.PacketLaws.{same_packet}
+use Rattle.fed_delta.specs.Packet.{PacketValue}
+use Rattle.fed_delta.specs.PacketLaws.{same_packet}
 use Rattle.fed_wire.specs.Reading.{packet_in}
 use Rattle.fed_replica.specs.State.{State}
 use Rattle.fed_script.specs.Line.{Line, skips, acts, lists, misuses, ships, takes, plans}
@@ -15,9 +15,9 @@ use Rattle.fed_world.specs.Kept.{IsTextOf}
 use Rattle.fed_model.specs.Run.{World, run_from, outcomes_from}
 use Rattle.fed_qstat.specs.Listed.{listed}
 use Rattle.fed_qstat.specs.Outcome.{answer_line, line_of_usage, text_of_outcome}
-use Rattle.fed_qstat.specs.Planned.{text_of_plan}
+use Rattle.fed_machine.specs.Planned.{text_of_plan}
 use Rattle.fed_looks.specs.Look.{Look}
-use Rattle.fed_looks.specs.LookText.{text_of_look}
+use Rattle.fed_site.specs.LookText.{text_of_look}
 use Rattle.fed_site.specs.OwnLine.{OwnLine, tells, carries, asks, says, own_line_of}
 use Rattle.fed_site.specs.Packets.{is_foreign}
 use Rattle.fed_site.specs.Rosters.{next_roster}

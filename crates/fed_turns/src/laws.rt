@@ -5,7 +5,7 @@ ghost use Rattle.fed_stamp.specs.Roster.{IsRoster};
 ghost use Rattle.fed_stamp.specs.Stamp.{StampValue};
 ghost use Rattle.fed_model.specs.declared.beginnings.Beginning.{Beginning};
 ghost use Rattle.fed_replica.specs.State.{empty_at};
-ghost use Rattle.fed_wire.specs.Packet.{PacketValue};
+ghost use Rattle.fed_delta.specs.Packet.{PacketValue};
 ghost use Rattle.fed_wire.specs.Reading.{packet_in};
 ghost use Rattle.fed_script.specs.Line.{Line, own_line, words_in};
 ghost use Rattle.fed_script.specs.Values.{identifier, moment};

@@ -36,7 +36,7 @@ use Rattle.fed_job_json.specs.Covers.{covers_pairs, covers_tags, covers_job}
 use Rattle.fed_job_json.specs.Fields.{IsField}
 use Rattle.fed_job_json.specs.Job.{Job, IsJob, IsJobIn, IsAccountIn}
 use Rattle.fed_job_json.proofs.JobReads.{site_placed}
-use Rattle.fed_range_json.specs.Retirements.{RetiredSite, AreRetirements}
+use Rattle.fed_parts_json.specs.Retirements.{RetiredSite, AreRetirements}
 use Rattle.fed_wire.specs.Reservations.{Reserved, IsReservation}
 use Rattle.fed_wire.specs.Packet.{last_of, may_stand, job_stands, covers_window, reservation_stands, is_above, keeps, site_stands, AllStand}
 

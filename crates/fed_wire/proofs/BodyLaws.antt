@@ -18,13 +18,14 @@ use Rattle.fed_job_json.specs.declared.formats.Format.{Format}
 use Rattle.fed_job_json.specs.Stamps.{site_of}
 use Rattle.fed_job_json.specs.Job.{Job, job_of, job_value, IsJob}
 use Rattle.fed_job_json.proofs.JobLaws.{job_form}
-use Rattle.fed_range_json.specs.Retirements.{AreRetirements}
+use Rattle.fed_parts_json.specs.Retirements.{AreRetirements}
 use Rattle.fed_wire.specs.declared.faults.Part.TheVariants.{Sender, Need, Reached, Jobs, Reservations}
 use Rattle.fed_wire.specs.declared.faults.WireFault.{WireFault}
 use Rattle.fed_wire.specs.declared.faults.WireFault.TheVariants.{Range}
 use Rattle.fed_wire.specs.declared.members.PacketMembers.{PacketMembers}
 use Rattle.fed_wire.specs.Members.{AreMembers}
-use Rattle.fed_wire.specs.Packet.{PacketValue, job_stands, reservation_stands, site_stands, AllStand}
+use Rattle.fed_wire.specs.Packet.{job_stands, reservation_stands, site_stands, AllStand}
+use Rattle.fed_delta.specs.Packet.{PacketValue}
 use Rattle.fed_wire.specs.Reading.{place, at, array_in, version_in, least_above, unless_above, sender_in, need_in, reached_in, jobs_in, reservations_in, retired_from, retired_in, body_in}
 use Rattle.fed_wire.specs.Reservations.{Reserved, reservation_of, reservation_value, IsReservation}
 use Rattle.fed_wire.proofs.BoardLaws.{board_of}

@@ -19,7 +19,8 @@ use Rattle.fed_json.specs.Values.{list_value}
 use Rattle.fed_job_json.specs.declared.formats.Format.TheVariants.{Two}
 use Rattle.fed_job_json.specs.Job.{job_value}
 use Rattle.fed_job_json.specs.Stamps.{version_value}
-use Rattle.fed_wire.specs.Packet.{PacketValue, tells_retired, number_from, with_retired, sender_member, packet_value}
+use Rattle.fed_wire.specs.Packet.{tells_retired, number_from, with_retired, sender_member, packet_value}
+use Rattle.fed_delta.specs.Packet.{PacketValue}
 use Rattle.fed_wire.specs.Reservations.{reservation_value}
 use Rattle.fed_wire.specs.Printed.{IsPrinted, ArePrinted, without_jobs}
 

@@ -53,7 +53,8 @@ use Rattle.fed_job_json.specs.Job.{IsJob, IsJobIn}
 use Rattle.fed_job_json.specs.Stamps.{IsVersion}
 use Rattle.fed_model.specs.Limits.{IsWithinLimits}
 use Rattle.fed_board.proofs.CountedIdentifiers.{set_jobs_counted, set_reservations_counted}
-use Rattle.fed_wire.specs.Packet.{PacketValue, IsPacket, job_stands, reservation_stands, covers_window}
+use Rattle.fed_wire.specs.Packet.{IsPacket, job_stands, reservation_stands, covers_window}
+use Rattle.fed_delta.specs.Packet.{PacketValue}
 use Rattle.fed_wire.specs.Reservations.{IsReservation}
 use Rattle.fed_wire.proofs.RangeLaws.{owner_ranged, name_ranged, priority_ranged, nodes_ranged, limit_ranged, account_ranged, window_ranged, added_site, set_field, grant_is, version_is, pairs_are, progress_is, of_all}
 use Rattle.fed_wire.proofs.RetiredLimits.{each_entry, weaker, known_at, retired_ranged, retired_stand}

@@ -26,15 +26,16 @@ use Rattle.fed_job_json.specs.Stamps.{site_of, version_value, version_of, IsVers
 use Rattle.fed_job_json.specs.Job.{Job, job_of, job_value, IsJob}
 use Rattle.fed_job_json.proofs.StampLaws.{site_form, version_form}
 use Rattle.fed_job_json.proofs.JobLaws.{job_form}
-use Rattle.fed_range_json.specs.Retirements.{retirements_of, retirements_value, AreRetirements}
-use Rattle.fed_range_json.proofs.RetirementLaws.{retirements_form}
+use Rattle.fed_parts_json.specs.Retirements.{retirements_of, retirements_value, AreRetirements}
+use Rattle.fed_parts_json.proofs.RetirementLaws.{retirements_form}
 use Rattle.fed_wire.specs.declared.faults.Part.{Part}
 use Rattle.fed_wire.specs.declared.faults.Part.TheVariants.{Whole, Sender, Need, Reached, Jobs, Reservations, Retired}
 use Rattle.fed_wire.specs.declared.faults.Place.{Place}
 use Rattle.fed_wire.specs.declared.faults.WireFault.{WireFault}
 use Rattle.fed_wire.specs.declared.faults.WireFault.TheVariants.{NotJson, Version, Shape}
 use Rattle.fed_wire.specs.Reservations.{Reserved, reservation_of, reservation_value, IsReservation}
-use Rattle.fed_wire.specs.Packet.{PacketValue, tells_retired, number_from, with_retired, members_before, sender_member, packet_members, packet_value, job_stands, reservation_stands, site_stands, MaySay, AllStand, IsPacket}
+use Rattle.fed_wire.specs.Packet.{tells_retired, number_from, with_retired, members_before, sender_member, packet_members, packet_value, job_stands, reservation_stands, site_stands, MaySay, AllStand, IsPacket}
+use Rattle.fed_delta.specs.Packet.{PacketValue}
 use Rattle.fed_wire.specs.Reading.{place, or_fault, at, each_in, array_in, first_bad_in, version_in, least_above, unless_above, member_in, some_retired, all_retired, retired_in, body_in, format_from, format_in, packet_names, packet_of, text_value, packet_in}
 use Rattle.fed_wire.proofs.ReservationLaws.{reservation_form}
 

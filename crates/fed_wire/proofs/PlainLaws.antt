@@ -23,8 +23,9 @@ use Rattle.fed_job_json.specs.Pairs.{kind_value}
 use Rattle.fed_job_json.specs.Progress.{Steps, progress_value}
 use Rattle.fed_job_json.specs.Stamps.{stamp_value, version_value}
 use Rattle.fed_ranges.specs.declared.ranges.Range.{Range}
-use Rattle.fed_range_json.specs.Retirements.{range_value, RetiredSite, retirements_value}
-use Rattle.fed_wire.specs.Packet.{PacketValue, tells_retired, number_of, with_retired, sender_member, packet_members, packet_value}
+use Rattle.fed_parts_json.specs.Retirements.{range_value, RetiredSite, retirements_value}
+use Rattle.fed_wire.specs.Packet.{tells_retired, number_of, with_retired, sender_member, packet_members, packet_value}
+use Rattle.fed_delta.specs.Packet.{PacketValue}
 use Rattle.fed_wire.specs.Reading.{text_value}
 use Rattle.fed_wire.specs.Reservations.{Reserved, reservation_value}
 use Rattle.fed_wire.specs.Printed.{IsPrinted}

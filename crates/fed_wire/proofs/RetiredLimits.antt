@@ -34,7 +34,7 @@ use Rattle.fed_model.specs.Retired.{is_retired, starts}
 use Rattle.fed_model.specs.View.{View, view}
 use Rattle.fed_theory.specs.Cut.{cut, is_changed_site}
 use Rattle.fed_board.specs.Board.{BoardValue, IsBoard, AreKnownRetirements, board_reads}
-use Rattle.fed_range_json.specs.Retirements.{RetiredSite, AreRetirements}
+use Rattle.fed_parts_json.specs.Retirements.{RetiredSite, AreRetirements}
 use Rattle.fed_wire.specs.Packet.{last_of, is_above, keeps, site_stands, AllStand}
 
 -- ---- entries

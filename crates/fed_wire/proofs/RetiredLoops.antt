@@ -17,8 +17,8 @@ use Rattle.fed_stamp.specs.Version.{counter_of}
 use Rattle.fed_lattice.proofs.TableLoops.{insert_last}
 use Rattle.fed_ranges.specs.Ranges.{IsCanonical}
 use Rattle.fed_ranges.specs.Retired.{RetiredValue}
-use Rattle.fed_range_json.specs.Retirements.{RetiredSite, retirements_of}
-use Rattle.fed_range_json.proofs.RetirementLaws.{from_lower, retirements_form}
+use Rattle.fed_parts_json.specs.Retirements.{RetiredSite, retirements_of}
+use Rattle.fed_parts_json.proofs.RetirementLaws.{from_lower, retirements_form}
 use Rattle.fed_wire.specs.declared.faults.Part.TheVariants.{Retired}
 use Rattle.fed_wire.specs.declared.faults.WireFault.{WireFault}
 use Rattle.fed_wire.specs.declared.faults.WireFault.TheVariants.{Range}

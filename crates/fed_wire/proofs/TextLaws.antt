@@ -10,7 +10,8 @@ use Rattle.fed_job_json.specs.declared.formats.Format.{Format}
 use Rattle.fed_wire.specs.declared.faults.WireFault.{WireFault}
 use Rattle.fed_wire.specs.declared.faults.WireFault.TheVariants.{NotJson}
 use Rattle.fed_wire.specs.Faults.{Gives}
-use Rattle.fed_wire.specs.Packet.{PacketValue, IsPacket, packet_value}
+use Rattle.fed_wire.specs.Packet.{IsPacket, packet_value}
+use Rattle.fed_delta.specs.Packet.{PacketValue}
 use Rattle.fed_wire.specs.Reading.{or_fault, packet_of, text_value, packet_in}
 use Rattle.fed_wire.proofs.PacketLaws.{found, again}
 

@@ -5,5 +5,4 @@ pub mod Reading
 pub mod Members
 pub mod Identifiers
 pub mod Faults
-pub mod PacketLaws
 pub mod Printed

@@ -14,18 +14,14 @@ use Rattle.fed_json.specs.Objects.{Named, object_value}
 use Rattle.fed_model.specs.Reservation.{ReservationView}
 use Rattle.fed_board.specs.Counts.{ids_of}
 use Rattle.fed_model.specs.declared.capacities.TheConstants.{MAX_JOBS, MAX_RESERVATIONS}
-use Rattle.fed_delta.specs.Delta.{DeltaValue}
+use Rattle.fed_delta.specs.Packet.{PacketValue}
 use Rattle.fed_job_json.specs.declared.formats.Format.{Format}
 use Rattle.fed_job_json.specs.declared.formats.Format.TheVariants.{One, Two}
 use Rattle.fed_job_json.specs.Stamps.{version_value, IsVersion}
 use Rattle.fed_model.specs.Ranges.{IsSite}
 use Rattle.fed_job_json.specs.Job.{Job, job_value, IsJob}
-use Rattle.fed_range_json.specs.Retirements.{RetiredSite, retirements_value, AreRetirements}
+use Rattle.fed_parts_json.specs.Retirements.{RetiredSite, retirements_value, AreRetirements}
 use Rattle.fed_wire.specs.Reservations.{Reserved, reservation_value, IsReservation}
-
-pub record PacketValue : Type 0 where
-  pub sender : ℕ
-  pub delta : DeltaValue
 
 -- something is retired
 abbrev pub tells_retired : RetiredValue → Bool

@@ -5,7 +5,7 @@ use Rattle.json.specs.Tree.{HasNumbers, ItemsHaveNumbers}
 use Rattle.serde_json.specs.Data.{Data, Items}
 use Rattle.serde_json.specs.Read.{of_json, of_items}
 use Rattle.serde_json.specs.Written.{outline, items_outline, compact_text, items_text}
-use Rattle.fed_wire.specs.Packet.{PacketValue}
+use Rattle.fed_delta.specs.Packet.{PacketValue}
 
 pub record IsPrinted (d : Data) : Type 0 where
   pub utf8 : IsUtf8 (compact_text d)

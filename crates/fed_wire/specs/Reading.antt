@@ -17,14 +17,15 @@ use Rattle.fed_job_json.specs.declared.formats.Format.{Format}
 use Rattle.fed_job_json.specs.declared.formats.Format.TheVariants.{One, Two}
 use Rattle.fed_job_json.specs.Stamps.{site_of, version_of}
 use Rattle.fed_job_json.specs.Job.{Job, job_of}
-use Rattle.fed_range_json.specs.Retirements.{retirements_of}
+use Rattle.fed_parts_json.specs.Retirements.{retirements_of}
 use Rattle.fed_wire.specs.declared.faults.Part.{Part}
 use Rattle.fed_wire.specs.declared.faults.Part.TheVariants.{Whole, Sender, Need, Reached, Jobs, Reservations, Retired}
 use Rattle.fed_wire.specs.declared.faults.Place.{Place}
 use Rattle.fed_wire.specs.declared.faults.WireFault.{WireFault}
 use Rattle.fed_wire.specs.declared.faults.WireFault.TheVariants.{NotJson, Version, Shape, Range}
 use Rattle.fed_wire.specs.Reservations.{Reserved, reservation_of}
-use Rattle.fed_wire.specs.Packet.{PacketValue, job_stands, reservation_stands, site_stands}
+use Rattle.fed_wire.specs.Packet.{job_stands, reservation_stands, site_stands}
+use Rattle.fed_delta.specs.Packet.{PacketValue}
 
 abbrev pub place : Part → ℕ → Place
 place part index = record { part = part; index = index }

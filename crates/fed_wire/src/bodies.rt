@@ -9,11 +9,10 @@ ghost use Rattle.fed_wire.specs.Reading.{least_above, body_in, format_in, packet
 use crate::faults::{Part, Place, WireFault};
 use crate::jobs::read_jobs;
 use crate::members::{PacketMembers, packet_members};
-use crate::packets::Packet;
 use crate::readings::{sender, version};
 use crate::reservations::read_reservations;
 use crate::retired::read_retired;
-use fed_delta::Delta;
+use fed_delta::{Delta, Packet};
 use fed_job_json::Format;
 use fed_stamp::{SiteId, Version};
 use serde_json::Value;

@@ -12,9 +12,8 @@ ghost use Rattle.fed_job_json.specs.declared.formats.Format.TheVariants.{Two};
 ghost use Rattle.fed_model.specs.Limits.{IsWithinLimits};
 ghost use Rattle.fed_wire.specs.Packet.{IsPacket};
 
-use crate::facts::sender_is_in_range;
-use crate::packets::Packet;
 use fed_board::{records_are_covered, records_are_in_order};
+use fed_delta::{Packet, sender_is_in_range};
 use fed_stamp::version_is_in_range;
 
 /// A packet of what a board tells is within limits in the format in which it is written, where the board stands for a

@@ -3,8 +3,6 @@
 
 /// Packets read from JSON values.
 mod bodies;
-/// Facts that the types keep.
-pub mod facts;
 /// Why a packet could not be read.
 pub mod faults;
 /// The jobs of a packet, read from a JSON value.
@@ -15,8 +13,6 @@ pub mod laws;
 mod identifiers;
 /// The members of a packet's JSON object.
 mod members;
-/// Packets.
-pub mod packets;
 /// The text of a packet, printed job by job.
 mod printing;
 /// Versions and the sender of a packet, read from JSON values.
@@ -30,8 +26,6 @@ pub mod texts;
 /// Packets without their jobs, written as JSON values.
 mod writing;
 
-pub use facts::sender_is_in_range;
 pub use faults::{Part, Place, WireFault};
 pub use laws::told_packets_are_within_limits;
-pub use packets::Packet;
 pub use texts::{read, write};

@@ -9,11 +9,10 @@ ghost use Rattle.fed_job_json.specs.Job.{job_value};
 ghost use Rattle.fed_wire.specs.Packet.{packet_value};
 ghost use Rattle.fed_wire.specs.Printed.{IsPrinted, ArePrinted, without_jobs};
 
-use crate::packets::Packet;
 use crate::writing::frame_value;
 use fed_board::records_are_covered;
-use fed_delta::Delta;
-use fed_job_write::write_job;
+use fed_delta::{Delta, Packet};
+use fed_parts_json::write_job;
 use fed_record::JobRecord;
 use fed_stamp::{JobId, SITES};
 use std::alloc::{AllocError, Global};

@@ -5,13 +5,14 @@ ghost use Rattle.serde_json.specs.Written.{compact_text};
 ghost use Rattle.fed_job_json.specs.declared.formats.Format.TheVariants.{Two};
 ghost use Rattle.fed_job_json.specs.declared.formats.Format.{Format as AFormat};
 ghost use Rattle.fed_wire.specs.Faults.{Gives};
-ghost use Rattle.fed_wire.specs.Packet.{PacketValue, IsPacket, packet_value};
+ghost use Rattle.fed_wire.specs.Packet.{IsPacket, packet_value};
+ghost use Rattle.fed_delta.specs.Packet.{PacketValue};
 ghost use Rattle.fed_wire.specs.Reading.{text_value, packet_in};
 
 use crate::bodies::packet;
 use crate::faults::WireFault;
-use crate::packets::Packet;
 use crate::printing::packet_text;
+use fed_delta::Packet;
 use fed_lattice::NoMemory;
 use serde_json::{Error, Value};
 use std::alloc::Global;

@@ -5,15 +5,13 @@ ghost use Rattle.serde_json.specs.View.{members_view};
 ghost use Rattle.fed_json.specs.Objects.{members_from};
 ghost use Rattle.fed_json.specs.Values.{list_value};
 ghost use Rattle.fed_job_json.specs.declared.formats.Format.TheVariants.{Two};
-ghost use Rattle.fed_range_json.specs.Retirements.{retirements_value};
+ghost use Rattle.fed_parts_json.specs.Retirements.{retirements_value};
 ghost use Rattle.fed_wire.specs.Packet.{members_before, packet_value as value_of, sender_member};
 ghost use Rattle.fed_wire.specs.Printed.{without_jobs};
 ghost use Rattle.fed_wire.specs.Reservations.{window_value, reservation_value};
 
-use crate::packets::Packet;
-use fed_delta::Delta;
-use fed_job_write::{write_stamp, write_version};
-use fed_range_json::write_retirements;
+use fed_delta::{Delta, Packet};
+use fed_parts_json::{write_retirements, write_stamp, write_version};
 use fed_record::{Reservation, Window};
 use fed_stamp::Stamp;
 use serde_json::{Map, Value, json, put};

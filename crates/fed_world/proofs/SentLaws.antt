@@ -19,7 +19,8 @@ use Rattle.fed_job_json.specs.declared.formats.Format.TheVariants.{Two}
 use Rattle.fed_wire.specs.declared.faults.WireFault.{WireFault}
 use Rattle.fed_wire.specs.Faults.{Gives}
 use Rattle.fed_model.specs.Limits.{IsWithinLimits}
-use Rattle.fed_wire.specs.Packet.{IsPacket, PacketValue, packet_value}
+use Rattle.fed_wire.specs.Packet.{IsPacket, packet_value}
+use Rattle.fed_delta.specs.Packet.{PacketValue}
 use Rattle.fed_wire.specs.Reading.{text_value}
 use Rattle.fed_model.specs.Packet.{Packet, missing, shipped, taken, takes_unless}
 use Rattle.fed_replica.proofs.Lefts.{heard_in}

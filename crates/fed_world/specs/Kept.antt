@@ -6,7 +6,8 @@ use Rattle.fed_model.specs.View.{view}
 use Rattle.fed_theory.specs.Cut.{cut}
 use Rattle.serde_json.specs.Written.{compact_text}
 use Rattle.fed_job_json.specs.declared.formats.Format.TheVariants.{Two}
-use Rattle.fed_wire.specs.Packet.{PacketValue, IsPacket, packet_value}
+use Rattle.fed_wire.specs.Packet.{IsPacket, packet_value}
+use Rattle.fed_delta.specs.Packet.{PacketValue}
 use Rattle.fed_wire.specs.Reading.{text_value}
 use Rattle.fed_model.specs.Packet.{Site, Packet}
 use Rattle.fed_replica.specs.Replica.{ReplicaValue, heard_from}

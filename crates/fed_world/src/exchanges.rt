@@ -12,8 +12,8 @@ ghost use Rattle.fed_world.specs.Kept.{IsSentOf};
 ghost use Rattle.fed_model.specs.Run.{run};
 
 use fed_board::{Board, boards_that_read_the_same_are_equal, records_that_read_the_same_are_equal};
+use fed_delta::Packet;
 use fed_theory::run_laws::exchanges_converge;
-use fed_wire::Packet;
 
 /// Where two sites hold the same operations, their boards are equal, however the operations came.
 pub fn same_sets_have_equal_boards(x: &Board, y: &Board)

@@ -1,4 +1,2 @@
 -- What the contracts of this crate cite.
-pub mod CommandLine
-pub mod CommandLineView
 pub mod Status

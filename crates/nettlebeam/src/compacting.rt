@@ -2,12 +2,12 @@
 ghost use Rattle.std.specs.Prelude.{IfOk};
 ghost use Rattle.fed_home.specs.Home.{IsOpen};
 
-use crate::directories::{JOURNAL, open_home, sync_parent};
+use crate::directories::{JOURNAL, NEW_JOURNAL, open_home, sync_parent};
 use crate::faults::{Fault, FaultAt};
 use fed_home::{Compaction, Home, HomeFault};
 use fed_journal::Device;
 use std::fs::{self, File, Files, OpenOptions};
-use std::io::{self, Read, Write};
+use std::io::{self, ErrorKind, Read, Write};
 use std::os::unix::fs::OpenOptionsExt;
 use std::path::Path;
 use std::time::Clock;
@@ -69,23 +69,90 @@ pub fn compact_long<D: Device + Drop>(
     }
 }
 
-/// Copies the journal of a directory to a file that isn't there yet, and waits until the disk has it and its name.
+/// Writes a text to a new file of this name, and waits until the disk has it and its name.
+fn write_copy(
+    rt: &impl Files<File = File>,
+    mut file: File,
+    name: &str,
+    text: &[u8],
+) -> io::Result<()> {
+    file.write_all(text)?;
+    file.sync_all()?;
+    sync_parent(rt, name)
+}
+
+/// Whether a file of this name is one that a compaction writes over or removes.
+fn is_taken(name: &str) -> bool {
+    Path::new(name).file_name() == Some(NEW_JOURNAL)
+}
+
+/// Copies the journal of a directory to a file that isn't there yet, and waits until the disk has it and its name. Where
+/// that fails no file is left.
 fn copy_journal(
     rt: &(impl Files<File = File> + AllocGlobal),
     directory: &str,
     name: &str,
 ) -> io::Result<()> {
+    if is_taken(name) {
+        return Err(ErrorKind::InvalidInput.into());
+    }
     let path = Path::new(directory).join(rt.alloc(), JOURNAL)?;
     let mut text = Vec::new(rt.alloc());
     File::open(rt, path.as_path())?.read_to_end(&mut text)?;
-    let mut file = OpenOptions::new()
+    let file = OpenOptions::new()
         .write(true)
         .create_new(true)
         .mode(OWNER_ALONE)
         .open(rt, name)?;
-    file.write_all(&text)?;
-    file.sync_all()?;
-    sync_parent(rt, name)
+    let written = write_copy(rt, file, name, &text);
+    if written.is_err() {
+        let _ = fs::remove_file(rt, name);
+    }
+    written
+}
+
+/// Tells what came of compacting a journal that had this many bytes, and has so many now.
+fn tell_came(
+    streams: &impl Print,
+    came: Compaction,
+    before: usize,
+    now: usize,
+) -> Result<u8, Fault> {
+    let told = match came {
+        Compaction::Done => println!(streams; "compacted: {before} bytes before, {now} now"),
+        Compaction::Long { bytes } => {
+            println!(streams; "not compacted: {before} bytes, {bytes} if it were")
+        }
+        Compaction::Refused(error) => return Err(Fault::NotCompacted(error)),
+        Compaction::Unread => return Err(Fault::Uncompactable),
+    };
+    match told {
+        Ok(()) => Ok(0),
+        Err(error) => Err(Fault::Output(error)),
+    }
+}
+
+/// Compacts a journal, and removes its copy of this name where it isn't compacted.
+fn compact_copied<D: Device + Drop>(
+    streams: &impl Print,
+    rt: &(impl Files<File = File> + AllocGlobal),
+    kept: Option<&str>,
+    home: &mut Home<D>,
+) -> Result<u8, Fault>
+    requires { IsOpen D.seen D.may_leave home.old }
+{
+    let before = home.journal_len();
+    let came = home.compact(before.saturating_sub(1));
+    if let Some(name) = kept
+        && !matches!(came, Ok(Compaction::Done) | Err(HomeFault::Failed(_)))
+    {
+        // nothing is done: it is the journal's copy, and no older one
+        let _ = fs::remove_file(rt, name);
+    }
+    match came {
+        Ok(came) => tell_came(streams, came, before, home.journal_len()),
+        Err(fault) => Err(fault_of_compacting(fault)),
+    }
 }
 
 /// Makes the journal of a directory one that begins with what the site has, where that is shorter, and tells how long it was
@@ -100,31 +167,5 @@ pub fn compact<R: Files<File = File> + Clock + AllocGlobal + Clone + Drop>(
     if let Some(name) = kept {
         copy_journal(rt, directory, name).map_err(Fault::Kept)?;
     }
-    let before = home.journal_len();
-    let came = match home.compact(before.saturating_sub(1)) {
-        Ok(came) => came,
-        Err(fault) => return Err(fault_of_compacting(fault)),
-    };
-    if let Some(name) = kept
-        && !matches!(came, Compaction::Done)
-    {
-        // it is the journal's copy, and no older one
-        let _ = fs::remove_file(rt, name);
-    }
-    match came {
-        Compaction::Done => {
-            let now = home.journal_len();
-            println!(streams; "compacted: {before} bytes before, {now} now").map_err(
-                Fault::Output,
-            )?;
-        }
-        Compaction::Long { bytes } => {
-            println!(streams; "not compacted: {before} bytes, {bytes} if it were").map_err(
-                Fault::Output,
-            )?;
-        }
-        Compaction::Refused(error) => return Err(Fault::NotCompacted(error)),
-        Compaction::Unread => return Err(Fault::Uncompactable),
-    }
-    Ok(0)
+    compact_copied(streams, rt, kept, &mut home)
 }

@@ -1,12 +1,12 @@
 //! A site's directory: its journal, and the files of what was cut from it.
-ghost use Rattle.std.specs.Prelude.{IfOk};
+ghost use Rattle.std.specs.Prelude.{◌≡◌, ◌↔◌, IfOk, IsTrue};
 ghost use Rattle.fed_journal.specs.Device.{LeavesJust};
 ghost use Rattle.fed_journal.specs.Files.{file_may_leave, file_seen};
-ghost use Rattle.fed_home.specs.Home.{IsOpen, IsReplayed};
+ghost use Rattle.fed_home.specs.Home.{IsOpen, IsReplayed, gate_of};
 
 use crate::faults::Fault;
 use fed_home::Home;
-use fed_journal::{FileDevice, OpenFault, keep};
+use fed_journal::{Device, FileDevice, OpenFault, keep};
 use std::fs::{File, Files};
 use std::io::{self, ErrorKind};
 use std::path::Path;
@@ -15,6 +15,9 @@ use std::time::{Clock, Duration};
 
 /// The name of the journal's file.
 pub const JOURNAL: &str = "journal";
+
+/// The name of a new journal that a compaction makes beside it.
+pub const NEW_JOURNAL: &str = "journal.new";
 
 /// What the names of the files begin with that keep what was cut from the journal.
 pub const CUT: &str = "journal.cut-";
@@ -127,17 +130,31 @@ pub fn open_home<R: Files<File = File> + Clock + AllocGlobal + Clone + Drop>(
     Ok(home)
 }
 
-/// The site of a directory, its journal at rest, where this process has just answered lines that they aren't kept. What
-/// stands behind the gate is of those lines: where there is no room to keep it, it is cut all the same.
+/// Whether all that was acknowledged is there, where the gate stood there before: then what stands behind the gate is of
+/// lines that were answered `not kept`.
+fn has_all<D: Device + Drop>(home: &Home<D>, gate: usize) -> bool
+    ensures { IsTrue result ↔ (gate_of home.now ≡ gate) }
+{
+    home.gate() == gate
+}
+
+/// The site of a directory, its journal at rest, where this process has just answered lines that they aren't kept, and its
+/// gate stood there before. What stands behind the gate is of those lines: where there is no room to keep it, it is cut all
+/// the same. But where the gate stands elsewhere the disk has changed the journal, and nothing is cut that isn't kept.
 pub fn open_home_again<R: Files<File = File> + Clock + AllocGlobal + Clone + Drop>(
     streams: &impl Eprint,
     rt: &R,
     directory: &str,
+    gate: usize,
 ) -> Result<Home<FileDevice<R>>, Fault>
     ensures { IfOk result (λ home. IsOpen file_seen file_may_leave home) }
 {
     let (mut home, cut) = find_home(rt, directory)?;
-    let _ = keep_tail(streams, rt, directory, &cut);
+    if let Err(fault) = keep_tail(streams, rt, directory, &cut) {
+        if !has_all(&home, gate) {
+            return Err(fault);
+        }
+    }
     home.repair()?;
     Ok(home)
 }

@@ -1,8 +1,6 @@
 //! The program `nettlebeam`: one site of a federation of batch queues, on a disk.
 #![tactic(auto)]
 
-/// The program's own words.
-mod command_line;
 /// Compacting a site's journal.
 mod compacting;
 /// A site's directory: its journal, and the files of what was cut from it.
@@ -15,8 +13,8 @@ mod making;
 mod tasks;
 
 use clap::error::ErrorKind;
-use command_line::{Asked, Task, read_command_line};
 use faults::{Fault, FaultAt};
+use nettle_words::{Asked, Task, read_command_line};
 use std::fs::File;
 use std::process::ExitCode;
 use std::rt::{Env, Files};

@@ -5,7 +5,6 @@ ghost use Rattle.fed_journal.specs.Files.{file_may_leave, file_seen};
 ghost use Rattle.fed_home.specs.Home.{IsOpen, IsReplayed};
 ghost use Rattle.nettlebeam.specs.Status.{answered_status as status_of};
 
-use crate::command_line::{Asked, Task};
 use crate::compacting::{GROWTH, LEAST_BYTES, compact, compact_long, tell_not_compacted};
 use crate::directories::{find_home, keep_tail, open_device, open_home, open_home_again};
 use crate::faults::{Fault, FaultAt};
@@ -17,7 +16,8 @@ use fed_serve::{
 };
 use fed_site::{Answered, Complaint, Site, words_beside};
 use fed_stamp::{SITES, SiteId};
-use std::alloc::Global;
+use nettle_words::{Asked, Task};
+use std::alloc::{AllocError, Global};
 use std::fs::{File, Files};
 use std::io::{self, BufWriter, Read, Write};
 use std::time::Clock;
@@ -200,9 +200,10 @@ fn serve_input<R: Files<File = File> + Clock + AllocGlobal + Clone + Drop>(
             Err(ServeFault::NotKept(fault)) => tell_not_kept(streams, directory, fault),
             Err(fault) => return Err(Fault::from(fault)),
         }
+        let gate = home.gate();
         // the lock ends with the home that has it
         drop(home);
-        home = open_home_again(streams, rt, directory)?;
+        home = open_home_again(streams, rt, directory, gate)?;
     }
     Ok(0)
 }
@@ -221,15 +222,9 @@ fn is_compacted(alloc: Global, entries: &[Vec<u8>]) -> Result<bool, Fault> {
     }
 }
 
-/// A line that tells how many entries a journal has, whether it was compacted, what its site has seen of each site, how many
-/// jobs it knows, and how many bytes stand behind the gate, which were never answered and are cut when the site is opened.
-fn report(alloc: Global, entries: &[Vec<u8>], site: &Site, behind: usize) -> Result<String, Fault> {
-    let count = entries.len();
-    let mut text = format!(in alloc; "entries {count}")?;
-    if is_compacted(alloc, entries)? {
-        text.push_str(" (compacted)")?;
-    }
-    text.push_str(", seen")?;
+/// What a site has seen of each site of its roster.
+fn seen_text(alloc: Global, site: &Site) -> Result<String, AllocError> {
+    let mut text = String::new(alloc);
     let version = site.version();
     for number in 0..SITES as u8 {
         if let Some(seen) = SiteId::new(number)
@@ -239,9 +234,23 @@ fn report(alloc: Global, entries: &[Vec<u8>], site: &Site, behind: usize) -> Res
             text.push_str(format!(in alloc; " {name} {counter}")?.as_str())?;
         }
     }
-    let jobs = site.board().jobs().count();
-    text.push_str(format!(in alloc; ", jobs {jobs}, unfinished bytes {behind}")?.as_str())?;
     Ok(text)
+}
+
+/// A line that tells how many entries a journal has, whether it was compacted, what its site has seen of each site, how many
+/// jobs it knows, and how many bytes stand behind the gate, which were never answered and are cut when the site is opened.
+fn report(alloc: Global, entries: &[Vec<u8>], site: &Site, behind: usize) -> Result<String, Fault> {
+    let count = entries.len();
+    let compacted = if is_compacted(alloc, entries)? {
+        " (compacted)"
+    } else {
+        ""
+    };
+    let seen = seen_text(alloc, site)?;
+    let jobs = site.board().jobs().count();
+    Ok(format!(in alloc;
+        "entries {count}{compacted}, seen{seen}, jobs {jobs}, unfinished bytes {behind}"
+    )?)
 }
 
 /// Tells what the journal of a directory has.

@@ -2,8 +2,9 @@
 //! seat as before, and answers as with ample memory when it is asked again. That it leaves the journals as before is seen
 //! at the end: only journals whose entries are just those that the seats claim are settled. So the tests pass whichever
 //! allocation fails, which `rt try --test --fail-alloc N` does for the Nth.
-use crate::altered::{claim_all, ship_at, submitted, taken};
+use crate::entries::{claim_all, ship_at, submitted, taken};
 use fed_board::Board;
+use fed_delta::Packet;
 use fed_lattice::NoMemory;
 use fed_record::{Command, Reply};
 use fed_replica::{Replica, Taken};
@@ -12,7 +13,6 @@ use fed_threads::{
     Asked, CallFault, Claim, CloseFault, Dropped, Entry, Federation, Next, OpenGate, Seat, Sent,
     settle,
 };
-use fed_wire::Packet;
 use std::alloc::Global;
 use std::process::Abort;
 use std::sync::Wait;

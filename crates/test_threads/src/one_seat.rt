@@ -1,8 +1,8 @@
 //! One seat at a federation of two sites.
-use crate::altered::settled_journals;
+use crate::entries::settled_journals;
 use fed_record::Reply;
 use fed_replica::Taken;
-use fed_threads::{CallFault, Dropped, Entry, Federation, Next, OpenGate, Run, Seat};
+use fed_threads::{Dropped, Entry, Federation, Next, OpenGate, Run, Seat};
 use fed_world::Event;
 use std::process::Abort;
 use std::sync::Wait;
@@ -56,26 +56,6 @@ fn see_passed_on(rt: &(impl Abort + AllocGlobal), run: &Run) {
         run.journal(lemont).expect(rt, "a journal"),
         &journals[1],
     );
-}
-
-/// No call is answered at a site outside the roster.
-fn see_nowhere<R: Abort + Wait>(rt: &R, federation: &Federation<OpenGate>, seat: &mut Seat) {
-    let nowhere = site(2);
-    let said = federation.call(rt, nowhere, &ann(), &submission(), seat);
-    assert!(rt; said == Err(CallFault::NoSite));
-    assert!(rt; federation.end(rt, nowhere) == Err(CallFault::NoSite));
-    assert!(rt; federation.drop_next(rt, nowhere) == Err(CallFault::NoSite));
-    let sent = federation.ship(rt, site(0), nowhere, seat);
-    assert!(rt; sent == Err(CallFault::NoSite));
-    let taken = federation.take_next(rt, nowhere, seat);
-    assert!(rt; taken == Err(CallFault::NoSite));
-    assert!(rt; seat.claims().is_empty());
-}
-
-#[test]
-fn sites_outside_the_roster(rt: HostRuntime) {
-    let federation = Federation::open(rt.alloc(), &two_sites(), OpenGate).expect(&rt, "memory");
-    see_nowhere(&rt, &federation, &mut federation.seat());
 }
 
 /// Lemont's queue is ended.

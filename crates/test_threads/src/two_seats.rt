@@ -1,15 +1,14 @@
 //! Two seats, of two threads.
-use crate::values::new_priority;
-use fed_record::{Command, Reply, Who};
+use fed_record::{Changes, Command, Priority, Reply, Who};
 use fed_replica::Taken;
-use fed_stamp::{SiteId, Stamp, Version};
+use fed_stamp::{JobId, SiteId, Stamp, Version};
 use fed_threads::{CallFault, CloseFault, Federation, Gate, Next, OpenGate, Seat};
 use std::process::Abort;
 use std::sync::Wait;
 use std::sync::atomic::{AtomicBool, Ordering};
 use std::thread::Threads;
 use std::{hint, thread};
-use test_values::{ann, bob, site, stamp, submission, two_sites};
+use test_values::{UNCHANGED, ann, bob, site, stamp, submission, two_sites};
 
 /// How many turns a gate waits at most.
 const TURNS: u64 = 1_000_000_000;
@@ -78,6 +77,15 @@ fn at_lemont<G: Gate, R: Wait>(
         && sent.queued
         && taken == Ok(Next::Taken(Taken { grew: false }));
     is_well.then_some(())
+}
+
+/// Gives a job another priority.
+fn new_priority(rt: &impl Abort, job: JobId, priority: i16) -> Command {
+    let changes = Changes {
+        priority: Some(Priority::new(priority).expect(rt, "a priority")),
+        ..UNCHANGED
+    };
+    Command::Alter { job, changes }
 }
 
 /// Whether the seat sees that the job has the priority.

@@ -1,6 +1,6 @@
 use Rattle.std.proofs.Common.{◌≡◌, ◌+◌, suc, string_bytes, ◌∙◌, refl, arith}
 use Rattle.fed_machine.specs.Chart.{text_of_tick}
-use Rattle.fed_machine.proofs.Ranges.{sites_more}
+use Rattle.fed_qstat.proofs.Ranges.{sites_more}
 use Rattle.fed_machine.proofs.chart.ticks_text.Goals as goal
 
 pub loop-quarters-preserved : goal.loop-quarters-preserved

@@ -1,7 +1,7 @@
 use Rattle.std.proofs.Common.{◌≡◌, ◌∙◌, sym, ap, true, Some, Ok}
 use Rattle.std.proofs.lemmas.Bool.{cond-true}
 use Rattle.fed_delta.specs.Delta.{DeltaValue}
-use Rattle.fed_wire.specs.Packet.{PacketValue}
+use Rattle.fed_delta.specs.Packet.{PacketValue}
 use Rattle.fed_wire.specs.Reading.{packet_in}
 use Rattle.fed_site.specs.Known.{is_whole, known_by}
 use Rattle.fed_site.proofs.Openings.{known_state}

@@ -8,7 +8,7 @@ use Rattle.fed_wire.specs.declared.faults.WireFault.TheVariants.{Range}
 use Rattle.fed_wire.specs.Faults.{Gives}
 use Rattle.fed_board.specs.Board.{BoardValue}
 use Rattle.fed_delta.specs.Delta.{DeltaValue}
-use Rattle.fed_wire.specs.Packet.{PacketValue}
+use Rattle.fed_delta.specs.Packet.{PacketValue}
 use Rattle.fed_wire.specs.Reading.{place, body_in, least_above}
 use Rattle.fed_wire.proofs.BodyLaws.{sender_fault, need_fault, reached_fault, above_fault, jobs_fault, reservations_fault, retired_fault, packet_is, board_read}
 use Rattle.fed_wire.proofs.bodies.body.Goals as goal

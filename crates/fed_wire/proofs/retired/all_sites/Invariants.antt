@@ -1,7 +1,7 @@
 use Rattle.std.proofs.Common.{[], map, drop}
 use Rattle.std.specs.Map.{keys_of}
 use Rattle.serde_json.specs.View.{view}
-use Rattle.fed_range_json.specs.Retirements.{retirements_of}
+use Rattle.fed_parts_json.specs.Retirements.{retirements_of}
 use Rattle.fed_wire.specs.declared.faults.Part.TheVariants.{Retired}
 use Rattle.fed_wire.specs.Packet.{site_stands}
 use Rattle.fed_wire.specs.Reading.{each_in}

@@ -3,7 +3,7 @@ use Rattle.std.proofs.Common.{ap, ◌∙◌}
 use Rattle.serde_json.specs.Errors.{IsMemory}
 use Rattle.serde_json.specs.View.{view}
 use Rattle.fed_wire.specs.declared.faults.WireFault.{WireFault}
-use Rattle.fed_wire.specs.Packet.{PacketValue}
+use Rattle.fed_delta.specs.Packet.{PacketValue}
 use Rattle.fed_wire.proofs.TextLaws.{text_some, text_none, value_read, not_json}
 use Rattle.fed_wire.proofs.texts.packet_in_text.Goals as goal
 

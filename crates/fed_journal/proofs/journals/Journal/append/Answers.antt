@@ -4,6 +4,7 @@ use Rattle.std.proofs.lemmas.Result.{err_from_is_err_and}
 use Rattle.fed_journal.specs.Lines.{at_rest}
 use Rattle.fed_journal.specs.Journal.{entries_in}
 use Rattle.fed_journal.proofs.Appending.{first_step, second_step, kept_out, gate_closed, group_bytes, is_recovered, is_settled}
+use Rattle.fed_journal.proofs.Failing.{stops_put, not_full, stops_gate, gate_not_full}
 use Rattle.fed_journal.proofs.journals.Journal.append.Goals as goal
 use Rattle.fed_journal.proofs.journals.Journal.append.Goals.{then-self-gt-MAX_BYTES-via-then-self-gt-MAX_BYTES, then-self-gt-MAX_BYTES-via-else-self-gt-MAX_BYTES+then-len-self}
 
@@ -54,3 +55,23 @@ returns-in_err-open_gate-clause-nothing g c =
     let group = map (λ (text : Bor (List ℕ)). text.now) c.args.texts.now in
     let p = err_from_is_err_and c.from_residual-in_err-open_gate.result c.from_residual-in_err-open_gate.ensures.1 in
     rw (p.1, p.2) (λ sure. gate_closed g.D.Device.moment g.D.Device.left_since g.D.Device.seen g.D.Device.may_leave c.args.self.now c.requires.settled group c.requires.lines _ (length-map c.args.texts.now (λ (text : Bor (List ℕ)). text.now)) (sym c.if-is_empty.ensures) c.deref.result.now (c.deref.ensures.value ∙ c.in_ok-group.ensures.bytes) c.put.new.device c.open_gate.new.device _ _ _ c.put.ensures.any_moment c.in_err-open_gate.ensures.fault c.in_err-open_gate.ensures.untouched sure)
+
+pub returns-in_err-put-clause-fault : goal.returns-in_err-put-clause-fault
+returns-in_err-put-clause-fault g c =
+    let p = err_from_is_err_and c.from_residual-in_err-put.result c.from_residual-in_err-put.ensures.1 in
+    rw (p.1, p.2) (stops_put _ _ _ c.in_err-put.field-0.0 c.in_err-put.ensures.cause)
+
+pub returns-in_err-put-clause-full : goal.returns-in_err-put-clause-full
+returns-in_err-put-clause-full g c =
+    let p = err_from_is_err_and c.from_residual-in_err-put.result c.from_residual-in_err-put.ensures.1 in
+    rw (p.1, p.2) (λ full. absurd (not_full c.in_err-put.field-0.0 full))
+
+pub returns-in_err-open_gate-clause-fault : goal.returns-in_err-open_gate-clause-fault
+returns-in_err-open_gate-clause-fault g c =
+    let p = err_from_is_err_and c.from_residual-in_err-open_gate.result c.from_residual-in_err-open_gate.ensures.1 in
+    rw (p.1, p.2) (stops_gate _ _ _ _ c.in_err-open_gate.field-0.0 c.in_ok-put.ensures.cause c.in_err-open_gate.ensures.fault)
+
+pub returns-in_err-open_gate-clause-full : goal.returns-in_err-open_gate-clause-full
+returns-in_err-open_gate-clause-full g c =
+    let p = err_from_is_err_and c.from_residual-in_err-open_gate.result c.from_residual-in_err-open_gate.ensures.1 in
+    rw (p.1, p.2) (λ full. absurd (gate_not_full _ _ c.in_err-open_gate.field-0.0 c.in_err-open_gate.ensures.fault full))

@@ -1,6 +1,6 @@
 use Rattle.std.proofs.Common.{◌∙◌}
 use Rattle.fed_board.specs.Board.{board_reads}
-use Rattle.fed_qstat.specs.Planned.{text_of_plan}
+use Rattle.fed_machine.specs.Planned.{text_of_plan}
 use Rattle.fed_main.specs.Thread.{Looked}
 use Rattle.fed_main.proofs.Threads.{Answers-one}
 use Rattle.fed_main.proofs.live_sites.LiveSite.plan.Goals as goal

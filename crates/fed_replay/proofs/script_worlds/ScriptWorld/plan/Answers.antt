@@ -2,7 +2,7 @@ use Rattle.std.specs.Cow.{cow_str_bytes}
 use Rattle.std.proofs.Common.{◌≡◌, ◌<◌}
 use Rattle.std.proofs.lemmas.Result.{IfOk-weaker}
 use Rattle.fed_board.specs.Board.{board_reads}
-use Rattle.fed_qstat.specs.Planned.{planned, text_of_plan}
+use Rattle.fed_machine.specs.Planned.{planned, text_of_plan}
 use Rattle.fed_replay.specs.ScriptWorld.{reads}
 use Rattle.fed_replay.specs.Script.{view_at}
 use Rattle.fed_replay.proofs.Machines.{planned_at}

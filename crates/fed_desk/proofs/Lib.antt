@@ -1,2 +1,0 @@
--- How the first case of a table is found.
-pub mod FirstCases

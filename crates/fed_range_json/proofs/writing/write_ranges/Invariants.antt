@@ -1,7 +1,0 @@
-use Rattle.std.proofs.Common.{◌≡◌, map, take}
-use Rattle.serde_json.specs.View.{view}
-use Rattle.fed_range_json.specs.Retirements.{range_value}
-use Rattle.fed_range_json.proofs.writing.write_ranges.Given as goal
-
-abbrev pub invariant-loop-range : goal.invariant-loop-range
-invariant-loop-range l = map view l.values.items ≡ map range_value (take l.range-index l.range-items)

@@ -1,0 +1,9 @@
+use Rattle.std.proofs.Common.{ap₂, ◌∙◌}
+use Rattle.std.proofs.lemmas.Result.{IfOk-weaker}
+use Rattle.clap.specs.Words.{with_rule}
+use Rattle.nettle_words.proofs.command_line.serve.Goals as goal
+
+pub returns : goal.returns
+returns c =
+    IfOk-weaker c.arg-2.result _ _ (λ command added. added.shape c.flag-2.ensures.local
+    ∙ ap₂ with_rule (c.in_ok-arg.ensures.shape c.flag.ensures.local ∙ ap₂ with_rule c.in_ok-with_directory.ensures c.flag.ensures.rule) c.flag-2.ensures.rule) c.arg-2.ensures

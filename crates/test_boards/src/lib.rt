@@ -1,0 +1,26 @@
+//! Examples of tables, records, boards, plans, words and packet text, over public calls alone: each call that allocates is
+//! compared with an answer from outside, with ample memory and, by tools/failed_allocations, with each request refused. The
+//! crate has tests and nothing else.
+#![tactic(auto)]
+
+/// Boards and deltas.
+#[cfg(test)]
+mod boards;
+/// Texts of packets.
+#[cfg(test)]
+mod packets;
+/// Machines, plans and listings.
+#[cfg(test)]
+mod plans;
+/// Sets of counters that are kept as ranges, and what one site has retired.
+#[cfg(test)]
+mod ranges;
+/// Records of jobs.
+#[cfg(test)]
+mod records;
+/// Tables and tag sets.
+#[cfg(test)]
+mod tables;
+/// Words and what they ask.
+#[cfg(test)]
+mod words;
