@@ -4,15 +4,22 @@ A user waits for the start of these programs at each call, so they import little
 """
 from __future__ import annotations
 
-import json
 import os
-import socket
+
+try:
+    from _socket import AF_UNIX, SOCK_STREAM, socket  # what the library's `socket` is made of, which takes longer to load
+except ImportError:
+    from socket import AF_UNIX, SOCK_STREAM, socket  # type: ignore[assignment]
+
+from .light import dumps, loads
 
 TYPE_CHECKING = False
 if TYPE_CHECKING:
     from typing import Any, Dict, List, Optional
 
 SOCKETS = "/run/nettlebeam"
+CHUNK = 1 << 18
+CUT = "the service stopped before it answered"
 
 
 class Unasked(Exception):
@@ -49,26 +56,31 @@ def ask(
 ) -> Told:
     """Asks the service; the body is the script of a qsub, or the packet of a take."""
     head: Dict[str, Any] = {"words": words, "role": role, "facts": facts or {}, "size": None if body is None else len(body)}
+    stream = socket(AF_UNIX, SOCK_STREAM)
     try:
-        with socket.socket(socket.AF_UNIX, socket.SOCK_STREAM) as stream:
-            stream.connect(path)
-            try:
-                stream.sendall(json.dumps(head).encode() + b"\n" + (body or b""))
-            except BrokenPipeError:
-                pass  # it answers before it has read all
-            return read_reply(stream)
+        stream.connect(path)
+        try:
+            stream.sendall(dumps(head).encode() + b"\n" + (body or b""))
+        except BrokenPipeError:
+            pass  # it answers before it has read all
+        return read_reply(stream)
     except OSError as fault:
         raise Unasked(f"{path}: {fault.strerror}") from None
+    finally:
+        stream.close()
 
 
-def read_reply(stream: socket.socket) -> Told:
+def read_reply(stream: socket) -> Told:
     """Reads a reply to its end."""
-    with stream.makefile("rb") as file:
-        line = file.readline()
-        if not line.endswith(b"\n"):
-            raise Unasked("the service stopped before it answered; what was asked may be done or not")
-        head = json.loads(line)
-        answer = file.read(head["size"])
-    if len(answer) != head["size"]:
-        raise Unasked("the service stopped before it had answered")
-    return Told(head["status"], answer, head["words"])
+    held, line, wanted = bytearray(), b"", -1
+    head: Dict[str, Any] = {}
+    while len(held) != wanted:
+        data = stream.recv(CHUNK)
+        if not data:
+            raise Unasked(CUT if line else f"{CUT}; what was asked may be done or not")
+        held += data
+        if not line and b"\n" in data:
+            line, _, rest = bytes(held).partition(b"\n")
+            head, held = loads(line.decode()), bytearray(rest)
+            wanted = head["size"]
+    return Told(head["status"], bytes(held), head["words"])

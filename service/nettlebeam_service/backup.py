@@ -2,12 +2,18 @@
 from __future__ import annotations
 
 import asyncio
-from typing import Tuple
+import os
+import time
+from typing import Callable, Tuple
 
+from .commands import call
+from .processes import end_holders, lock
 from .shared import Shared
 
-SECONDS = 120.0
 RETRY_SECONDS = 5.0
+LOOK_SECONDS = 0.05
+LOCK = "NETTLEBEAM_BACKUP_LOCK"  # tells the command the descriptor of the lock
+PROGRAM = "NETTLEBEAM"
 
 
 class NoBackup(Exception):
@@ -15,10 +21,18 @@ class NoBackup(Exception):
 
 
 class Backup:
-    """Runs the configured command before packets leave and jobs start: one run for all that waited when it began."""
+    """Runs the configured command before packets leave and jobs start: one run for all that waited when it began.
 
-    def __init__(self, command: Tuple[str, ...]):
+    Each process of a copy has a lock as an open file, which the next copy waits for, also that of another service: so no copy
+    goes on that could be put over a newer one. A copy that takes too long is ended with all of its processes.
+    """
+
+    def __init__(self, command: Tuple[str, ...], seconds: float, lock_path: str, program: str, log: Callable[[str], None]):
         self.command = command
+        self.seconds = seconds
+        self.lock_path = lock_path
+        self.program = program
+        self.log = log
         self.copies = Shared(self.copy)
         self.trouble = ""
         self.copying = asyncio.Lock()  # locked while a copy is made, and while another journal is put in the place of this one
@@ -53,16 +67,31 @@ class Backup:
             raise
 
     async def run(self) -> None:
-        """Runs the command."""
-        pipe, null = asyncio.subprocess.PIPE, asyncio.subprocess.DEVNULL
+        """Runs the command, once no other copy is made."""
+        held = await self.locked()
         try:
-            process = await asyncio.create_subprocess_exec(*self.command, stdin=null, stdout=null, stderr=pipe)
+            environment = {**os.environ, LOCK: str(held), PROGRAM: self.program}
+            done = await call(self.command, self.seconds, env=environment, pass_fds=(held,))
+        except asyncio.TimeoutError:
+            raise NoBackup(f"no end within {self.seconds:g} s") from None
         except OSError as fault:
             raise NoBackup(f"{self.command[0]}: {fault.strerror}") from None
-        try:
-            _, errors = await asyncio.wait_for(process.communicate(), SECONDS)
-        except asyncio.TimeoutError:
-            process.kill()
-            raise NoBackup(f"no end within {SECONDS:g} s") from None
-        if process.returncode:
-            raise NoBackup(errors.decode("utf-8", "replace").strip()[-300:] or f"status {process.returncode}")
+        finally:
+            os.close(held)
+        if done.status:
+            raise NoBackup(done.errors.decode("utf-8", "replace").strip()[-300:] or f"status {done.status}")
+
+    async def locked(self) -> int:
+        """Takes the lock. An earlier copy that has it is waited for, and ended where it takes too long."""
+        end = time.monotonic() + self.seconds
+        while time.monotonic() < end:
+            held = lock(self.lock_path)
+            if held is not None:
+                return held
+            await asyncio.sleep(LOOK_SECONDS)
+        self.log(f"an earlier copy of the journal has no end within {self.seconds:g} s, so it is ended")
+        await asyncio.to_thread(end_holders, self.lock_path)
+        held = lock(self.lock_path)
+        if held is None:
+            raise NoBackup("an earlier copy can't be ended, and may still be put in place")
+        return held

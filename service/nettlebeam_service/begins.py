@@ -1,36 +1,73 @@
-"""The begin of a job: the one place where a script comes to be started."""
+"""The begin of a job: the one place where a script comes to be started.
+
+Jobs whose nodes are ready at one time are begun together: their notes are written, the site is asked for all of them at once, so
+that it syncs them together, and one sync keeps that they may be started.
+"""
 from __future__ import annotations
 
 import asyncio
-import os
-import pwd
 import time
-from typing import Any, Callable, Dict, Optional, Set
+from dataclasses import dataclass
+from typing import Callable, Dict, List, Optional, Sequence, Set, Tuple
 
+from .accounts import Accounts
 from .config import Config
-from .processes import FILES_OF_JOBS
+from .job_files import shown_number, whole_name
+from .node_link import NodeFault
+from .node_store import boot_time
+from .run import Run
 from .runs import Runs
-from .site import Site
+from .shared import Shared
+from .site import Site, Stopped
 from .spool import Spool
-from .told import Job, now, origin_of, told_of
-from .users import Users
-from .wrapper import account, as_owner, clean_text, environment_of, files_of, nodes_text, shell_reading, text_of
+from .starts import Starts
+from .told import Job, now, origin_of, told_of_many
+from .wire import OF_RUNS
+from .wrapper import Order
 
+DONE = "done\n"
 ALONE_SECONDS = 60
+TOGETHER_SECONDS = 0.02  # for which a job that is ready waits for others that are being prepared
+MOST_NODES = 3  # that are asked to prepare a job in one plan
+
+
+@dataclass
+class Ready:
+    """A job whose node is ready, or that only ends, and what the site made of its begin."""
+
+    job: Job
+    run: Run
+    may_start: bool
+    answer: str = ""
+    begun: Optional[Job] = None
+    fault: Optional[BaseException] = None
+
+    def is_as_prepared(self) -> bool:
+        """Whether it has begun, and as its node was told."""
+        if self.answer != DONE or self.begun is None:
+            return False
+        return (self.begun["nodes"], self.begun["end"] - self.begun["moment"]) == (self.job["nodes"], self.job["limit"])
 
 
 class Begins:
     """Begins jobs that are granted here."""
 
-    def __init__(self, config: Config, site: Site, spool: Spool, users: Users, runs: Runs, log: Callable[[str], None]):
+    def __init__(
+        self, config: Config, site: Site, spool: Spool, accounts: Accounts, runs: Runs, starts: Starts, log: Callable[[str], None]
+    ):
         self.config = config
         self.site = site
         self.spool = spool
-        self.users = users
+        self.accounts = accounts
         self.runs = runs
+        self.starts = starts
         self.log = log
         self.left_alone: Dict[str, float] = {}  # jobs whose owners nothing is run as, and when that is looked at again
         self.logged: Set[str] = set()
+        self.preparing = 0
+        self.all_prepared = asyncio.Event()
+        self.ready: List[Ready] = []
+        self.together = Shared(self.begin_together)
 
     def is_left_alone(self, name: str) -> bool:
         """Whether nothing was run as the owner of a job a short while ago."""
@@ -50,94 +87,151 @@ class Begins:
         facts = self.spool.facts(job["id"])
         return facts is not None and facts.get("owner") == job["owner"]
 
-    async def account_for(self, job: Job) -> Optional[pwd.struct_passwd]:
-        """The account that a job is run as; None where its owner has none here, or none that jobs may be run as."""
-        keys, owner = self.config.jobs, job["owner"]
-        found = await self.users.account(owner)
-        if found and (found.pw_uid >= keys.least_uid if keys.start else owner == account()):
+    async def has_account(self, job: Job) -> bool:
+        """Whether something is run here as the owner of a job, as the nodes tell. Where none of them can be asked
+        nothing is run."""
+        is_known = await self.accounts.has(job["owner"])
+        if is_known:
             self.left_alone.pop(job["id"], None)
             self.logged.discard(job["id"])
-            return found
+        elif is_known is not None:
+            self.leave_alone(job)
+        return bool(is_known)
+
+    def leave_alone(self, job: Job) -> None:
+        """Does without a job for a while, since nothing is run as its owner."""
         self.left_alone[job["id"]] = time.monotonic() + ALONE_SECONDS
         if job["id"] not in self.logged:
             self.logged.add(job["id"])
             self.runs.wake()  # the next plan does without it
-            self.log(f"{job['id']}: left alone, since nothing is run here as {owner}")
-        return None
+            self.log(f"{job['id']}: left alone, since nothing is run here as {job['owner']}")
 
     async def begin(self, job: Job) -> None:
         """Begins a job that is granted here, and starts it where the site's answer to that was `done`.
 
-        The lock of its run is taken before, and passes to the runner, so that it is never free in between.
+        Its node is ready before the site is asked, so that a dead node, a full disk or a missing account costs no job.
         """
         name = job["id"]
         if self.runs.is_busy(name):
             return
         self.runs.starting.add(name)
-        lock = None
-        is_started = False
+        run: Optional[Run] = None
+        is_begun = False
         try:
-            hosts = self.runs.take_hosts(name, job["nodes"])
-            lock = self.spool.lock(name) if hosts is not None else None
-            if lock is not None:
-                is_started = await self.begin_locked(job, lock)
+            may_start = self.has_script(job) and not self.spool.was_started(name)
+            run = await self.prepare_one(job) if may_start else self.runs.place(name, job["nodes"], set())
+            if run is not None:
+                ready = Ready(job, run, may_start)
+                self.ready.append(ready)
+                await self.together.done()
+                is_begun = await self.go_on(ready)
+        except (OSError, Stopped) as fault:
+            self.log(f"{name}: it isn't begun now: {fault!r}")
         finally:
-            if not is_started:
-                if lock is not None:
-                    os.close(lock)
-                self.runs.hosts.pop(name, None)
+            if not is_begun:
+                if run is not None:
+                    self.starts.release(run)
                 self.runs.starting.discard(name)
                 self.runs.wake()
 
-    async def begin_locked(self, job: Job, lock: int) -> bool:
-        """Begins a job whose lock is held; whether its runner is being started."""
-        name = job["id"]
-        may_start = self.has_script(job) and not self.spool.was_started(name)
-        if may_start:
-            await self.prepare_run(job, job["limit"])
-        # both lines together, so that a site that stops between them leaves no job begun and unknown here
-        answer, told = await asyncio.gather(self.site.ask(f"begin {name} {now()}"), told_of(self.site, [name]))
-        if answer.text != "done\n":
-            self.log(f"{name}: begin is answered {answer.text.strip()}")
+    async def prepare_one(self, job: Job) -> Optional[Run]:
+        """Has a job prepared; those that are ready meanwhile wait for it, though not for long."""
+        self.preparing += 1
+        self.all_prepared.clear()
+        try:
+            return await self.prepare(job)
+        finally:
+            self.preparing -= 1
+            if not self.preparing:
+                self.all_prepared.set()
+
+    async def begin_together(self) -> None:
+        """Asks the site to begin all jobs that are ready."""
+        if self.preparing:
+            await asyncio.wait([asyncio.ensure_future(self.all_prepared.wait())], timeout=TOGETHER_SECONDS)
+        batch, self.ready = self.ready, []
+        await asyncio.to_thread(self.draft_records, [it.run for it in batch if it.may_start])
+        # all lines together, so that a site that stops between them leaves no job begun and unknown here
+        names, moment = [it.job["id"] for it in batch], now()
+        *answers, told = await asyncio.gather(
+            *(self.site.ask(f"begin {name} {moment}") for name in names), told_of_many(self.site, names), return_exceptions=True
+        )
+        for ready, answer in zip(batch, answers):
+            if isinstance(answer, BaseException):
+                ready.fault = answer
+            elif isinstance(told, BaseException):
+                ready.fault = told
+            else:
+                ready.answer, ready.begun = answer.text, told[ready.job["id"]]["begun"]
+        await asyncio.to_thread(self.spool.name_records, [it.job["id"] for it in batch if it.may_start and it.is_as_prepared()])
+
+    def draft_records(self, runs: Sequence[Run]) -> None:
+        """Writes the notes of runs."""
+        for run in runs:
+            self.spool.draft_record(run.job, run.record())
+
+    async def prepare(self, job: Job) -> Optional[Run]:
+        """Has a node prepare a job, and another one where that can't; None where none of them is ready."""
+        name, but = job["id"], set()  # type: Tuple[str, Set[str]]
+        stored = self.spool.stored(name)
+        for _ in range(MOST_NODES):
+            run = self.runs.place(name, job["nodes"], but)
+            if run is None:
+                return None
+            run.mark = self.spool.mark(name)
+            try:
+                answer = await self.starts.prepare(run, self.order_of(job), stored.partition(b"\n")[2])
+                if answer == "ready":
+                    return run
+            except NodeFault as fault:
+                answer = str(fault)
+            self.starts.release(run)
+            if answer == "no account":
+                self.leave_alone(job)
+                return None
+            self.log(f"{name}: {run.node.shown} isn't ready: {answer}")
+            if not run.node.name:
+                return None
+            but.add(run.node.name)
+        return None
+
+    async def go_on(self, ready: Ready) -> bool:
+        """Starts a job that has begun; whether it has."""
+        name, begun = ready.job["id"], ready.begun
+        if ready.fault:
+            raise ready.fault
+        if ready.answer != DONE or begun is None:
+            self.log(f"{name}: begin is answered {ready.answer.strip()}")
             return False
-        if not may_start:
+        run: Optional[Run] = ready.run
+        if not ready.may_start:
             self.log(f"{name}: it has no script, or one was started under its name, so it is finished unrun")
-            return False
-        begun = told[name]["begun"]
-        limit = begun["end"] - begun["moment"]
-        if (begun["nodes"], limit) != (job["nodes"], job["limit"]):
-            if self.runs.take_hosts(name, begun["nodes"]) is None:
-                self.log(f"{name}: it was altered while it began, and there are too few hosts")
-                return False
-            await self.prepare_run(job, limit)
-        self.runs.spawn(self.runs.start(name, lock))
+            run = None
+        elif not ready.is_as_prepared():
+            self.starts.release(ready.run)
+            run = await self.prepare({**ready.job, "nodes": begun["nodes"], "limit": begun["end"] - begun["moment"]})
+            if run is None:
+                self.log(f"{name}: it was altered while it began, and no node is ready for it")
+            else:
+                await asyncio.to_thread(self.spool.keep_records, {name: run.record()})
+        if run is None:
+            self.starts.give_up(name)
+            return True
+        run.is_mine, run.began = True, boot_time()
+        self.runs.spawn(self.starts.start(run))
         return True
 
-    async def prepare_run(self, job: Job, limit: int) -> None:
-        """Writes what the runner of a job needs."""
-        name, owner = job["id"], await self.account_for(job)
-        if owner is None:
-            raise OSError(f"{job['owner']} has no account any more")
-        nodes = nodes_text(self.runs.hosts[name])
-        facts = self.spool.facts(name) or {}
-        text = os.fsencode(text_of(job, facts, len(nodes), self.is_mine(name), self.config.jobs))
-        run = self.run_of(job, owner, limit, len(text))
-        await asyncio.to_thread(self.spool.prepare_run, name, run, text + nodes)
-
-    def run_of(self, job: Job, owner: pwd.struct_passwd, limit: int, size: int) -> Dict[str, Any]:
-        """What the runner of a job is told."""
-        keys, name = self.config.jobs, job["id"]
-        helper = as_owner(keys.start, job, f"{name}-helper")
-        stop = [word.replace("{user}", job["owner"]).replace("{id}", name) for word in keys.stop]
+    def order_of(self, job: Job) -> Order:
+        """What a node is told of a job."""
+        name, keys = job["id"], self.config.jobs
+        facts, is_here = self.spool.facts(name) or {}, self.is_mine(name)
+        folder = facts.get("folder", "") if is_here else keys.elsewhere.replace("{user}", job["owner"])
         return {
-            "command": [*as_owner(keys.start, job, name), *shell_reading(size)],
-            "helper": helper,
-            "clean": [*helper, "/bin/sh", "-c", clean_text(name)],
-            "files": files_of(job, self.spool.facts(name) or {}, self.is_mine(name), keys),
-            "environment": environment_of(owner),
-            "grace": keys.grace,
-            "hosts": self.runs.hosts[name],
-            "limit": limit,
-            "open_files": FILES_OF_JOBS,
-            "stop": stop,
+            "name": whole_name(job, facts),
+            "owner": job["owner"],
+            "nodes": job["nodes"],
+            "limit": job["limit"],
+            "facts": {key: value for key, value in facts.items() if key in OF_RUNS},
+            "folder": folder,
+            "number": shown_number(name, facts, is_here),
         }

@@ -5,8 +5,9 @@ import asyncio
 import contextlib
 import socket
 import sys
+import time
 from collections import Counter
-from typing import Any, AsyncIterator, Callable, Counter as Counts, Dict, Iterator, Sequence, Tuple
+from typing import Any, AsyncIterator, Callable, ContextManager, Counter as Counts, Dict, Iterator, Sequence, Tuple
 
 from .config import ClientKeys
 from .lines import is_costly
@@ -42,6 +43,28 @@ class Meter:
             self.held[uid] -= amount
             if not self.held[uid]:
                 del self.held[uid]
+
+
+class Places:
+    """The places of clients. A user who has some gets another only as long as more are left than that user has, and not of the
+    last tenth, which are for users who have none: so however many places some take, there are others for who comes."""
+
+    def __init__(self, most: int, most_of_user: int):
+        self.most = most
+        self.users = Meter(most_of_user)
+
+    def has_one(self, uid: int) -> bool:
+        """Whether there is a place for this user, as far as the others are concerned."""
+        mine, left = self.users.held[uid], self.most - sum(self.users.held.values())
+        return left > 0 if not mine else mine < left - self.most // 10
+
+    @contextlib.contextmanager
+    def hold(self, uid: int) -> Iterator[None]:
+        """Holds a place, as long as the block runs."""
+        if not self.has_one(uid):
+            raise Busy("too many clients at once")
+        with self.users.hold(uid, 1, "clients"):
+            yield
 
 
 class Gates:
@@ -85,20 +108,23 @@ class Clients:
         self.own = own
         self.log = log
         self.all = 0
-        self.connections = Meter(keys.most_of_user)
-        self.own_connections = Meter(keys.most)
+        self.places = Places(keys.most, keys.most_of_user)
+        self.own_places = Meter(keys.most)
         self.bytes = Meter(keys.user_bytes)
         self.own_bytes = Meter(16 * LONGEST_LINE)
         self.gates = Gates()
+        self.answers: Counts[int] = Counter()  # by their status
+        self.seconds = 0.0  # that they took
 
     def use(self, keys: ClientKeys) -> None:
         """Goes on with other bounds."""
         self.keys = keys
-        self.connections.most, self.own_connections.most, self.bytes.most = keys.most_of_user, keys.most, keys.user_bytes
+        self.places.most, self.places.users.most, self.bytes.most = keys.most, keys.most_of_user, keys.user_bytes
+        self.own_places.most = keys.most
 
-    def places(self, uid: int) -> Meter:
-        """What counts the connections of this user."""
-        return self.own_connections if uid == self.own else self.connections
+    def place(self, uid: int) -> ContextManager[None]:
+        """A place for this user; those of the site's own account are apart."""
+        return self.own_places.hold(uid, 1, "clients") if uid == self.own else self.places.hold(uid)
 
     def meter(self, uid: int) -> Meter:
         """What counts the bytes of this user."""
@@ -111,9 +137,7 @@ class Clients:
             uid = uid_of(writer.get_extra_info("socket"))
             writer.transport.set_write_buffer_limits(high=0)
             try:
-                with self.places(uid).hold(uid, 1, "clients"):
-                    if self.all > self.keys.most and uid != self.own:
-                        raise Busy("too many clients at once")
+                with self.place(uid):
                     await self.converse(uid, reader, writer)
             except Busy as fault:
                 await self.send(writer, Reply(3, words=str(fault)))
@@ -135,10 +159,13 @@ class Clients:
         with self.meter(uid).hold(uid, request.size or 0, "bytes"):
             if request.size:
                 request.body = await asyncio.wait_for(reader.readexactly(request.size), self.keys.seconds)
+            began = time.monotonic()
             client = await self.users.client(uid)
             async with self.gates.through(uid, request.words):
                 reply = await self.requests.answer(client, request)
             request.body = b""
+            self.answers[reply.status] += 1
+            self.seconds += time.monotonic() - began
         with self.meter(uid).hold(uid, len(reply.answer), "bytes"):
             await self.send(writer, reply)
 

@@ -28,6 +28,7 @@ class SiteKeys:
     operators: str = ""
     admins: str = ""
     backup: Words = ()
+    backup_seconds: float = 120.0
     free_bytes: int = 16 * 1024 * 1024
 
 
@@ -40,6 +41,9 @@ class ClientKeys:
     most_of_user: int = 250
     script_bytes: int = 16 * 1024 * 1024
     user_bytes: int = 64 * 1024 * 1024
+    jobs_of_user: int = 1000
+    spool_of_user: int = 1024**3
+    priority: int = 0
 
 
 @dataclass(frozen=True)
@@ -51,8 +55,14 @@ class JobKeys:
     stop: Words = ()
     least_uid: int = 1000
     hosts: Words = ()
+    link: Words = ()
+    count: str = "yes"
+    health: float = 300.0
+    retry_most: float = 300.0
+    cgroup: str = ""
     shell: str = "/bin/sh"
     elsewhere: str = ""
+    mail: Words = ()
     every: float = 10.0
     handback: float = 600.0
     grace: float = 10.0
@@ -109,6 +119,7 @@ class Config:
 
 SECTIONS = {"site": SiteKeys, "clients": ClientKeys, "jobs": JobKeys, "page": PageKeys, "house": HouseKeys}
 RUNS = ("yes", "drain", "no")
+COUNTS = ("yes", "no")
 GREATEST_PORT = 65_535
 
 
@@ -198,9 +209,15 @@ def read_config(path: str) -> Config:
 
 
 def check_jobs(keys: JobKeys) -> None:
-    """`run` is one of its words, and no host is there twice."""
+    """`run` and `count` are among their words, no host is there twice, and a link leads to hosts."""
     if keys.run not in RUNS:
         raise ConfigFault(f"[jobs] run = {keys.run}: none of {', '.join(RUNS)}")
     twice: List[str] = [host for host in keys.hosts if keys.hosts.count(host) > 1]
     if twice:
         raise ConfigFault(f"[jobs] hosts: {twice[0]} is there twice")
+    if keys.count not in COUNTS:
+        raise ConfigFault(f"[jobs] count = {keys.count}: none of {', '.join(COUNTS)}")
+    if keys.link and not keys.hosts:
+        raise ConfigFault("[jobs] link: name the hosts that it leads to")
+    if keys.link and not any("{host}" in word for word in keys.link):
+        raise ConfigFault("[jobs] link: it has no {host}, so that all nodes would be one machine")

@@ -12,11 +12,17 @@ from dataclasses import replace
 from typing import Any, List, Optional
 
 from .backup import Backup
+from .checking import faults, notes
 from .clients import Clients, listen
 from .compacting import Compacting
 from .config import Config, ConfigFault, read_config
+from .hearing import Hearing
+from .filling import Filling
+from .fitting import Fitting
 from .house import House
 from .memory import Memory
+from .metrics import Metrics
+from .nodes import Nodes
 from .page import Page
 from .peers import Peers
 from .processes import allow_many_files
@@ -24,19 +30,28 @@ from .requests import Requests
 from .running import Running
 from .runs import Runs
 from .scheduler import Scheduler
+from .silence import for_somebody
+from .shares import Shares
 from .site import Site
 from .spool import Spool
+from .starts import Starts
+from .told_nodes import ToldNodes
+from .unheard import Unheard
 from .users import Users
+from .waits import Waits
 
 FIRST_INHERITED = 3
-FIXED_KEYS = ("directory", "program", "spool", "socket", "backup", "free_bytes")
+MOST_WAITING = 128  # clients that aren't served yet
+FIXED_KEYS = ("directory", "program", "spool", "socket", "backup", "backup_seconds", "free_bytes")
 ORDERLY_SECONDS = 10
+WATCHDOG_PARTS = 4  # as often within the time of systemd
 USAGE = "usage: nettlebeamd CONFIG, or nettlebeamd --check CONFIG, which reads the configuration and ends"
 
 
 def log(text: str) -> None:
     """Writes an event as one line, with the time where no journal of systemd adds it."""
-    line = " ".join(text.split())
+    # what others tell may have what a terminal obeys
+    line = "".join(it if it.isprintable() else f"\\x{ord(it):02x}" for it in " ".join(text.split()))
     stamp = "" if "JOURNAL_STREAM" in os.environ else time.strftime("%Y-%m-%dT%H:%M:%S ")
     try:
         sys.stderr.write(f"{stamp}{line}\n")
@@ -51,6 +66,15 @@ def notify(state: str) -> None:
     if path:
         with contextlib.suppress(OSError), socket.socket(socket.AF_UNIX, socket.SOCK_DGRAM) as speaker:
             speaker.sendto(state.encode(), "\0" + path[1:] if path[0] == "@" else path)
+
+
+async def tell_watchdog() -> None:
+    """Tells systemd again and again that this loop goes on, where it asks for that."""
+    asked = os.environ.get("WATCHDOG_USEC", "")
+    while asked.isdigit() and int(asked):
+        notify("WATCHDOG=1")
+        await asyncio.sleep(int(asked) / 1e6 / WATCHDOG_PARTS)
+    await asyncio.Event().wait()
 
 
 def inherited_socket() -> Optional[socket.socket]:
@@ -69,6 +93,7 @@ def make_socket(path: str) -> socket.socket:
         os.remove(f"{path}.new")
     listener.bind(f"{path}.new")
     os.chmod(f"{path}.new", 0o666)
+    listener.listen(MOST_WAITING)
     os.rename(f"{path}.new", path)
     return listener
 
@@ -79,26 +104,42 @@ class Service:
     def __init__(self, path: str, config: Config):
         self.path = path
         self.config = config
-        self.spool = Spool(config.site.spool)
         keys = config.site
+        self.spool = Spool(keys.spool, keys.free_bytes)
         self.memory = Memory(keys.spool, log)
         self.site = Site(keys.program, keys.directory, list(config.roster), keys.free_bytes, self.memory, log)
-        self.backup = Backup(keys.backup)
-        self.runs = Runs(config.jobs, self.site, self.spool, self.backup, log, self.changed)
+        self.backup = Backup(keys.backup, keys.backup_seconds, os.path.join(keys.spool, "backup.lock"), keys.program, log)
+        self.nodes = Nodes(config.jobs, keys.spool, log, self.changed)
+        self.runs = Runs(config.jobs, self.site, self.spool, self.nodes, log, self.changed)
+        hearing = Hearing(self.nodes, self.runs, self.spool, log)
+        starts = Starts(self.spool, self.backup, self.runs, hearing, log)
         running = Running(config.name, self.site, self.runs)
+        told = ToldNodes(self.nodes, self.runs, log)
         compacting = Compacting(config.house, self.site, self.backup, log)
-        self.requests = Requests(self.site, self.spool, self.backup, running, compacting, self.changed)
+        self.waits = Waits(config, self.site, self.spool, self.runs, log, self.changed)
+        self.unheard = Unheard(config.name, self.site, keys.spool, log)
+        self.shares = Shares(config.name, config.clients, self.site, self.spool)
+        fitting = Fitting(config.name, config.roster, self.site)
+        parts = (self.site, self.spool, self.backup, running, compacting, told, self.waits, self.unheard, self.shares, fitting)
+        self.requests = Requests(*parts, self.changed)
         self.users = Users(config.site)
         self.clients = Clients(config.clients, self.users, self.requests, os.getuid(), log)
         self.peers = Peers(config.name, config.peers, self.site, self.requests, log, self.changed)
-        self.scheduler = Scheduler(config, self.site, self.spool, self.backup, self.peers, self.users, self.runs, log)
-        self.house = House(config.name, config.house, self.site, self.spool, compacting, log)
-        self.page = Page(config, self.site, self.backup, self.peers, log)
+        self.unheard.is_silent = self.peers.is_silent
+        self.scheduler = Scheduler(config, self.site, self.spool, self.backup, self.peers, self.nodes, self.runs, starts, log)
+        filling, needed = Filling(config.name, self.site, log), self.waits.groups.needed
+        self.waits.leave_alone(self.scheduler.begins.logged)
+        self.house = House(config.name, config.house, self.site, self.spool, compacting, filling, needed, log)
+        counting = self.scheduler.counting
+        metrics = Metrics(filling, self.spool, self.peers, self.backup, self.clients, lambda: counting.looked_at)
+        told_here = (filling, metrics, self.waits.reasons, self.unheard)
+        self.page = Page(config, self.site, self.backup, self.peers, self.runs, *told_here, log)
         self.stopping = asyncio.Event()
 
     def changed(self) -> None:
         """Something may have changed what starts here."""
         self.scheduler.wake()
+        self.waits.waiting.wake()
 
     def reload(self) -> None:
         """Reads the configuration anew. What a running service can't change is told, and kept."""
@@ -114,8 +155,10 @@ class Service:
             log(f"a new {', '.join(fixed)} is used when the service starts anew")
         self.users.keys, self.users.known = config.site, {}
         self.clients.use(config.clients)
+        self.shares.keys = config.clients
         self.page.config = replace(self.page.config, jobs=config.jobs)
         self.scheduler.use(config)
+        self.waits.use(config)
         log("the configuration is read anew")
 
     async def run(self) -> int:
@@ -125,13 +168,16 @@ class Service:
             log(f"another service has the spool {self.spool.folder}")
             return 3
         self.memory.look()
+        self.nodes.open()
+        self.waits.open()
+        self.unheard.open()
         loop = asyncio.get_running_loop()
         for number in (signal.SIGTERM, signal.SIGINT):
             loop.add_signal_handler(number, self.stopping.set)
         loop.add_signal_handler(signal.SIGHUP, self.reload)
-        listener = inherited_socket() or make_socket(self.config.site.socket)
         serving = asyncio.ensure_future(self.site.run())
         # clients that come before the site answers wait for it; where it can't, they are told so
+        listener = inherited_socket() or make_socket(self.config.site.socket)
         await asyncio.wait(
             [asyncio.ensure_future(self.site.ready.wait()), asyncio.ensure_future(self.stopping.wait())],
             timeout=30,
@@ -140,10 +186,13 @@ class Service:
         server = await listen(listener, self.clients)
         parts: List["asyncio.Task[Any]"] = [asyncio.ensure_future(it) for it in self.peers.loops()]
         parts.append(asyncio.ensure_future(self.scheduler.run()))
+        parts.append(asyncio.ensure_future(self.nodes.run()))
+        parts.append(asyncio.ensure_future(self.waits.waiting.run()))
+        parts.append(asyncio.ensure_future(tell_watchdog()))
         if self.config.house.every:
             parts.append(asyncio.ensure_future(self.house.run()))
         if self.config.page.port:
-            parts.append(asyncio.ensure_future(self.page.run()))
+            parts.append(asyncio.ensure_future(for_somebody(self.page.run())))
         notify("READY=1")
         log("ready")
         stop = asyncio.ensure_future(self.stopping.wait())
@@ -163,7 +212,7 @@ class Service:
             part.cancel()
         while time.monotonic() < end and (self.clients.all or self.runs.tasks):
             await asyncio.sleep(0.05)
-        self.runs.forget_all()
+        await self.nodes.close_all()
         await self.site.stop()
         await asyncio.wait(parts, timeout=ORDERLY_SECONDS)
 
@@ -185,6 +234,11 @@ def main(words: List[str]) -> int:
         print(f"nettlebeamd: {path}: {fault}", file=sys.stderr)
         return 2
     if is_check:
+        found = faults(config)
+        for line in [*found, *notes(config)]:
+            print(f"nettlebeamd: {path}: {line}", file=sys.stderr)
+        if found:
+            return 2
         print(f"{path}: the configuration of {config.name}, with {len(config.peers)} of {len(config.roster) - 1} other sites")
         return 0
     os.umask(0o077)

@@ -15,13 +15,17 @@ def sync(path: str) -> None:
         os.close(descriptor)
 
 
-def write(path: str, data: bytes, keep: int = 0) -> None:
-    """Writes a file anew and syncs it. So many bytes at least are taken of the disk, blanks behind the data."""
-    descriptor = os.open(path, os.O_WRONLY | os.O_CREAT | os.O_TRUNC | os.O_CLOEXEC, 0o600)
-    with open(descriptor, "wb") as file:
+def put(path: str, data: bytes, keep: int = 0) -> None:
+    """Writes a file anew, as it is known until the machine stops. So many bytes at least are taken of the disk, blanks behind
+    the data."""
+    with open(os.open(path, os.O_WRONLY | os.O_CREAT | os.O_TRUNC | os.O_CLOEXEC, 0o600), "wb") as file:
         file.write(data.ljust(keep))
-        file.flush()
-        os.fsync(file.fileno())
+
+
+def write(path: str, data: bytes, keep: int = 0) -> None:
+    """Writes a file anew and syncs it."""
+    put(path, data, keep)
+    sync(path)
 
 
 def remove(path: str) -> None:

@@ -12,59 +12,17 @@ from __future__ import annotations
 import asyncio
 import contextlib
 import errno
-import os
-import stat
 import threading
 import time
 from typing import Callable, Dict, List, Optional, Tuple
 
+from .places import Place, State
 from .seal import BadSeal, Label, read_key, seal, unseal
 
 ASKED = "asked"
 ASKED_SECONDS = 60
 MOST_ASKED = 1000
-MOST_BYTES = 67_108_864 + 1024
 NO_JOB = "-"
-State = Optional[Tuple[int, int]]
-
-
-def put(path: str, data: bytes) -> None:
-    """Writes a file under another name first, so that nobody reads half of it. The group of the folder may read it."""
-    folder = os.path.dirname(path)
-    if not os.path.isdir(folder):
-        os.makedirs(folder, exist_ok=True)
-        os.chmod(folder, 0o2770)  # the other site's account writes here too
-    with contextlib.suppress(FileNotFoundError):
-        os.remove(f"{path}.new")
-    descriptor = os.open(f"{path}.new", os.O_WRONLY | os.O_CREAT | os.O_EXCL | os.O_NOFOLLOW | os.O_CLOEXEC, 0o640)
-    with open(descriptor, "wb") as file:
-        os.fchmod(file.fileno(), 0o640)
-        file.write(data)
-        file.flush()
-        os.fsync(file.fileno())
-    os.rename(f"{path}.new", path)
-
-
-def get(path: str) -> Optional[bytes]:
-    """What a file has; None where it isn't there."""
-    try:
-        descriptor = os.open(path, os.O_RDONLY | os.O_NOFOLLOW | os.O_NONBLOCK | os.O_CLOEXEC)
-    except FileNotFoundError:
-        return None
-    with open(descriptor, "rb") as file:
-        found = os.fstat(file.fileno())
-        if not stat.S_ISREG(found.st_mode) or found.st_size > MOST_BYTES:
-            raise BadSeal("it is no file that a site has written")
-        return file.read(MOST_BYTES + 1)
-
-
-def state(path: str) -> State:
-    """What tells a file from an earlier one of its name; None where there is none."""
-    try:
-        found = os.lstat(path)
-    except FileNotFoundError:
-        return None
-    return found.st_ino, found.st_mtime_ns
 
 
 class FolderLink:
@@ -75,10 +33,8 @@ class FolderLink:
         self.here = here
         self.peer = peer
         self.log = log
-        self.ours = os.path.join(folder, here)
-        self.theirs = os.path.join(folder, peer)
-        self.packet_of_them = os.path.join(self.ours, f"{peer}.packet")
-        self.asks_of_them = os.path.join(self.ours, f"{peer}.asks")
+        self.ours, self.theirs = Place(folder, here), Place(folder, peer)
+        self.packet_of_them, self.asks_of_them = f"{peer}.packet", f"{peer}.asks"
         self.asked: Dict[str, float] = {}
         self.asking = threading.Lock()
         self.packet_seen: State = None
@@ -88,39 +44,39 @@ class FolderLink:
 
     # Files
 
-    def write(self, path: str, kind: str, job: str, data: bytes) -> None:
+    def write(self, name: str, kind: str, job: str, data: bytes) -> None:
         """Writes a sealed file for the peer. Its number is above that of the file in whose place it comes."""
         key, label = read_key(self.key), Label(self.here, self.peer, kind, job, 0)
         before = 0
         with contextlib.suppress(BadSeal, OSError):
-            before = unseal(key, label, get(path) or b"")[0]
-        put(path, seal(key, label._replace(number=max(time.time_ns(), before + 1)), data))
+            before = unseal(key, label, self.theirs.get(name) or b"")[0]
+        self.theirs.put(name, seal(key, label._replace(number=max(time.time_ns(), before + 1)), data))
 
-    def read(self, path: str, kind: str, job: str = NO_JOB) -> Optional[bytes]:
+    def read(self, name: str, kind: str, job: str = NO_JOB) -> Optional[bytes]:
         """What a sealed file of the peer has; None where it isn't there, or is refused, which is told."""
         try:
             key = read_key(self.key)
-            sealed = get(path)
+            sealed = self.ours.get(name)
             if sealed is None:
                 return None
             number, data = unseal(key, Label(self.peer, self.here, kind, job, 0), sealed)
             if job == NO_JOB and number < self.numbers.get(kind, 0):
                 raise BadSeal("it is older than one that was read before")
         except BadSeal as fault:
-            self.refuse(path, str(fault))
+            self.refuse(name, str(fault))
             return None
         except OSError as fault:
             if fault.errno != errno.ELOOP:
                 raise
-            self.refuse(path, "it is a symbolic link")
+            self.refuse(name, "it is a symbolic link")
             return None
         self.numbers[kind] = max(number, self.numbers.get(kind, 0))
         self.refused = ""
         return data
 
-    def refuse(self, path: str, why: str) -> None:
+    def refuse(self, name: str, why: str) -> None:
         """Tells that a file is refused, once."""
-        text = f"{path} is refused: {why}"
+        text = f"{self.ours.path(name)} is refused: {why}"
         if text != self.refused:
             self.refused = text
             self.log(f"{self.peer}: {text}")
@@ -134,10 +90,10 @@ class FolderLink:
     def do(self, words: Tuple[str, ...], given: bytes) -> bytes:
         """Does it."""
         if words[0] == "take":
-            self.write(os.path.join(self.theirs, f"{self.here}.packet"), "packet", NO_JOB, given)
+            self.write(f"{self.here}.packet", "packet", NO_JOB, given)
             return b"known"  # it will be taken, sooner or later
         if words[0] == "ship":
-            self.packet_seen = state(self.packet_of_them)
+            self.packet_seen = self.ours.state(self.packet_of_them)
             return self.read(self.packet_of_them, "packet") or b""
         if words[0] == "grant":
             self.ask(words[1:])
@@ -153,21 +109,21 @@ class FolderLink:
             self.asked.update({job: now for job in jobs})
             if jobs or before != list(self.asked):
                 lines = "".join(f"{job}\n" for job in self.asked).encode()
-                self.write(os.path.join(self.theirs, f"{self.here}.asks"), "asks", NO_JOB, lines)
+                self.write(f"{self.here}.asks", "asks", NO_JOB, lines)
 
     def script(self, job: str) -> bytes:
         """The script of a job that is granted here. It is taken out of the folder; where it isn't there it is asked for."""
-        path = os.path.join(self.ours, f"{job}.script")
-        data = self.read(path, "script", job)
+        name = f"{job}.script"
+        data = self.read(name, "script", job)
         if data is None:
             self.ask((job,))
             raise OSError(errno.ENOENT, f"{job}.script isn't there yet")
-        os.remove(path)
+        self.ours.remove(name)
         return data
 
     async def has_news(self) -> bool:
         """Whether the peer has put a packet there since the last was read."""
-        return await asyncio.to_thread(state, self.packet_of_them) != self.packet_seen
+        return await asyncio.to_thread(self.ours.state, self.packet_of_them) != self.packet_seen
 
     async def asks(self) -> List[str]:
         """The jobs that the peer asks for, where it has asked since this was last looked at."""
@@ -176,7 +132,7 @@ class FolderLink:
     def read_asks(self) -> List[str]:
         """Reads them, and takes out of the file of this site what it asks for no longer."""
         self.ask(())
-        seen = state(self.asks_of_them)
+        seen = self.ours.state(self.asks_of_them)
         if seen == self.asks_seen:
             return []
         self.asks_seen = seen
@@ -184,5 +140,4 @@ class FolderLink:
 
     async def give_script(self, job: str, data: bytes) -> None:
         """Gives the peer the script of a job that was granted to it."""
-        path = os.path.join(self.theirs, f"{job}.script")
-        await asyncio.to_thread(self.write, path, "script", job, data)
+        await asyncio.to_thread(self.write, f"{job}.script", "script", job, data)

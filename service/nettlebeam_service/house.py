@@ -7,29 +7,43 @@ import asyncio
 import json
 import math
 import time
-from typing import Callable, Dict, Iterable, Optional, Sequence
+from typing import Callable, Dict, Iterable, Sequence, Set
 
 from .accounting import Accounting
 from .compacting import Compacting
 from .config import HouseKeys
-from .retiring import last_of, ranges_to_retire, standing_in
+from .filling import Filling
+from .retiring import oldest, ranges_to_retire, standing_in
 from .site import Site, Stopped
 from .spool import Spool
-from .told import Job, is_granted_to
+from .told import Job, is_granted_to, origin_of
 
 FIRST_SECONDS = 2
 RETRY_SECONDS = 60
+LOOK_SECONDS = 60
 
 
 class House:
     """Keeps house for one site."""
 
-    def __init__(self, name: str, keys: HouseKeys, site: Site, spool: Spool, compacting: Compacting, log: Callable[[str], None]):
+    def __init__(
+        self,
+        name: str,
+        keys: HouseKeys,
+        site: Site,
+        spool: Spool,
+        compacting: Compacting,
+        filling: Filling,
+        needed: Callable[[], Set[str]],
+        log: Callable[[str], None],
+    ):
         self.name = name
         self.keys = keys
         self.site = site
         self.spool = spool
         self.compacting = compacting
+        self.filling = filling
+        self.needed = needed  # the jobs that others wait for
         self.log = log
         self.accounting = Accounting(keys.accounting, name)
 
@@ -37,8 +51,8 @@ class House:
         """Keeps house again and again."""
         pause: float = min(FIRST_SECONDS, self.keys.every)
         while True:
-            await asyncio.sleep(pause)
             try:
+                await self.rest(pause)
                 await self.keep()
                 pause = self.keys.every
             except Stopped:
@@ -48,34 +62,59 @@ class House:
                 self.log(f"the house is kept later: {fault!r}")
                 pause = min(RETRY_SECONDS, self.keys.every)
 
+    async def rest(self, seconds: float) -> None:
+        """Waits so long, or until the site is so full that what is gone is retired early."""
+        end = time.monotonic() + seconds
+        while end > time.monotonic():
+            await asyncio.sleep(min(LOOK_SECONDS, end - time.monotonic()))
+            if self.may_retire() and await self.filling.is_high():
+                return
+
     async def keep(self) -> None:
         """Keeps house once."""
         # what is in the spool before the site is asked is of jobs that it knows, unless it has lost or retired them
         names = await asyncio.to_thread(self.spool.names_kept)
-        last = await self.last_retirable()  # so that each job of this site up to there is among those told next
+        last = await self.filling.last()  # so that each job of this site up to there is among those told next
         lines = (await self.site.ask("jobs")).text.splitlines()
         if self.keys.accounting and not self.site.memory.loss:
-            count = await asyncio.to_thread(self.accounting.record, lines)
+            count = await asyncio.to_thread(self.accounting.record, lines, self.completed, self.submitted)
             if count:
                 self.log(f"{count} jobs that are gone are recorded in {self.keys.accounting}")
         jobs = [json.loads(line) for line in lines]
+        self.filling.note(jobs, last)
         await self.decline(jobs)
         removed = await asyncio.to_thread(self.clear, names, lines)
         if removed:
             self.log(f"the files of {removed} jobs that are gone are removed from the spool")
-        if last is not None:
+        if self.may_retire():
             await self.retire(last, jobs)
         await self.compacting.keep()
 
-    async def last_retirable(self) -> Optional[int]:
-        """The greatest counter of this site, or None where nothing is retired now. Nothing is that isn't recorded."""
-        if not self.keys.retire or not self.keys.accounting or self.site.memory.loss:
-            return None
-        return last_of((await self.site.ask("seen")).text, self.name)
+    def submitted(self, name: str) -> str:
+        """The second in which a job was submitted, as far as it is known here."""
+        second = str((self.spool.facts(name) or {}).get("ctime", ""))
+        return second if second.isascii() and second.isdigit() else ""
+
+    def completed(self, name: str, line: str) -> str:
+        """The line of a job with what the site doesn't tell: why the service deleted it, and what it used."""
+        comment = (self.spool.facts(name) or {}).get("comment")
+        used = self.spool.used(name) if json.loads(line)["finished"] else None
+        more = {key: value for key, value in (("comment", comment), ("used", used)) if value}
+        return f'{line[:-1]},{json.dumps(more, separators=(",", ":"))[1:]}' if more else line
+
+    def may_retire(self) -> bool:
+        """Whether something is retired now. Nothing is that isn't recorded."""
+        return bool(self.keys.retire and self.keys.accounting) and not self.site.memory.loss
 
     async def retire(self, last: int, jobs: Sequence[Job]) -> None:
-        """Retires the jobs of this site up to this counter that were recorded long enough ago."""
-        may_leave = self.accounting.recorded_before(jobs, time.time() - self.keys.retire)
+        """Retires the jobs of this site up to this counter that were recorded long enough ago; of a site that is nearly full
+        also the oldest of the others that are recorded."""
+        mine, needed = [job for job in jobs if origin_of(job["id"]) == self.name], self.needed()
+        may_leave = self.accounting.recorded_before(mine, time.time() - self.keys.retire) - needed
+        lacking = self.filling.surplus() - len(may_leave)
+        if lacking > 0:
+            recorded = self.accounting.recorded_before(mine, time.time()) - needed - may_leave
+            may_leave |= set(oldest(recorded, self.accounting.known)[:lacking])
         standing = standing_in((await self.site.ask("reservations")).text)
         count = 0
         for first, end, its in ranges_to_retire(self.name, last, jobs, standing, may_leave):

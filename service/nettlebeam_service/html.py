@@ -4,7 +4,8 @@ from __future__ import annotations
 import re
 import time
 from html import escape
-from typing import Any, Dict, Iterable, List, NamedTuple, Sequence, Tuple
+from types import MappingProxyType
+from typing import Any, Dict, Iterable, List, Mapping, NamedTuple, Sequence, Tuple
 
 from .peers import Peer
 
@@ -57,6 +58,10 @@ class View(NamedTuple):
     plan: str
     reservations: str
     chart: str
+    waits: Mapping[str, str]  # what the service has jobs wait for
+    places: Tuple[int, int]  # jobs of this site, also those that are gone and not retired, and how many there may be
+    hosts: Sequence[str] = ()  # lines of `nodes`
+    unheard: Mapping[str, str] = MappingProxyType({})  # of jobs that were held here what other sites haven't heard
 
     def nodes(self) -> Tuple[int, int]:
         """The nodes of the site's machine, and those that are free."""
@@ -152,6 +157,8 @@ def reason(view: View, job: Dict[str, Any], starts: Sequence[str], head: Tuple[s
     nodes, begun = view.nodes()[0], job["begun"]
     if begun:
         return f"since {at(begun['moment'])}, until {at(begun['end'])} at most"
+    if job["id"] in view.waits and "s" in job["holds"]:
+        return view.waits[job["id"]]
     if job["holds"]:
         return "held: " + ", ".join({"u": "user", "o": "operator", "s": "system"}[kind] for kind in job["holds"])
     if granted(job) not in ("", view.name):
@@ -161,7 +168,7 @@ def reason(view: View, job: Dict[str, Any], starts: Sequence[str], head: Tuple[s
     if job["nodes"] > nodes:
         return f"needs {job['nodes']} of {nodes} nodes"
     if job["id"] in starts:
-        return "starts"
+        return view.waits.get(job["id"], "starts")
     if job["id"] == head[0]:
         return f"the next that starts, at {at(head[1])} at the latest"
     return f"waits behind {head[0]}" if head[0] else "waits"
@@ -173,7 +180,8 @@ def job_row(view: View, job: Dict[str, Any], starts: Sequence[str], head: Tuple[
     state = f'<abbr title="{LETTERS[job["letter"]]}">{job["letter"]}</abbr> {LETTERS[job["letter"]]}'
     values = (job["name"], job["owner"])
     numbers = (str(job["priority"]), str(job["nodes"]), long(job["limit"]))
-    return [link(job["id"]), *(escape(value) for value in values), state, *numbers, escape(site), escape(reason(view, job, starts, head))]
+    why = [reason(view, job, starts, head), *filter(None, [view.unheard.get(job["id"])])]
+    return [link(job["id"]), *(escape(value) for value in values), state, *numbers, escape(site), escape("; ".join(why))]
 
 
 def pages(start: int, count: int, each: int) -> str:
@@ -197,12 +205,26 @@ def peer_row(peer: Peer) -> List[str]:
     return [escape(peer.name), *times, state]
 
 
+def node_row(line: str) -> List[str]:
+    """A node's row, from its line of `nodes`."""
+    host, jobs, state = line.split(" ", 2)
+    names = ", ".join(link(job) for job in jobs.split(",")) if jobs != "-" else "-"
+    return [escape(host), names, escape(state) if state == "up" else f'<span class="bad">{escape(state)}</span>']
+
+
+def hosts_table(lines: Sequence[str]) -> str:
+    """The nodes on which jobs run; nothing where they are names alone."""
+    if not lines:
+        return ""
+    return "<h2>Nodes</h2>\n" + table("Nodes, and the jobs on them", ("Node", "Jobs", "State"), map(node_row, lines))
+
+
 def queue(view: View, jobs: Sequence[Dict[str, Any]], start: int, count: int, each: int, peers: Sequence[Peer]) -> str:
     """The page of the site."""
     nodes, free = view.nodes()
     running = sum(line.startswith("run ") for line in view.machine.splitlines())
     starts, head = planned(view.plan)
-    facts = (("nodes", nodes), ("free", free), ("jobs that run here", running), ("jobs in the queue", count))
+    facts = (("nodes", nodes), ("free", free), ("jobs that run here", running), ("jobs in the queue", count), (f"of {view.places[1]} jobs that the site may keep", view.places[0]))
     top = "".join(f"<li><b>{value}</b>{name}</li>" for name, value in facts)
     heads = ("Job", "Name", "Owner", "State", "Priority", "Nodes", "Limit", "Site", "Why")
     rows = [job_row(view, job, starts, head) for job in jobs]
@@ -224,6 +246,7 @@ def queue(view: View, jobs: Sequence[Dict[str, Any]], start: int, count: int, ea
         '<h2 id="sites">Other sites</h2>\n',
         table("Packets to and from other sites", ("Site", "Last given", "Last taken", "State"), map(peer_row, peers))
         if peers else "<p>There is none.</p>\n",
+        hosts_table(view.hosts),
         '<p><a href="/jobs.json">All jobs as JSON</a>, also those that are gone.</p>\n',
     ]
     return "".join(parts)

@@ -24,6 +24,7 @@ PRINTABLE = re.compile(r"[!-~]+\Z")
 JOB = r"[0-9]{1,10}(?:\.[A-Za-z][A-Za-z0-9-]{0,14})?"
 NUMBER = r"[0-9]{1,20}"
 NAME = r"[A-Za-z][A-Za-z0-9-]{0,14}"
+FEW = 100  # jobs that a line may name without being costly
 
 
 def forms(**texts: str) -> Mapping[str, Pattern[str]]:
@@ -125,10 +126,12 @@ def changes(line: str) -> bool:
 
 
 def is_costly(words: Sequence[str]) -> bool:
-    """Whether a line goes through all jobs of the board."""
-    if words[:1] in (["jobs"], ["qstat"]):
-        return not any(word[:1].isdigit() for word in words[1:])
-    return words[:1] in (["plan"], ["why"], ["chart"], ["machine"])
+    """Whether a line goes through all jobs of the board, or through many: it costs by what it names."""
+    if words[:1] in (["plan"], ["why"], ["chart"], ["machine"], ["usage"]):
+        return True
+    # brackets may mean all members of an array
+    named = sum(FEW + 1 if "[" in word else 1 for word in words[1:] if word[:1].isdigit())
+    return named > FEW if named else words[:1] in (["jobs"], ["qstat"], ["details"])
 
 
 def is_complaint(answer: str) -> bool:

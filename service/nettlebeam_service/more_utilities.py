@@ -1,4 +1,5 @@
-"""The utilities around a job's one start: qselect, qsig, qmsg, qmove and qrerun, as POSIX.1-2017 has them where it can be so."""
+"""The utilities around a job's one start: qselect, qsig, qmsg, qmove and qrerun, as POSIX.1-2017 has them where it can be so; and
+the way to pbsnodes."""
 from __future__ import annotations
 
 from .ask import Told, ask
@@ -73,4 +74,8 @@ def run(utility: str, words: List[str], path: Optional[str], role: Optional[str]
         from .selecting import qselect
 
         return qselect(words, path)
+    if utility == "pbsnodes":
+        from .pbsnodes import pbsnodes
+
+        return pbsnodes(path, words, role)
     return {"qsig": qsig, "qmsg": qmsg, "qmove": qmove}[utility](words, path, role)

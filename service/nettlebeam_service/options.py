@@ -1,38 +1,57 @@
-"""The words of the utilities: options and operands by the utility syntax of POSIX.1-2017, and lists of resources."""
+"""The words of the utilities: options and operands by the utility syntax of POSIX.1-2017, and as PBS's utilities take them, with
+options behind operands."""
 from __future__ import annotations
-
-import re
 
 TYPE_CHECKING = False
 if TYPE_CHECKING:
     from typing import List, Optional, Tuple
 
+    Options = List[Tuple[str, Optional[str]]]
+
 # the letters with an argument
-OPTIONS = {"qsub": "AlNpC", "qalter": "AlNp", "qselect": "AhlNpqsu", "qsig": "s"}
-CLOCK = re.compile(r"(?:([0-9]+):)?([0-9]{1,2}):([0-9]{1,2})\Z")
+OPTIONS = {
+    "qsub": "AaCceJjklMmNoPpqrStuvW",
+    "qalter": "AaceJjklMmNoprStuvW",
+    "qselect": "AhlNpqsu",
+    "qsig": "s",
+    "qstat": "uFD",
+    "qdel": "mW",
+    "qhold": "h",
+    "qrls": "h",
+    "pbsnodes": "vCF",
+}
 
 
 class Fault(Exception):
     """The words can't be asked."""
 
 
+def naming(option: str, argument: str, fault: Fault) -> Fault:
+    """A fault of an option's argument that names both."""
+    text = str(fault)
+    if text.startswith(option):
+        return fault
+    return Fault(f"{option} {text}" if text.startswith(argument) else f"{option} {argument}: {text}")
+
+
 def seconds_of(value: str) -> str:
-    """A time limit in seconds, where it is given as HH:MM:SS or MM:SS."""
-    found = CLOCK.match(value)
-    if not found:
+    """A time limit in seconds, where it is given as MM:SS, HH:MM:SS or DD:HH:MM:SS; what has another form is left to the site."""
+    parts = value.split(":")
+    if not 2 <= len(parts) <= 4 or not all(it.isascii() and it.isdigit() and len(it) <= 9 for it in parts):
         return value
-    hours, minutes, seconds = (int(it or 0) for it in found.groups())
-    return str(3600 * hours + 60 * minutes + seconds)
+    sums = [int(it) * unit for it, unit in zip(reversed(parts), (1, 60, 3600, 86_400))]
+    return str(sum(sums))
 
 
-def parse(utility: str, words: List[str]) -> Tuple[List[Tuple[str, Optional[str]]], List[str]]:
-    """The options of a utility, and its operands. An option whose argument is missing has none: the site says so."""
+def parse_front(utility: str, words: List[str]) -> Tuple[Options, List[str], bool]:
+    """The options in front of the first operand, the words from there on, and whether `--` ended the options. An option whose
+    argument is missing has none: the site says so."""
     taking, place = OPTIONS.get(utility, ""), 0
-    options: List[Tuple[str, Optional[str]]] = []
+    options: Options = []
     while place < len(words):
         word = words[place]
         if word == "--":
-            return options, words[place + 1 :]
+            return options, words[place + 1 :], True
         if not word.startswith("-") or word == "-":
             break
         place += 1
@@ -46,4 +65,38 @@ def parse(utility: str, words: List[str]) -> Tuple[List[Tuple[str, Optional[str]
                 place += 1
             options.append((letter, argument))
             break
-    return options, words[place:]
+    return options, words[place:], False
+
+
+def parse(utility: str, words: List[str]) -> Tuple[Options, List[str]]:
+    """The options of a utility, and its operands."""
+    options, operands, _ = parse_front(utility, words)
+    return options, operands
+
+
+def parse_anywhere(utility: str, words: List[str]) -> Tuple[Options, List[str]]:
+    """The same where options may stand behind operands, up to `--`."""
+    options: Options = []
+    operands: List[str] = []
+    while words:
+        some, words, is_ended = parse_front(utility, words)
+        options += some
+        if is_ended:
+            return options, operands + words
+        operands += words[:1]
+        words = words[1:]
+    return options, operands
+
+
+def in_order(utility: str, words: List[str]) -> List[str]:
+    """The words with all options in front, as POSIX wants them; as they are where none stands behind an operand."""
+    _, behind = parse(utility, words)
+    if not any(word.startswith("-") and word != "-" for word in behind):
+        return words
+    options, operands = parse_anywhere(utility, words)
+    return [*as_words(options), "--", *operands]
+
+
+def as_words(options: Options) -> List[str]:
+    """The words that options are."""
+    return [word for letter, argument in options for word in ([f"-{letter}"] if argument is None else [f"-{letter}", argument])]

@@ -5,20 +5,25 @@ import asyncio
 import json
 import re
 import time
-from typing import Any, Callable, Dict, List, NamedTuple, Tuple
+from typing import Any, Callable, Dict, List, NamedTuple, Sequence, Tuple
 from urllib.parse import parse_qs, urlsplit
 
 from . import html
 from .backup import Backup
 from .config import Config
+from .filling import MOST_JOBS, Filling
 from .lines import JOB
+from .metrics import KIND, Metrics
 from .peers import Peers
+from .runs import Runs
 from .site import Site, Stopped
 from .told import LISTING
+from .unheard import Unheard
 
 ADDRESS = "127.0.0.1"
 MOST_CONNECTIONS = 32
 MOST_HEAD = 8192
+Reasons = Callable[[Sequence[str]], Dict[str, str]]
 SECONDS = 10.0
 RETRY_SECONDS = 10.0
 KEPT_SECONDS = 2.0
@@ -42,6 +47,8 @@ RUN_NOTICES = {
     "drain": "No job begins here; those that run are left to their ends.",
     "no": "Jobs aren't run here by this service.",
 }
+# by whatever port it is reached, as behind `ssh -L`
+OF_THIS_MACHINE = re.compile(r"(127\.0\.0\.1|localhost|\[::1\])(:[0-9]{1,5})?\Z", re.IGNORECASE)
 JOB_PATH = re.compile(rf"/jobs/({JOB})\Z")
 
 
@@ -60,6 +67,11 @@ class Response(NamedTuple):
         return "\r\n".join(lines).encode("ascii") + (body if with_body else b"")
 
 
+def held_of(jobs: Sequence[Dict[str, Any]]) -> List[str]:
+    """Those of jobs that were deleted or are held."""
+    return [job["id"] for job in jobs if job["deleted"] or job["holds"]]
+
+
 def problem(status: int, text: str) -> Response:
     """A page that tells why there is no other."""
     return Response(status, html.document("Nettlebeam", html.paragraph(text)))
@@ -68,11 +80,28 @@ def problem(status: int, text: str) -> Response:
 class Page:
     """Answers browsers."""
 
-    def __init__(self, config: Config, site: Site, backup: Backup, peers: Peers, log: Callable[[str], None]):
+    def __init__(
+        self,
+        config: Config,
+        site: Site,
+        backup: Backup,
+        peers: Peers,
+        runs: Runs,
+        filling: Filling,
+        metrics: Metrics,
+        waits: Reasons,
+        unheard: Unheard,
+        log: Callable[[str], None],
+    ):
         self.config = config
         self.site = site
         self.backup = backup
         self.peers = peers
+        self.runs = runs
+        self.filling = filling
+        self.metrics = metrics
+        self.waits = waits  # what the service has jobs wait for
+        self.unheard = unheard
         self.log = log
         self.connections = 0
         self.kept: Dict[str, Tuple[float, "asyncio.Future[str]"]] = {}
@@ -115,7 +144,7 @@ class Page:
             return problem(400, "This is no request of a browser."), True
         method, target, _ = words
         # a page elsewhere whose name leads to this machine must not read this one
-        if hosts[0] not in (f"{name}:{self.config.page.port}" for name in (ADDRESS, "localhost")):
+        if not OF_THIS_MACHINE.match(hosts[0]):
             return problem(403, "This page is asked by another name."), True
         if method not in ("GET", "HEAD"):
             return problem(405, "This page is for reading alone."), True
@@ -140,6 +169,8 @@ class Page:
         if parts.path == "/jobs.json":
             lines = (await self.ask("jobs")).splitlines()
             return Response(200, "[" + ",\n".join(lines) + "]\n", "application/json")
+        if parts.path == "/metrics":
+            return Response(200, await self.metrics.text(), KIND)
         if found:
             return await self.job(found.group(1))
         return problem(404, "There is no such page.")
@@ -168,9 +199,16 @@ class Page:
         if shown:
             told = {job["id"]: job for job in map(json.loads, (await self.ask("jobs " + " ".join(shown))).splitlines())}
             jobs = [told[name] for name in shown if name in told]
-        view = html.View(self.config.name, moment, self.notices(), machine, plan, reservations, chart)
+        waits, hosts, unheard = self.waits(shown), self.hosts(), await self.unheard.of(held_of(jobs))
+        await self.filling.count()
+        places, notices = (self.filling.own, MOST_JOBS), self.notices()
+        view = html.View(self.config.name, moment, notices, machine, plan, reservations, chart, waits, places, hosts, unheard)
         body = html.queue(view, jobs, start, len(names), self.config.page.jobs, list(self.peers))
         return Response(200, html.document(f"{self.config.name}: the queue", body))
+
+    def hosts(self) -> List[str]:
+        """The lines of the nodes on which jobs run; none where all run on this machine."""
+        return self.runs.nodes.states() if self.config.jobs.link else []
 
     def notices(self) -> List[str]:
         """What keeps this site from its work, in words."""
@@ -181,6 +219,13 @@ class Page:
             found.append(RUN_NOTICES[self.config.jobs.run])
         if not self.site.has_room():
             found.append("The disk of the site is full, so nothing that changes it is taken.")
+        if not self.runs.spool.has_room():
+            found.append("The disk of the spool is full, so no script is taken.")
+        if self.filling.surplus():
+            found.append(f"The site is nearly full: it has {self.filling.in_words()}.")
+        doubts = sorted(run.job for run in self.runs.all.values() if run.doubt)
+        if doubts:
+            found.append(f"It isn't known whether these jobs run, since their nodes can't be asked: {', '.join(doubts)}.")
         silent = [peer.name for peer in self.peers if peer.trouble]
         if silent:
             found.append(f"Not reached: {', '.join(silent)}.")
@@ -196,4 +241,6 @@ class Page:
         moment = int(time.time())
         job = json.loads(told)
         why = (await self.ask(f"why {name} {moment}")).strip()
+        why = self.waits([job["id"]]).get(job["id"], why) if why.startswith(("held", "starts")) else why
+        why = "; ".join([why, *(await self.unheard.of(held_of([job]))).values()])
         return Response(200, html.document(f"{job['id']}: a job", html.job(job, why)))

@@ -71,7 +71,7 @@ class Passing:
         kept = {*starts, *self.tried}
         names = [words[0] for words in waiting if words[0] not in kept and not self.grants.is_put_off(words[0])]
         told = (await told_of(self.site, names[:MOST_TRIED])).values()
-        jobs = [job for job in told if self.name in job["sites"] and await self.begins.account_for(job)]
+        jobs = [job for job in told if self.name in job["sites"] and await self.begins.has_account(job)]
         mine: List[str] = []
         for job in jobs:
             if self.begins.is_mine(job["id"]) and job["nodes"] <= free:

@@ -11,11 +11,11 @@ from typing import Any, Callable, Coroutine, Dict, Iterator, List, Mapping, Opti
 from .config import PeerKeys
 from .folder import FolderLink
 from .links import CommandLink, Link, NotNow, PeerFault
+from .node_store import IDENTIFIER
 from .packets import BadPacket
 from .requests import Requests
 from .site import Site, Stopped
-from .spool import IDENTIFIER
-from .wire import FACTS, is_fact
+from .wire import ADDED, FACTS, are_variables, is_fact
 
 LEAST_PAUSE = 0.05
 
@@ -80,6 +80,10 @@ class Peers:
         if time.monotonic() < peer.next_try:
             raise NotNow(f"it couldn't be reached: {peer.trouble}")
         return peer
+
+    def is_silent(self, name: str) -> bool:
+        """Whether another site can't be reached now, as far as is known."""
+        return name not in self.peers or bool(self.peers[name].trouble)
 
     # Exchange
 
@@ -160,7 +164,7 @@ class Peers:
         """Grants a job to a peer that asks by a file, and puts the script there."""
         if not IDENTIFIER.match(job) or job.split(".")[1] != self.here:
             return
-        answer = (await self.site.ask(f"grant {job} {peer.name}")).text.strip()
+        answer = (await self.requests.fitting.grant(job, peer.name)).text.strip()
         if answer in ("granted", "yours"):
             await peer.link.give_script(job, await self.requests.script_text(job))
 
@@ -180,4 +184,5 @@ class Peers:
             raise PeerFault("what it answers to script is no script") from None
         if not isinstance(facts, dict):
             raise PeerFault("what it answers to script is no script")
-        return {key: facts[key] for key in (*FACTS, "owner") if is_fact(facts.get(key))}, script
+        told = {key: facts[key] for key in (*FACTS, *ADDED) if is_fact(facts.get(key), key)}
+        return {**told, "variables": facts["variables"]} if are_variables(facts.get("variables")) else told, script

@@ -1,12 +1,13 @@
 """Locks and processes, so that a process number that was given anew is never taken for the old process."""
 from __future__ import annotations
 
+import contextlib
 import fcntl
 import os
 import resource
 import signal
 import time
-from typing import List, Optional, Tuple
+from typing import List, Optional, Set, Tuple
 
 LONGEST_END = 5.0
 MOST_FILES = 65_536
@@ -20,6 +21,16 @@ def allow_many_files() -> None:
     most = MOST_FILES if hard == resource.RLIM_INFINITY else min(hard, MOST_FILES)
     if soft != resource.RLIM_INFINITY and soft < most:
         resource.setrlimit(resource.RLIMIT_NOFILE, (most, hard))
+
+
+def processor_seconds(pid: int) -> float:
+    """How long a process has had a processor; 0 where it isn't there."""
+    try:
+        with open(f"/proc/{pid}/stat", encoding="ascii", errors="replace") as file:
+            fields = file.read().rpartition(")")[2].split()
+    except OSError:
+        return 0.0
+    return (int(fields[11]) + int(fields[12])) / os.sysconf("SC_CLK_TCK")
 
 
 def lock(path: str) -> Optional[int]:
@@ -65,7 +76,7 @@ def stat_of(pid: int) -> Optional[Tuple[int, int]]:
     try:
         with open(f"/proc/{pid}/stat", encoding="ascii", errors="replace") as file:
             fields = file.read().rpartition(")")[2].split()
-    except (FileNotFoundError, ProcessLookupError):
+    except (FileNotFoundError, ProcessLookupError, PermissionError):
         return None
     return None if fields[0] in "ZX" else (int(fields[3]), int(fields[19]))
 
@@ -85,12 +96,50 @@ def members(session: int, since: int) -> List[int]:
     leader = stat_of(session)
     if leader is not None and leader[1] != since:
         return []
+    if are_hidden():
+        return hidden_members(session, since)
     found = []
     for name in os.listdir("/proc"):
         if name.isdigit():
             stat = stat_of(int(name))
             if stat and stat[0] == session and stat[1] >= since:
                 found.append(int(name))
+    return found
+
+
+def are_hidden() -> bool:
+    """Whether /proc hides the processes of other users, as by its option `hidepid`."""
+    try:
+        with open("/proc/1/stat", "rb"):
+            return False
+    except OSError:
+        return True
+
+
+def hidden_members(session: int, since: int) -> List[int]:
+    """The same where /proc hides some: the kernel is asked of each number that there may be. Of those that are hidden nothing tells
+    when they started, nor whether they have ended and nobody has asked how."""
+    with open("/proc/sys/kernel/pid_max", encoding="ascii") as file:
+        most = int(file.read())
+    found = []
+    for pid in range(1, most + 1):
+        try:
+            if os.getsid(pid) != session:
+                continue
+        except OSError:
+            continue
+        stat = stat_of(pid)
+        if stat[1] >= since if stat else not os.path.exists(f"/proc/{pid}"):
+            found.append(pid)
+    return found
+
+
+def groups_of(pids: List[int]) -> Set[int]:
+    """The process groups of processes."""
+    found = set()
+    for pid in pids:
+        with contextlib.suppress(OSError):
+            found.add(os.getpgid(pid))
     return found
 
 
@@ -108,6 +157,37 @@ def end_session(session: int, since: int, most: float = LONGEST_END) -> bool:
                 pass
             except PermissionError:
                 return False
+        if time.monotonic() > end:
+            return False
+        time.sleep(0.02)
+
+
+def holders(path: str) -> List[int]:
+    """The processes of this account that have a file open, but this one."""
+    place, found = os.path.realpath(path), []
+    for name in os.listdir("/proc"):
+        if name.isdigit() and int(name) != os.getpid():
+            try:
+                if any(os.readlink(it.path) == place for it in os.scandir(f"/proc/{name}/fd")):
+                    found.append(int(name))
+            except OSError:
+                pass
+    return found
+
+
+def end_holders(path: str, most: float = LONGEST_END) -> bool:
+    """Kills the processes that have a file open, with their sessions. False where one is still there after a while."""
+    end = time.monotonic() + most
+    while True:
+        left = holders(path)
+        if not left:
+            return True
+        sessions = {it[0] for it in map(stat_of, left) if it} - {os.getsid(0)}
+        for name in os.listdir("/proc"):
+            stat = stat_of(int(name)) if name.isdigit() else None
+            if stat and (stat[0] in sessions or int(name) in left):
+                with contextlib.suppress(OSError):
+                    os.kill(int(name), signal.SIGKILL)
         if time.monotonic() > end:
             return False
         time.sleep(0.02)
@@ -131,3 +211,19 @@ def signal_holder(pid: int, lock_path: str, number: int) -> bool:
         return False
     finally:
         os.close(descriptor)
+
+
+def end_cgroup(path: str, most: float = LONGEST_END) -> bool:
+    """Kills what is in a control group, and removes it. False where something of it is still there after a while."""
+    end = time.monotonic() + most
+    while os.path.isdir(path):
+        try:
+            with open(os.path.join(path, "cgroup.kill"), "w", encoding="ascii") as file:
+                file.write("1")
+            os.rmdir(path)
+        except OSError:
+            pass
+        if time.monotonic() > end:
+            return False
+        time.sleep(0.02)
+    return True

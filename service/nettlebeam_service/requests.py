@@ -4,17 +4,25 @@ from __future__ import annotations
 import asyncio
 import contextlib
 import json
-from typing import Callable
+from typing import Any, Callable, Coroutine, Dict, Set
 
 from .backup import Backup, NoBackup
 from .compacting import Compacting, Uncompacted
+from .entering import WAITING_FACTS, NotEntered
 from .files import remove
+from .fitting import Fitting
 from .lines import CHANGING, FOR_ALL, Client, Denied, asker, check_words, is_complaint, line_of
+from .node_store import IDENTIFIER
 from .packets import BadPacket, line_of_packet
 from .running import TO_RUNNING, Running
-from .site import Answer, Lost, NotKept, Site, Stopped
-from .spool import IDENTIFIER, Spool
-from .wire import Reply, Request
+from .shares import Exceeded, Shares
+from .site import Answer, Lost, NotKept, Silent, Site, Stopped
+from .spool import Spool
+from .told import now, told_of
+from .told_nodes import OF_NODES, ToldNodes
+from .unheard import Unheard
+from .waits import Waits
+from .wire import Malformed, Reply, Request, split_body
 
 
 class Requests:
@@ -27,6 +35,11 @@ class Requests:
         backup: Backup,
         running: Running,
         compacting: Compacting,
+        nodes: ToldNodes,
+        waits: Waits,
+        unheard: Unheard,
+        shares: Shares,
+        fitting: Fitting,
         changed: Callable[[], None],
     ):
         self.site = site
@@ -35,34 +48,79 @@ class Requests:
         self.changed = changed
         self.running = running
         self.compacting = compacting
+        self.nodes = nodes
+        self.waits = waits
+        self.unheard = unheard
+        self.left: Set["asyncio.Future[Reply]"] = set()  # what goes on though its client was told that the site does not answer
+        self.shares = shares
+        self.fitting = fitting
 
     async def answer(self, client: Client, request: Request) -> Reply:
         """The reply to a request of this client."""
         try:
-            return await self.do(client, request)
-        except (Denied, BadPacket) as fault:
+            return await self.within_time(self.do(client, request))
+        except (Denied, BadPacket, Malformed) as fault:
             return Reply(2, words=str(fault))
         except Lost as fault:
             return Reply(3, words=f"nothing changes this site now: {fault}")
-        except NotKept as fault:
+        except (NotKept, NotEntered) as fault:
             return Reply(3, words=str(fault))
+        except Silent:
+            return Reply(3, words="the site does not answer; it may do later what was asked")
         except Stopped as fault:
             return Reply(3, words=f"the site stopped: {fault}")
         except NoBackup as fault:
             return Reply(3, words=f"the backup failed, so that no packet may leave: {fault}")
         except Uncompacted as fault:
             return Reply(3, words=f"the journal isn't compacted: {fault}")
+        except Exceeded as fault:
+            return Reply(1, words=str(fault))
         except OSError as fault:
             return Reply(3, words=f"the spool: {fault.strerror or fault}")
 
+    async def within_time(self, work: Coroutine[Any, Any, Reply]) -> Reply:
+        """The reply that something gives. Where the site stands still it goes on by itself, and its client is told so."""
+        if self.site.waiting.silent.is_set():
+            work.close()
+            return Reply(3, words="the site does not answer; nothing was asked of it")
+        doing = asyncio.ensure_future(work)
+        silent: "asyncio.Future[Any]" = asyncio.ensure_future(self.site.waiting.silent.wait())
+        try:
+            await asyncio.wait([doing, silent], return_when=asyncio.FIRST_COMPLETED)
+            if doing.done():
+                return doing.result()
+            self.left.add(doing)
+            doing.add_done_callback(self.left_ended)
+            raise Silent
+        except asyncio.CancelledError:
+            doing.cancel()
+            raise
+        finally:
+            silent.cancel()
+
+    def left_ended(self, doing: "asyncio.Future[Reply]") -> None:
+        """What was asked is done, though its client was told that the site does not answer."""
+        self.left.discard(doing)
+        if not doing.cancelled():
+            doing.exception()  # which nobody waits for
+        self.changed()
+
     async def do(self, client: Client, request: Request) -> Reply:
-        """Does what is asked."""
+        """Does what is asked, as far as the client has room for it."""
         check_words(request.words)
+        request.words = await self.waits.arrays.expanded(request.words)
+        async with self.shares.hold(client, request):
+            return await self.do_words(client, request)
+
+    async def do_words(self, client: Client, request: Request) -> Reply:
+        """Does what the words ask."""
         verb = request.words[0]
-        if verb in CHANGING and not self.site.has_room():
+        if verb in (*CHANGING, "alter") and not self.site.has_room():
             return Reply(3, words="the disk of the site is full")
         if verb in TO_RUNNING:
             return await self.running.answer(client, request)
+        if verb in OF_NODES:
+            return await self.nodes.answer(client, request)
         if verb == "take":
             return await self.take(client, request)
         if verb == "script":
@@ -71,12 +129,24 @@ class Requests:
             return await self.compact(client, request)
         if verb == "qsub" and request.size is not None:
             return await self.submit(client, request)
+        if verb == "site":
+            return Reply(0, f"{self.waits.here}\n".encode("ascii"))
+        if verb == "details":
+            return Reply(0, await self.waits.details.answer(client, request.words, request.role))
+        if verb == "usage":
+            return Reply(0, await self.waits.usage.answer(client, request.words, request.role))
+        if verb == "alter":
+            return await self.waits.altering.answer(client, request)
         line = line_of(client, request.words, request.role)
         if verb == "ship":
             self.check_known(request.words[1])
             return self.reply(verb, Answer(await self.packet(request.words[1])))
-        answer = await self.site.ask(line)
+        answer = await (self.fitting.grant(*request.words[1:3]) if verb == "grant" else self.site.ask(line))
+        if verb == "why":
+            answer = await self.unheard.with_hint(request.words[1], self.waits.with_reason(answer, request.words[1]))
+        answer = await self.unheard.with_words(request.words, answer)
         if verb == "roster":
+            self.fitting.learn(request.words[1:] if answer.text == "done\n" else [])
             with contextlib.suppress(Stopped):  # the answer is there, and the next child is asked for the names anyhow
                 await self.site.learn_names()
         return self.reply(verb, answer)
@@ -103,21 +173,35 @@ class Requests:
     async def submit(self, client: Client, request: Request) -> Reply:
         """Submits a job with its script, which the disk has before the site is asked."""
         line = line_of(client, request.words, request.role)
-        facts = {**request.facts, "owner": asker(client, None)}
+        variables, script = split_body(request)
+        facts: Dict[str, Any] = {**request.facts, "owner": asker(client, None), "ctime": str(now())}
+        facts.pop("variables", None)
+        if variables:
+            facts["variables"] = variables
+        if any(key in facts for key in WAITING_FACTS):
+            answer = await self.waits.entering.submit(asker(client, request.role), request.words, facts, script)
+        else:
+            answer = await self.submit_one(line, facts, script)
+        self.waits.waiting.wake()
+        return self.reply("qsub", await self.waits.with_mail(answer, facts))
+
+    async def submit_one(self, line: str, facts: Dict[str, Any], script: bytes) -> Answer:
+        """Submits one job that waits for nothing."""
         self.spool.submissions += 1
         try:
-            draft = await asyncio.to_thread(self.spool.draft, facts, request.body)
+            draft = await asyncio.to_thread(self.spool.draft, facts, script)
             try:
                 answer = await self.site.ask(line)
                 job = answer.text.strip()
                 if IDENTIFIER.match(job):
+                    self.waits.groups.disown(job)
                     self.spool.name(draft, job)
             finally:
                 remove(draft)  # where it got no name
         finally:
             self.spool.submissions -= 1
         await self.spool.names.done()
-        return self.reply("qsub", answer)
+        return answer
 
     async def take(self, client: Client, request: Request) -> Reply:
         """Takes a packet that a peer has brought, or the site's own account, whose word is as good as the site's."""
@@ -152,15 +236,14 @@ class Requests:
         if len(request.words) != 3 or not IDENTIFIER.match(request.words[1]):
             raise Denied("the words of script are wrong")
         _, job, peer = request.words
-        told = (await self.site.ask(f"jobs {job}")).text
-        grant = json.loads(told)["grant"] if told.startswith("{") else None
-        if not grant or grant["site"] != peer:
-            return Reply(1, words=f"{job} isn't granted to {peer}")
+        told = (await told_of(self.site, [job])).get(job)
+        if told is None or not self.fitting.may_read(told, peer):
+            return Reply(1, words=f"{job} isn't granted to {peer}, or has begun")
         return Reply(0, await self.script_text(job))
 
     async def script_text(self, job: str) -> bytes:
         """The facts of a job as a line of JSON, and its script behind it; or that it was lost."""
         try:
-            return await asyncio.to_thread(self.spool.stored, job)
+            return await asyncio.to_thread(self.spool.told, job)
         except FileNotFoundError:
             return b'{"lost": true}\n'

@@ -7,8 +7,9 @@ that stands. So there are as few ranges as may be, and a line of its own retires
 from __future__ import annotations
 
 from bisect import bisect_right
-from typing import Collection, Iterable, List, NamedTuple, Optional, Sequence
+from typing import Collection, Iterable, List, Mapping, NamedTuple, Optional, Sequence
 
+from .accounting import Entry
 from .told import Job, origin_of
 
 
@@ -39,6 +40,11 @@ def ranges_of(last: int, staying: Iterable[int], leaving: Iterable[int]) -> List
         if count > 0:
             found.append(Range(before + 1, behind - 1, count))
     return found
+
+
+def oldest(names: Iterable[str], recorded: Mapping[str, Entry]) -> List[str]:
+    """These identifiers, those first that were recorded first."""
+    return sorted(names, key=lambda name: (recorded[name].moment, counter_of(name)))
 
 
 def last_of(seen: str, here: str) -> Optional[int]:

@@ -1,8 +1,10 @@
-"""The runner of one job: `python3 -IS runner.py FOLDER DESCRIPTOR`, the descriptor being that of the job's lock.
+"""The runner of one job, a process that `runner_server.py` forks.
 
-It leaves the service's process behind, keeps the lock as long as it lives, starts the script once, ends it when its time is
-over or when it is told so by SIGTERM, and writes how it ended. It needs no other module of the service, so that it stays
-small, and so that an update of the service under a running job does no harm. What only newer services tell it may be missing.
+It keeps the job's lock as long as it lives, starts the script once, ends it when its time is over or when it is told so by
+SIGTERM, and writes how it ended. It needs `job_processes.py` and no other module of the service, so that it stays small.
+
+What the node's machine keeps of a start is not synced: after a crash of the machine nothing is started by what its disk has,
+since all of it names the run of the machine that wrote it. How a job ended is synced, so that it is known after a crash.
 """
 from __future__ import annotations
 
@@ -14,18 +16,22 @@ import sys
 import time
 from typing import Any, Dict, List, Optional
 
+from .job_processes import CLEANING_SECONDS, Script, adopt, boot_time, has_ended_within, tick_of
+
 ROOM = 512
 LOST = 255
 LEAST_KILLED = 128  # from this status on the owner's shell may have left its folder
-CLEANING_SECONDS = 10
+LATE_SECONDS = 30  # how long behind the end of its nonce a script may start
+LONGEST_WAIT = 60.0
 
 
-def overwrite(path: str, value: Dict[str, Any]) -> None:
-    """Writes over a file that has room for it, and syncs it."""
+def overwrite(path: str, value: Dict[str, Any], is_synced: bool = False) -> None:
+    """Writes over a file that has room for it."""
     descriptor = os.open(path, os.O_WRONLY | os.O_CREAT | os.O_CLOEXEC, 0o600)
     try:
         os.pwrite(descriptor, json.dumps(value).encode().ljust(ROOM), 0)
-        os.fsync(descriptor)
+        if is_synced:
+            os.fsync(descriptor)
     finally:
         os.close(descriptor)
 
@@ -50,34 +56,39 @@ def insist(action: Any) -> None:
             time.sleep(5)
 
 
-def tick_of(pid: int) -> int:
-    """The tick at which a process started."""
-    with open(f"/proc/{pid}/stat", encoding="ascii", errors="replace") as file:
-        return int(file.read().rpartition(")")[2].split()[19])
-
-
-def session_of(pid: int) -> Optional[int]:
-    """The session of a process that lives."""
+def boot_of() -> str:
+    """The name of this run of the machine, as the node's program has it."""
     try:
-        with open(f"/proc/{pid}/stat", encoding="ascii", errors="replace") as file:
-            fields = file.read().rpartition(")")[2].split()
-    except OSError:
-        return None
-    return None if fields[0] in "ZX" else int(fields[3])
+        with open("taken", encoding="ascii") as file:
+            return str(json.loads(file.read())["boot"])
+    except FileNotFoundError:
+        with open("/proc/sys/kernel/random/boot_id", encoding="ascii") as file:
+            return file.read().strip()
+
+
+def enter(cgroup: str) -> None:
+    """In the child: makes a control group, and goes into it. Where that can't be done the session has to do."""
+    try:
+        os.makedirs(cgroup, exist_ok=True)
+        with open(f"{cgroup}/cgroup.procs", "w", encoding="ascii") as file:
+            file.write("0")
+    except OSError as fault:
+        print(f"{cgroup}: {fault}", file=sys.stderr, flush=True)
 
 
 def become_script(run: Dict[str, Any]) -> None:
     """In the child: takes the token that lets the script start, and becomes what starts it."""
     os.setsid()
-    with open("/proc/sys/kernel/random/boot_id", encoding="ascii") as file:
-        boot = file.read().strip()
-    overwrite("ready", {"pid": os.getpid(), "tick": tick_of(os.getpid()), "boot": boot})
+    if run.get("cgroup"):
+        enter(run["cgroup"])
+    overwrite("ready", {"pid": os.getpid(), "tick": tick_of(os.getpid()), "boot": boot_of()})
+    if boot_time() > run.get("until", boot_time()) + LATE_SECONDS:
+        raise OSError("it is too late: this was stopped on its way")
     os.rename("ready", "started")  # there is one `ready` in the life of a job
-    sync_folder()
     os.dup2(os.open("input", os.O_RDONLY), 0)
     os.closerange(3, 64)
     signal.pthread_sigmask(signal.SIG_SETMASK, [])
-    for number in (signal.SIGPIPE, signal.SIGXFSZ):
+    for number in (signal.SIGPIPE, signal.SIGXFSZ, signal.SIGHUP, signal.SIGINT):
         signal.signal(number, signal.SIG_DFL)
     if "open_files" in run:
         resource.setrlimit(resource.RLIMIT_NOFILE, (run["open_files"], resource.getrlimit(resource.RLIMIT_NOFILE)[1]))
@@ -97,40 +108,6 @@ def start(run: Dict[str, Any]) -> int:
     return pid
 
 
-class Script:
-    """The script's processes: a session, whose number nobody else gets before its first process is reaped."""
-
-    def __init__(self, pid: int, stop: List[str]):
-        self.pid = pid
-        self.stop = stop
-
-    def has_ended(self) -> bool:
-        """Whether its first process has ended. It is not reaped by this."""
-        return os.waitid(os.P_PID, self.pid, os.WEXITED | os.WNOHANG | os.WNOWAIT) is not None
-
-    def reap(self) -> int:
-        """The status of the first process, which has ended; 128 and the signal where one ended it."""
-        code = os.waitstatus_to_exitcode(os.waitpid(self.pid, 0)[1])
-        return code if code >= 0 else 128 - code
-
-    def signal(self, number: int) -> None:
-        """Sends a signal to all of its session, by the configured command where there is one."""
-        if self.stop:
-            words = [word.replace("{pid}", str(self.pid)).replace("{signal}", str(number)) for word in self.stop]
-            try:
-                stopper = os.posix_spawnp(words[0], words, os.environ, setsigmask=[])
-                if os.waitpid(stopper, 0)[1] == 0:
-                    return
-            except OSError as fault:
-                print(f"{words[0]}: {fault}", file=sys.stderr, flush=True)
-        for name in os.listdir("/proc"):
-            if name.isdigit() and session_of(int(name)) == self.pid:
-                try:
-                    os.kill(int(name), number)
-                except OSError:
-                    pass
-
-
 def asked_signal() -> Optional[int]:
     """The signal that the service asks for by a file. The file is gone once the signal is sent."""
     try:
@@ -143,16 +120,19 @@ def asked_signal() -> Optional[int]:
 def wait(script: Script, limit: float, grace: float) -> int:
     """Waits for the script's end, and brings it about when its time is over or SIGTERM comes: a status."""
     expected = {signal.SIGCHLD, signal.SIGTERM, signal.SIGUSR1}
-    end, kill = time.monotonic() + limit, None
+    end, kill = boot_time() + limit, None
     while not script.has_ended():
-        now = time.monotonic()
+        script.reap_others()
+        now = boot_time()
         if kill is None and now >= end:
             script.signal(signal.SIGTERM)
             kill = now + grace
         elif kill is not None and now >= kill:
             script.signal(signal.SIGKILL)
+            script.kill_group()
             kill = now + 1
-        got = signal.sigtimedwait(expected, max(0.0, (end if kill is None else kill) - time.monotonic()))
+        rest = (end if kill is None else kill) - boot_time()
+        got = signal.sigtimedwait(expected, min(LONGEST_WAIT, max(0.0, rest)))  # which doesn't count what was suspended
         if got is not None and got.si_signo == signal.SIGTERM and kill is None:
             end = 0.0
         elif got is not None and got.si_signo == signal.SIGUSR1:
@@ -160,13 +140,12 @@ def wait(script: Script, limit: float, grace: float) -> int:
             if number is not None:
                 script.signal(number)
                 os.remove("signal")
-    script.signal(signal.SIGKILL)  # what it left behind in its session
-    return script.reap()
+    return script.end()
 
 
-def write_exit(status: int) -> None:
-    """Tells how the script ended."""
-    overwrite("exit.new", {"status": status, "moment": int(time.time())})
+def write_exit(status: int, used: Dict[str, int]) -> None:
+    """Tells how the script ended, and what it used."""
+    overwrite("exit.new", {"status": status, "moment": int(time.time()), "used": used}, is_synced=True)
     os.rename("exit.new", "exit")
     sync_folder()
 
@@ -178,42 +157,44 @@ def clean(words: List[str], environment: Dict[str, str]) -> None:
     except OSError as fault:
         print(f"{words[0]}: {fault}", file=sys.stderr, flush=True)
         return
-    end = time.monotonic() + CLEANING_SECONDS
-    while os.waitpid(cleaner, os.WNOHANG) == (0, 0):
-        if time.monotonic() > end:
-            os.killpg(cleaner, signal.SIGKILL)
-            os.waitpid(cleaner, 0)
-            return
-        time.sleep(0.02)
+    try:
+        has_ended_within(cleaner, CLEANING_SECONDS)
+    except TimeoutError:
+        pass
 
 
-def main() -> None:
-    """Runs the job."""
-    folder, descriptor = sys.argv[1], int(sys.argv[2])
-    os.set_inheritable(descriptor, False)
-    os.chdir(folder)
-    with open("run.json", "rb") as file:
-        run = json.loads(file.read())
-    told, tell = os.pipe()
-    if os.fork():
-        os.close(tell)
-        os.read(told, 1)
-        os._exit(0)  # the runner is there, and no child of the service
+def prepare_process(folder: str, lock: int) -> Dict[str, Any]:
+    """Makes this process one that no other has to do with; what it is told to run."""
     os.setsid()
+    adopt()
     signal.signal(signal.SIGCHLD, signal.SIG_DFL)
+    signal.pthread_sigmask(signal.SIG_BLOCK, {signal.SIGCHLD, signal.SIGTERM, signal.SIGINT, signal.SIGHUP, signal.SIGUSR1})
+    os.set_inheritable(lock, False)
+    os.chdir(folder)
     log = os.open("log", os.O_WRONLY | os.O_CREAT | os.O_APPEND | os.O_CLOEXEC, 0o600)
     null = os.open("/dev/null", os.O_RDWR | os.O_CLOEXEC)
     for number, source in enumerate((null, log, log)):
         os.dup2(source, number)
-    signal.pthread_sigmask(signal.SIG_BLOCK, {signal.SIGCHLD, signal.SIGTERM, signal.SIGINT, signal.SIGHUP, signal.SIGUSR1})
+    with open("/proc/self/comm", "w", encoding="ascii") as file:
+        file.write(f"run {os.path.basename(folder)}"[:15])  # which `ps` shows
+    with open("run.json", "rb") as file:
+        run: Dict[str, Any] = json.loads(file.read())
     overwrite("runner", {"pid": os.getpid()})
+    return run
+
+
+def run_job(folder: str, lock: int, tell: int) -> None:
+    """Runs the job of a folder, once whoever asked for that has been told that this process is there."""
+    run = prepare_process(folder, lock)
+    try:
+        os.write(tell, b".")
+    except BrokenPipeError:
+        pass  # whoever asked was killed meanwhile; the job runs all the same
     os.close(tell)
-    script = Script(start(run), run["stop"])
+    script = Script(start(run), run)
     status = wait(script, run["limit"], run["grace"])
-    insist(lambda: write_exit(status))
+    used = script.used()
+    script.leave()
+    insist(lambda: write_exit(status, used))
     if status >= LEAST_KILLED and "clean" in run:
         clean(run["clean"], run["environment"])
-
-
-if __name__ == "__main__":
-    main()

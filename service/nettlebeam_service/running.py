@@ -7,9 +7,10 @@ from __future__ import annotations
 
 import re
 import signal
-from typing import NamedTuple, Optional, Sequence
+from typing import Any, Dict, NamedTuple, Optional, Sequence
 
 from .lines import JOB, Client, Denied, asker, name_of
+from .node_link import Answer, NodeFault
 from .runs import Runs
 from .site import Site
 from .told import Job, told_of
@@ -19,6 +20,7 @@ TO_RUNNING = ("qsig", "qmsg")
 MOST_SIGNAL = 64
 MOST_JOBS = 1000
 MOST_MESSAGE = 65_536
+ASKED_SECONDS = 40.0  # more than a node takes for it
 FILES = {"-E": ("err",), "-O": ("out",), "-EO": ("err", "out")}
 ONE_JOB = re.compile(f"{JOB}\\Z")
 
@@ -86,11 +88,24 @@ class Running:
 
     async def signal(self, job: str, number: int) -> Optional[Refusal]:
         """Has a job's runner send a signal to all processes of the job."""
-        if await self.runs.signal(job, number):
+        answer = await self.ask_node(job, {"ask": "signal", "id": job, "number": number})
+        if answer["answer"] == "done":
             return None
         return Refusal("failed", f"{job} has no process that it could be sent to")
 
     async def message(self, job: str, files: Sequence[str], text: bytes) -> Optional[Refusal]:
         """Has a message written into files of a job, as its owner."""
-        fault = await self.runs.message(job, files, text)
-        return Refusal("failed", f"{job}: the message isn't written: {fault}") if fault else None
+        answer = await self.ask_node(job, {"ask": "message", "id": job, "files": list(files)}, text)
+        if answer["answer"] == "done":
+            return None
+        return Refusal("failed", f"{job}: the message isn't written: {answer.get('why', answer['answer'])}")
+
+    async def ask_node(self, job: str, head: Dict[str, Any], body: bytes = b"") -> Answer:
+        """What the home node of a job answers."""
+        run = self.runs.all.get(job)
+        if run is None:
+            return {"answer": "failed", "why": "it has no process"}
+        try:
+            return await run.node.ask(head, body, ASKED_SECONDS)
+        except NodeFault as fault:
+            return {"answer": "failed", "why": f"{run.node.shown} can't be asked: {fault}"}

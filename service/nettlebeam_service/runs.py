@@ -1,31 +1,24 @@
-"""The runs of jobs: their runners are started, adopted, watched and told to end, and what they did is told to the site.
-
-A run holds the lock of its job from before the site is asked to begin the job until its runner ends: the service takes the
-lock and hands it to the runner. So where the lock is free, no runner is there or will be.
-"""
+"""The runs of jobs on their nodes: watched and told to end; and how they ended is told to the site. `starts.py` starts them."""
 from __future__ import annotations
 
 import asyncio
-import contextlib
-import os
-import signal
-import sys
-import time
-from typing import Any, Callable, Dict, List, Optional, Sequence, Set
+import math
+from typing import Any, Awaitable, Callable, Dict, List, Optional, Sequence, Set
 
-from . import processes
-from .backup import Backup
 from .config import JobKeys
-from .files import remove, write
+from .node_link import NodeFault, NodeLink
+from .node_store import ENDED, READY, RUNS, UNKNOWN, State, boot_time
+from .nodes import Nodes
+from .run import Exit, Run, hosts_without_names, lost, run_of_record
+from .service_node import OWN, Node
 from .site import Site
-from .spool import Exit, Spool
-from .wrapper import hosts_without_names, message_text, shell_reading
+from .spool import Spool
 
-RUNNER = os.path.join(os.path.dirname(os.path.abspath(__file__)), "runner.py")
-LOST = 255
-STARTS_AT_ONCE = 8
-HELPING_SECONDS = 15
-SIGNAL_SECONDS = 10
+REMEMBERED_SECONDS = 120.0  # for which it is known that a node has told the end of a run
+
+
+async def do_nothing(run: Run) -> None:
+    """Stands for what starts runs, until that is there."""
 
 
 class Runs:
@@ -36,31 +29,35 @@ class Runs:
         keys: JobKeys,
         site: Site,
         spool: Spool,
-        backup: Backup,
+        nodes: Nodes,
         log: Callable[[str], None],
         wake: Callable[[], None],
     ):
         self.keys = keys
         self.site = site
         self.spool = spool
-        self.backup = backup
+        self.nodes = nodes
         self.log = log
         self.wake = wake
-        self.hosts: Dict[str, List[str]] = {}
+        self.all: Dict[str, Run] = {}
         self.starting: Set[str] = set()
         self.settling: Set[str] = set()
-        self.watched: Dict[str, int] = {}
-        self.told: Set[str] = set()
+        self.taking: Set[str] = set()  # jobs whose nonces are taken back
         self.stuck: Set[str] = set()  # jobs of which something is left that can't be ended
-        self.signals: Dict[str, asyncio.Lock] = {}
         self.tasks: Set["asyncio.Task[None]"] = set()
-        self.places = asyncio.Semaphore(STARTS_AT_ONCE)
+        self.heard_ends: Dict[str, float] = {}  # jobs whose ends their nodes have told lately, and when
+        self.knows_all = False  # whether the site has told which jobs run here
+        self.take_back: Callable[[Run], Awaitable[None]] = do_nothing
+        self.start_again: Callable[[Run], Awaitable[None]] = do_nothing
+        nodes.jobs_on = lambda host: [run.job for run in self.all.values() if host in run.hosts]
+        nodes.has_runs = lambda name: any(run.node.name == name for run in self.all.values())
 
-    def spawn(self, work: Any) -> None:
+    def spawn(self, work: Any) -> "asyncio.Task[None]":
         """Does something beside all else."""
-        task = asyncio.ensure_future(work)
+        task: "asyncio.Task[None]" = asyncio.ensure_future(work)
         self.tasks.add(task)
         task.add_done_callback(self.ended)
+        return task
 
     def ended(self, task: "asyncio.Task[None]") -> None:
         """A task is done; what it failed by is logged, and the next look at the site begins again from what is there."""
@@ -68,206 +65,163 @@ class Runs:
         if not task.cancelled() and task.exception():
             self.log(f"a run is left to the next look: {task.exception()!r}")
 
+    def is_busy(self, job: str) -> bool:
+        """Whether a job is being started, taken back or settled."""
+        return job in self.starting or job in self.taking or job in self.settling
+
     # Hosts
 
-    def take_hosts(self, job: str, nodes: int) -> Optional[List[str]]:
-        """Hosts for a job, that no other job has; None where there are too few."""
+    def free_hosts(self, job: str, nodes: int, but: Set[str]) -> Optional[List[str]]:
+        """Hosts for a job that are up and that no other job has; None where there are too few."""
         if not self.keys.hosts:
-            self.hosts[job] = hosts_without_names(nodes)
-            return self.hosts[job]
-        used = {host for other, hosts in self.hosts.items() if other != job for host in hosts}
-        free = [host for host in self.keys.hosts if host not in used]
-        if len(free) < nodes:
+            return hosts_without_names(nodes)
+        used = {host for run in self.all.values() if run.job != job for host in run.hosts}
+        free = [host for host in self.keys.hosts if host not in used and host not in but and self.nodes.is_free(host)]
+        return free[:nodes] if len(free) >= nodes else None
+
+    def place(self, job: str, nodes: int, but: Set[str]) -> Optional[Run]:
+        """Takes hosts for a job; None where there are too few."""
+        hosts = self.free_hosts(job, nodes, but)
+        if hosts is None:
             return None
-        self.hosts[job] = free[:nodes]
-        return self.hosts[job]
+        self.all[job] = Run(job, self.nodes.home(hosts), hosts, touched=boot_time())
+        return self.all[job]
 
-    def is_busy(self, job: str) -> bool:
-        """Whether a job is being started or settled."""
-        return job in self.starting or job in self.settling
-
-    # Starts
-
-    async def start(self, job: str, lock: int) -> None:
-        """Starts the runner of a job that the site has begun, and hands it the lock.
-
-        A backup that doesn't know of the begin would have the job begun anew: as a packet, a start waits for a newer one.
-        """
+    async def ask_aside(self, node: Node, head: Dict[str, Any]) -> None:
+        """Asks a node for what it may leave undone, since its next hello tells of it."""
         try:
-            await self.backup.insist()
-            async with self.places:
-                pipe, null = asyncio.subprocess.PIPE, asyncio.subprocess.DEVNULL
-                words = (sys.executable, "-IS", RUNNER, self.spool.path(job), str(lock))
-                process = await asyncio.create_subprocess_exec(*words, pass_fds=(lock,), stdin=null, stdout=null, stderr=pipe)
-                _, errors = await process.communicate()
-            if process.returncode:
-                self.log(f"{job}: the runner didn't start: {errors.decode('utf-8', 'replace').strip()[-300:]}")
-            else:
-                self.log(f"{job}: started on {len(self.hosts.get(job, ()))} nodes")
-        finally:
-            os.close(lock)
-            self.starting.discard(job)
-            await self.look(job)
+            await node.ask(head)
+        except NodeFault:
+            pass
 
     # What is there
 
-    async def sweep(self, running: Sequence[str]) -> None:
-        """Adopts or settles each job that the site says runs here."""
-        for job in self.watched.keys() - set(running):
-            self.forget(job)
-        for job in self.hosts.keys() - set(running) - self.starting:
-            del self.hosts[job]
+    def sweep(self, running: Sequence[str], asked: float) -> None:
+        """Looks after each job that the site said runs here when it was asked."""
+        for job in self.all.keys() - set(running):
+            if not self.is_busy(job) and self.all[job].began < asked:
+                del self.all[job]
         for job in running:
-            if job not in self.hosts:  # also of one whose processes can't be ended
-                self.hosts[job] = self.spool.run(job).get("hosts", [])
-            if not self.is_busy(job):
-                await self.look(job)
+            if job not in self.all and not self.is_busy(job):
+                self.all[job] = self.known(job)
+        if not self.knows_all:
+            self.knows_all = True
+            self.nodes.may_ask.set()
+        runs = [self.all[job] for job in running if job in self.all]
+        for run in runs:
+            if not (run.is_looked_after or run.is_watched() and not run.exit):
+                self.spawn(self.look(run))  # nobody waits for a node that says nothing
 
-    async def look(self, job: str) -> None:
-        """Watches the runner of a job, or settles the job where it has none any more."""
-        if not self.spool.is_locked(job):
-            self.forget(job)
-            self.spawn(self.settle(job))
-        elif job not in self.watched:
-            self.adopt(job)
+    def known(self, job: str) -> Run:
+        """The run of a job that an earlier process began."""
+        record = self.spool.record(job)
+        if record is None:  # its start was never sent; but an older service kept no records, and had one node
+            return Run(job, self.nodes.get(OWN), self.spool.hosts_without_record(job), prepared=math.inf)
+        return run_of_record(job, self.nodes.get(record["node"]), record)
 
-    def adopt(self, job: str) -> None:
-        """Watches a runner, whoever started it."""
-        pid = self.spool.runner(job)
-        if pid is None or not hasattr(os, "pidfd_open"):
-            return  # the next sweep looks again
-        try:
-            descriptor = os.pidfd_open(pid)
-        except ProcessLookupError:
+    async def look(self, run: Run) -> None:
+        """Settles a run whose end is known, and asks its node where its end wouldn't be told."""
+        if self.is_busy(run.job) or self.all.get(run.job) is not run:
             return
-        self.watched[job] = descriptor
-        asyncio.get_running_loop().add_reader(descriptor, self.on_end, job)
-        if not self.spool.is_locked(job):  # it ended meanwhile, and its number may be another's
-            self.on_end(job)
+        if run.exit:
+            self.spawn(self.settle(run))
+        elif not run.is_watched():
+            run.is_looked_after = True
+            try:
+                link = await run.node.linked()
+                answer = await run.node.ask({"ask": "look", "ids": [run.job]})
+                self.apply(run, answer["runs"][run.job], link)
+            except NodeFault as fault:
+                self.doubt_of(run, str(fault))
+            finally:
+                run.is_looked_after = False
 
-    def on_end(self, job: str) -> None:
-        """The runner of a job has ended."""
-        self.forget(job)
-        self.spawn(self.settle(job))
+    def apply(self, run: Run, state: State, link: Optional[NodeLink]) -> None:
+        """What a node says of a run by a link."""
+        if self.is_busy(run.job) or run.exit:
+            return
+        is_same = not run.nonce or not state.get("nonce") or state["nonce"] == run.nonce
+        what = state["state"] if is_same else UNKNOWN
+        if what == RUNS:
+            run.link = link
+            if run.doubt:
+                run.doubt = ""
+                self.log(f"{run.job}: it runs at {run.node.shown}")
+        elif what == READY:
+            self.taking.add(run.job)
+            self.spawn(self.take_back(run))
+        elif what == ENDED:
+            self.remember(run.job)
+            run.exit = Exit(int(state["status"]), int(state["moment"]), state.get("used"))
+            if state.get("log"):
+                self.log(f"{run.job}: its runner told: {state['log']}")
+            self.spawn(self.settle(run))
+        elif run.may_start_again():
+            self.starting.add(run.job)
+            self.spawn(self.start_again(run))
+        else:
+            if run.nonce:
+                self.log(f"{run.job}: at {run.node.shown} it is {what}")
+            run.exit = lost()
+            self.spawn(self.settle(run))
 
-    def forget(self, job: str) -> None:
-        """Watches a runner no longer."""
-        descriptor = self.watched.pop(job, None)
-        if descriptor is not None:
-            asyncio.get_running_loop().remove_reader(descriptor)
-            os.close(descriptor)
-
-    def forget_all(self) -> None:
-        """Leaves all runners to themselves."""
-        for job in list(self.watched):
-            self.forget(job)
+    def doubt_of(self, run: Run, why: str) -> None:
+        """A node can't be asked of a run. It is taken for running as long as it may."""
+        if not run.doubt:
+            run.doubt = why
+            self.log(f"{run.job}: it isn't known whether it runs, since {run.node.shown} can't be asked: {why}")
+        if run.is_over():
+            self.log(f"{run.job}: {run.node.shown} has ended it by now")
+            run.exit = lost()
 
     # Ends
 
-    async def settle(self, job: str) -> None:
-        """Tells the site how a job ended, once nothing of it runs."""
-        if self.is_busy(job) or not self.site.has_room():
+    async def settle(self, run: Run) -> None:
+        """Tells the site how a job ended, and has its node forget it."""
+        if self.is_busy(run.job) or not self.site.has_room() or run.exit is None:
             return  # the next sweep looks again
-        self.settling.add(job)
+        self.settling.add(run.job)
         try:
-            lock = self.spool.lock(job)
-            if lock is None:
-                return
-            try:
-                ended = await self.end_of(job)
-                if ended is None:
-                    return
-                answer = await self.site.ask(f"finish {job} {ended.moment} {ended.status}")
-                self.log(f"{job}: ended with status {ended.status}: {answer.text.strip()}")
-            finally:
-                os.close(lock)
-            self.hosts.pop(job, None)
-            self.signals.pop(job, None)
-            self.told.discard(job)
-            self.stuck.discard(job)
+            self.spool.add_exit(run.job, list(run.exit))
+            answer = await self.site.ask(f"finish {run.job} {run.exit.moment} {run.exit.status}")
+            self.log(f"{run.job}: ended with status {run.exit.status}: {answer.text.strip()}")
+            self.all.pop(run.job, None)
+            self.stuck.discard(run.job)
+            self.spawn(self.ask_aside(run.node, {"ask": "forget", "id": run.job, "nonce": run.nonce}))
             self.wake()
         finally:
-            self.settling.discard(job)
+            self.settling.discard(run.job)
 
-    async def end_of(self, job: str) -> Optional[Exit]:
-        """How a job ended that has no runner; 255 where nobody knows. None where something of it still runs."""
-        ended = self.spool.exit(job)
-        if ended:
-            return ended
-        if not await self.clear(job):
-            if job not in self.stuck:
-                self.stuck.add(job)
-                self.log(f"{job}: its runner has gone, and its processes can't be ended; it stays until they are")
-            return None
-        return Exit(LOST, int(time.time()))
+    def remember(self, job: str) -> None:
+        """Keeps for a while that a node has told the end of a run, since it may still say what it was before."""
+        moment = boot_time()
+        while self.heard_ends and next(iter(self.heard_ends.values())) < moment - REMEMBERED_SECONDS:
+            del self.heard_ends[next(iter(self.heard_ends))]
+        self.heard_ends[job] = moment
 
-    async def clear(self, job: str) -> bool:
-        """Ends what a runner that was killed has left. False where something is left still."""
-        started = self.spool.started(job)
-        if started is None or started["boot"] != processes.boot():
-            return True
-        run = self.spool.run(job)
-        if run.get("stop"):
-            marks = {"{pid}": str(started["pid"]), "{signal}": str(int(signal.SIGKILL))}
-            words = run["stop"]
-            for mark, value in marks.items():
-                words = [word.replace(mark, value) for word in words]
-            await self.help(words, run, b"")
-        is_clear = await asyncio.to_thread(processes.end_session, started["pid"], started["tick"])
-        if is_clear and run.get("clean"):
-            await self.help(run["clean"], run, b"")
-        return is_clear
-
-    async def help(self, words: Sequence[str], run: Dict[str, Any], given: bytes) -> str:
-        """Runs a command beside a job, with the environment of its owner; why it failed, or nothing."""
-        pipe, null = asyncio.subprocess.PIPE, asyncio.subprocess.DEVNULL
-        try:
-            process = await asyncio.create_subprocess_exec(
-                *words, stdin=pipe, stdout=null, stderr=pipe, cwd="/", env=run["environment"], start_new_session=True
-            )
-        except OSError as fault:
-            return f"{words[0]}: {fault.strerror}"
-        try:
-            _, errors = await asyncio.wait_for(process.communicate(given), HELPING_SECONDS)
-        except asyncio.TimeoutError:
-            with contextlib.suppress(OSError):
-                os.killpg(process.pid, signal.SIGKILL)
-            return f"{words[0]}: no end within {HELPING_SECONDS} s"
-        told = errors.decode("utf-8", "replace").strip()[-300:] or f"{words[0]}: status {process.returncode}"
-        return told if process.returncode else ""
-
-    # What users send
-
-    async def signal(self, job: str, number: int) -> bool:
-        """Has the runner of a job send a signal to the job's processes; whether it did."""
-        path, pid = self.spool.path(job, "signal"), self.spool.runner(job)
-        async with self.signals.setdefault(job, asyncio.Lock()):
-            if pid is None:
-                return False
-            write(path, str(number).encode())
-            end = time.monotonic() + SIGNAL_SECONDS
-            has_runner = processes.signal_holder(pid, self.spool.path(job, "lock"), signal.SIGUSR1)
-            while has_runner and os.path.exists(path) and time.monotonic() < end:
-                await asyncio.sleep(0.02)
-            if os.path.exists(path):
-                remove(path)
-                return False
-            return True
-
-    async def message(self, job: str, files: Sequence[str], text: bytes) -> str:
-        """Puts a message behind what files of a job have, as its owner; why it can't be done, or nothing."""
-        run = self.spool.run(job)
-        if "helper" not in run or not self.spool.is_locked(job):
-            return "it has no process"
-        head = message_text(run["files"], files).encode()
-        line = text if text.endswith(b"\n") else text + b"\n"
-        return await self.help([*run["helper"], *shell_reading(len(head))], run, head + line)
+    def lose(self, job: str) -> str:
+        """Somebody says that a job's node is off: why it isn't believed, or nothing."""
+        run = self.all.get(job)
+        if run is None:
+            return f"{job} doesn't run here"
+        if run.is_watched() or not run.doubt:
+            return f"{run.node.shown} answers: the job is ended by qdel"
+        self.log(f"{job}: {run.node.shown} is off, as somebody says")
+        run.exit = lost()
+        self.spawn(self.settle(run))
+        return ""
 
     def end(self, job: str) -> None:
-        """Has the runner of a job end it, once."""
-        pid = self.spool.runner(job)
-        if job in self.told or pid is None:
-            return
-        if processes.signal_holder(pid, self.spool.path(job, "lock"), signal.SIGTERM):
-            self.told.add(job)
-            self.log(f"{job}: deleted, so it is ended")
+        """Has a job ended that was deleted, once."""
+        run = self.all.get(job)
+        if run and not run.is_told_to_end and not run.exit:
+            self.spawn(self.tell_to_end(run))
+
+    async def tell_to_end(self, run: Run) -> None:
+        """Has the runner of a job end it."""
+        try:
+            if (await run.node.ask({"ask": "end", "id": run.job}))["answer"] == "done" and not run.is_told_to_end:
+                run.is_told_to_end = True
+                self.log(f"{run.job}: deleted, so it is ended")
+        except NodeFault:
+            pass  # the next look tries again

@@ -6,19 +6,24 @@ import errno
 import time
 from typing import Callable, Dict, List, Sequence
 
+from .accounts import Accounts
 from .backup import Backup
 from .begins import Begins
 from .config import Config
+from .counting import Counting
 from .grants import Grants
+from .node_store import boot_time
+from .nodes import Nodes
 from .passing import Passing
 from .peers import Peers
 from .runs import Runs
 from .site import Site, Stopped
 from .spool import Spool
-from .told import Job, grant_here, is_granted_to, now, origin_of, told_of
-from .users import Users
+from .starts import Starts
+from .told import Job, is_granted_to, now, origin_of, told_of
 
-SHORTEST_GAP = 0.1
+SHORTEST_GAP = 0.05
+LONGEST_GAP = 10.0
 RETRY_SECONDS = 10
 LISTING_SECONDS = 60
 MOST_AT_ONCE = 100  # jobs that one origin is asked for by one call
@@ -34,8 +39,9 @@ class Scheduler:
         spool: Spool,
         backup: Backup,
         peers: Peers,
-        users: Users,
+        nodes: Nodes,
         runs: Runs,
+        starts: Starts,
         log: Callable[[str], None],
     ):
         self.config = config
@@ -44,19 +50,25 @@ class Scheduler:
         self.backup = backup
         self.log = log
         self.woken = asyncio.Event()
+        self.nodes = nodes
         self.runs = runs
+        self.counting = Counting(config, site, nodes, log)
         self.grants = Grants(config, site, spool, peers, runs, log)
-        self.begins = Begins(config, site, spool, users, runs, log)
+        self.accounts = Accounts(nodes, self.wake)
+        self.begins = Begins(config, site, spool, self.accounts, runs, starts, log)
         self.passing = Passing(config.name, site, self.grants, self.begins, log)
         self.listed = 0.0
         self.counts = (0, 0)  # of the hosts that are named, and of the nodes, when they were compared last
         self.trouble = ""
+        self.planned = 0.0  # the processor time of the plan of a look
 
     def use(self, config: Config) -> None:
         """Goes on with another configuration."""
-        self.config = self.grants.config = self.begins.config = config
+        self.config = self.grants.config = self.begins.config = self.counting.config = config
         self.runs.keys = config.jobs
+        self.nodes.use(config.jobs)
         self.begins.left_alone.clear()
+        self.accounts.forget()
         self.wake()
 
     def wake(self) -> None:
@@ -67,7 +79,7 @@ class Scheduler:
         """Looks again and again, and soon after whatever may change what starts."""
         gap = SHORTEST_GAP
         while True:
-            began = time.monotonic()
+            self.planned = 0.0
             try:
                 if self.config.jobs.run != "no" and not self.site.memory.loss:
                     await self.look()
@@ -79,8 +91,9 @@ class Scheduler:
                 if trouble != self.trouble:
                     self.log(f"no job begins now, and this is looked at again: {trouble}")
                 self.trouble = trouble
-            # at most a fifth of the time is spent on plans, however often it is woken
-            await asyncio.sleep(max(gap, 4 * (time.monotonic() - began)))
+            # at most a fifth of a processor's time is spent on plans, however often it is woken; begins, syncs and what other
+            # work makes of the clock don't count
+            await asyncio.sleep(max(gap, min(LONGEST_GAP, 4 * self.planned)))
             gap = SHORTEST_GAP
             try:
                 await asyncio.wait_for(self.woken.wait(), self.config.jobs.every)
@@ -90,10 +103,12 @@ class Scheduler:
 
     async def look(self) -> None:
         """One look: what runs, what is deleted, what starts."""
+        asked = boot_time()
         machine = (await self.site.ask(f"machine {now()}")).text.splitlines()
         self.compare_hosts(int(machine[0].split()[1].rstrip(",")))
         running = [line.split()[1] for line in machine if line.startswith("run ")]
-        await self.runs.sweep(running)
+        self.runs.sweep(running, asked)
+        await self.counting.tell(int(machine[0].split()[1].rstrip(",")))
         for job in (await told_of(self.site, running)).values():
             if job["deleted"] and not self.runs.is_busy(job["id"]):
                 self.runs.end(job["id"])
@@ -116,7 +131,9 @@ class Scheduler:
     async def start(self, free: int) -> None:
         """Begins what starts now. Jobs that can't be had now don't keep the machine from others."""
         blocked = [name for name in {*self.grants.not_before, *self.begins.left_alone} if self.is_blocked(name)]
+        before = self.site.processor_seconds()
         starts = await self.passing.starts(blocked)
+        self.planned = max(0.0, self.site.processor_seconds() - before)
         await self.begin(starts)
         if any(map(self.is_blocked, starts)):
             await self.begin(await self.passing.try_others(starts, free))
@@ -132,7 +149,7 @@ class Scheduler:
         mine: List[str] = []
         theirs: Dict[str, List[Job]] = {}
         for name, job in told.items():
-            if not await self.begins.account_for(job):
+            if not await self.begins.has_account(job):
                 continue
             if self.begins.is_mine(name):
                 # one without a script only ends, unless its script is just being named
@@ -144,9 +161,10 @@ class Scheduler:
                 theirs.setdefault(origin_of(name), []).append(job)
         for origin, jobs in theirs.items():
             self.grants.prepare(origin, jobs[:MOST_AT_ONCE])
-        await grant_here(self.site, [name for name in mine if not is_granted_to(told[name], self.config.name)], self.config.name)
-        granted = (await told_of(self.site, mine)).values()
-        ready = [job for job in granted if is_granted_to(job, self.config.name)]
-        for job, fault in zip(ready, await asyncio.gather(*map(self.begins.begin, ready), return_exceptions=True)):
-            if fault is not None:
-                self.log(f"{job['id']}: it isn't begun now: {fault!r}")
+        ungranted = [name for name in mine if not is_granted_to(told[name], self.config.name)]
+        # both are written in this order, and answered line by line, so that the site tells of the jobs as they are granted
+        grants = [self.site.ask(f"grant {name} {self.config.name}") for name in ungranted]
+        *_, granted = await asyncio.gather(*grants, told_of(self.site, mine))
+        for job in granted.values():
+            if is_granted_to(job, self.config.name) and not self.runs.is_busy(job["id"]):
+                self.runs.spawn(self.begins.begin(job))  # the next look doesn't wait for it

@@ -7,7 +7,7 @@ import re
 
 from .ask import Told, ask
 from .more_utilities import read_words
-from .options import OPTIONS, Fault, seconds_of
+from .options import OPTIONS, Fault, naming, seconds_of
 
 TYPE_CHECKING = False
 if TYPE_CHECKING:
@@ -89,12 +89,20 @@ def condition(letter: str, text: str) -> List[Condition]:
     return [lambda job: job["owner"] in users]
 
 
+def named_condition(letter: str, text: str) -> List[Condition]:
+    """The same; a fault names the option."""
+    try:
+        return condition(letter, text)
+    except Fault as fault:
+        raise naming(f"-{letter}", text, fault) from None
+
+
 def qselect(words: List[str], path: str) -> Told:
     """Selects jobs."""
     options, operands = read_words("qselect", words, OPTIONS["qselect"])
     if operands:
         raise Fault("it has no operands")
-    wanted = [holds for letter, text in options.items() for holds in condition(letter, text)]
+    wanted = [holds for letter, text in options.items() for holds in named_condition(letter, text)]
     told = ask(path, ["jobs"])
     if told.status:
         return told

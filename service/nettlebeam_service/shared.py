@@ -2,6 +2,7 @@
 from __future__ import annotations
 
 import asyncio
+import time
 from typing import Awaitable, Callable, Optional
 
 
@@ -12,6 +13,7 @@ class Shared:
         self.action = action
         self.current: Optional["asyncio.Future[None]"] = None
         self.next: Optional["asyncio.Future[None]"] = None
+        self.last: Optional[float] = None  # when one succeeded
 
     async def done(self) -> None:
         """Waits for an action that began after this was called; what it fails by, all who wait for it fail by."""
@@ -25,3 +27,4 @@ class Shared:
             await asyncio.wait([before])
         self.current, self.next = self.next, None
         await self.action()
+        self.last = time.monotonic()

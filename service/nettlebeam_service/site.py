@@ -5,13 +5,14 @@ import asyncio
 import contextlib
 import os
 import time
-from collections import deque
-from typing import AsyncIterator, Callable, Deque, List, NamedTuple, Optional, Sequence
+from typing import AsyncIterator, Callable, List, NamedTuple, Optional, Sequence
 
 from .lines import changes
 from .memory import Memory
+from .processes import processor_seconds
+from .silence import IS_FOR_SOMEBODY, Waiting
 
-LONGEST_PAUSE = 60
+SHORTEST_PAUSE, LONGEST_PAUSE = 0.1, 60.0  # before a child that has ended is started again, each time twice as long
 CHUNK = 1 << 20
 USAGE_SECONDS = 10
 END_SECONDS = 120
@@ -24,6 +25,10 @@ NOT_KEPT = "not kept\n"
 
 class Stopped(Exception):
     """The site gives no answer. What was asked may be kept or not."""
+
+
+class Silent(Stopped):
+    """The site's program stands still. It may do later what was asked."""
 
 
 class NotKept(Stopped):
@@ -104,7 +109,7 @@ class Site:
         self.free_bytes = free_bytes
         self.memory = memory
         self.log = log
-        self.waiting: Deque[asyncio.Future[Answer]] = deque()
+        self.waiting = Waiting(lambda: Silent("it does not answer"), log)
         self.process: Optional[asyncio.subprocess.Process] = None
         self.trouble = "it hasn't started yet"
         self.ending = False
@@ -121,11 +126,16 @@ class Site:
             raise Lost(self.memory.loss)
         if self.process is None or self.process.stdin is None or self.ending:
             raise Stopped(self.trouble)
-        answer: asyncio.Future[Answer] = asyncio.get_running_loop().create_future()
-        self.waiting.append(answer)
+        if IS_FOR_SOMEBODY.get() and self.waiting.silent.is_set():
+            raise self.waiting.fault()
+        answer: asyncio.Future[Answer] = self.waiting.add()
         # where the child has ended, this writes nothing, and the end is told to all that wait
         self.process.stdin.write(line.encode("ascii") + b"\n")
         return await answer
+
+    def processor_seconds(self) -> float:
+        """How long the child has had a processor."""
+        return processor_seconds(self.process.pid) if self.process else 0.0
 
     def has_room(self) -> bool:
         """Whether the disk has room for what changes the site. A write that fails would end the child, for all who ask."""
@@ -134,7 +144,8 @@ class Site:
 
     async def run(self) -> None:
         """Starts the child, and starts it again whenever it ends, until `stop`."""
-        pause = 1
+        pause = SHORTEST_PAUSE
+        watching = asyncio.ensure_future(self.waiting.watch())
         while not self.ending:
             began = time.monotonic()
             try:
@@ -145,17 +156,18 @@ class Site:
                 self.ready.clear()
                 self.interlude.begun.set()
                 await self.interlude.over.wait()
-                pause = 1
+                pause = SHORTEST_PAUSE
                 continue
             self.open.set()
             if self.ending:
                 break
             if self.ready.is_set() and time.monotonic() - began > pause:
-                pause = 1
+                pause = SHORTEST_PAUSE
             self.ready.clear()
-            self.log(f"the site stopped: {self.trouble}; it is started again in {pause} s")
+            self.log(f"the site stopped: {self.trouble}; it is started again in {pause:g} s")
             await asyncio.sleep(pause)
             pause = min(2 * pause, LONGEST_PAUSE)
+        watching.cancel()
 
     async def run_once(self) -> None:
         """One life of the child."""
@@ -178,7 +190,7 @@ class Site:
             status = await process.wait()
             if status < 0:
                 self.trouble = f"its process was ended by signal {-status}"
-            self.fail_waiting()
+            self.waiting.fail(lambda: Stopped(self.trouble))
             await asyncio.wait([probe])
 
     @contextlib.asynccontextmanager
@@ -240,11 +252,11 @@ class Site:
                 return
             reader.feed(data)
             for answer in iter(reader.next, None):
-                if not self.waiting:
+                asked = self.waiting.next()
+                if asked is None:
                     self.log("the site answered what nobody had asked")
                     process.kill()
                     return
-                asked = self.waiting.popleft()
                 if not asked.done():
                     settle(asked, read_answer(answer))
 
@@ -258,13 +270,6 @@ class Site:
             for line in data.decode("utf-8", "replace").splitlines():
                 self.trouble = line.strip()
                 self.log(f"site: {self.trouble}")
-
-    def fail_waiting(self) -> None:
-        """Tells all that wait that no answer comes."""
-        while self.waiting:
-            asked = self.waiting.popleft()
-            if not asked.done():
-                asked.set_exception(Stopped(self.trouble))
 
     async def stop(self) -> None:
         """Has the child answer what was asked, and end."""

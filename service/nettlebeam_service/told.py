@@ -4,11 +4,12 @@ from __future__ import annotations
 import asyncio
 import json
 import time
-from typing import Any, Dict, List, Sequence
+from typing import Any, Dict, Iterable, List, Sequence
 
 from .site import Site
 
 Job = Dict[str, Any]
+NAMES_OF_LINE = 500
 LISTING = "service qstat"  # anybody may list, under whatever name
 
 
@@ -34,6 +35,15 @@ async def told_of(site: Site, names: Sequence[str]) -> Dict[str, Job]:
     told = (await site.ask("jobs " + " ".join(names))).text
     jobs = [json.loads(line) for line in told.splitlines() if line.startswith("{")]  # of a site that there isn't it tells none
     return {job["id"]: job for job in jobs}
+
+
+async def told_of_many(site: Site, names: Iterable[str]) -> Dict[str, Job]:
+    """The same of however many jobs."""
+    known: Dict[str, Job] = {}
+    ordered = sorted(names)
+    for place in range(0, len(ordered), NAMES_OF_LINE):
+        known.update(await told_of(site, ordered[place : place + NAMES_OF_LINE]))
+    return known
 
 
 async def listed(site: Site) -> List[List[str]]:

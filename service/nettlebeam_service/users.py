@@ -8,7 +8,7 @@ import pwd
 import socket
 import struct
 import time
-from typing import Dict, Optional, Tuple
+from typing import Dict, Tuple
 
 from .config import SiteKeys
 from .lines import Client
@@ -43,21 +43,12 @@ def look_up(uid: int, keys: SiteKeys) -> Client:
     return Client(uid, user.pw_name, roles, is_site)
 
 
-def account_of(name: str) -> Optional[pwd.struct_passwd]:
-    """What the tables say of a login name."""
-    try:
-        return pwd.getpwnam(name)
-    except KeyError:
-        return None
-
-
 class Users:
-    """Users by their numbers and names, looked up in a thread, and kept for half a minute."""
+    """Users by their numbers, looked up in a thread, and kept for half a minute."""
 
     def __init__(self, keys: SiteKeys):
         self.keys = keys
         self.known: Dict[int, Tuple[float, Client]] = {}
-        self.accounts: Dict[str, Tuple[float, Optional[pwd.struct_passwd]]] = {}
 
     async def client(self, uid: int) -> Client:
         """The client of a user number."""
@@ -69,14 +60,3 @@ class Users:
                 self.known.clear()
             self.known[uid] = (now + KEPT_SECONDS, client)
         return client
-
-    async def account(self, name: str) -> Optional[pwd.struct_passwd]:
-        """The account of a login name."""
-        now = time.monotonic()
-        until, account = self.accounts.get(name, (0.0, None))
-        if until < now:
-            account = await asyncio.to_thread(account_of, name)
-            if len(self.accounts) > 10_000:
-                self.accounts.clear()
-            self.accounts[name] = (now + KEPT_SECONDS, account)
-        return account

@@ -1,119 +1,127 @@
-"""The utilities as users call them: qsub, qalter, qhold, qrls, qdel and qstat, `qask` for the rest, and MORE of another module."""
+"""The utilities as users call them: qsub, qalter, qhold, qrls, qdel and qstat, `qask` for the rest, and MORE and those of Slurm,
+which are in other modules.
+
+Each loads what it needs alone, since a user waits for that at each call.
+"""
 from __future__ import annotations
 
 import os
-import re
 import sys
 
 from .ask import Told, Unasked, ask, find_socket
-from .options import Fault, parse, seconds_of
+from .options import Fault, in_order, parse_anywhere
 
 TYPE_CHECKING = False
 if TYPE_CHECKING:
-    from typing import Dict, List, Optional, Tuple
+    from typing import List, Optional
 
-NAME = re.compile(r"[A-Za-z][A-Za-z0-9_.-]{0,14}\Z")
+MORE = ("qselect", "qsig", "qmsg", "qmove", "qrerun", "pbsnodes")
+OF_SLURM = ("sbatch", "squeue", "scancel", "sinfo")
 # the number of a refusal is in the answer already
-NUMBER = re.compile(r"^(?:nettlebeam: )?(?:refused|usage) [0-9]+ \([A-Za-z]+\): ")
-MORE = ("qselect", "qsig", "qmsg", "qmove", "qrerun")
-MOST_BYTES = 16 * 1024 * 1024
+KINDS = ("refused ", "usage ")
+PROGRAM = "nettlebeam: "
+QUEUE = "batch"
+LINES_IN_FULL = 12
+VERSION = "pbs_version = nettlebeam"
+NO_SITE = "NETTLEBEAM_SOCKET isn't set, and this machine hasn't one service of a site"
 
 
-def read_list(text: str) -> List[Tuple[str, str]]:
-    """The pairs of a list of resources; what has another form is left to the site."""
-    pairs = [pair.partition("=") for pair in text.split(",")]
-    return [(name + mark, seconds_of(value) if name == "walltime" else value) for name, mark, value in pairs]
+def words_of(line: str) -> str:
+    """A line of complaints without the number of the refusal."""
+    text = line[len(PROGRAM) :] if line.startswith(PROGRAM) else line
+    number, mark, words = text.partition("): ")
+    return words if mark and text.startswith(KINDS) and number.split(" ")[1].isdigit() else line
 
 
-def joined(options: List[Tuple[str, Optional[str]]]) -> List[str]:
-    """The words of options, in which all lists of resources are one, the later value of a resource in its place."""
-    resources: Dict[str, str] = {}
-    has_list, words = False, []
-    for letter, argument in options:
-        if letter == "l" and argument is not None:
-            has_list = True
-            resources.update(read_list(argument))
-        elif letter != "C":
-            words += [f"-{letter}"] if argument is None else [f"-{letter}", argument]
-    return words + (["-l", ",".join(name + value for name, value in resources.items())] if has_list else [])
+def alter(path: str, words: List[str], role: Optional[str]) -> Told:
+    """`qalter`: the values of the site, and what the service has a job wait for."""
+    from .altering import alter as alter_all
+
+    return alter_all(path, words, role)
 
 
-def directives(script: bytes, prefix: str) -> List[str]:
-    """The words of the directives at the head of a script: behind the prefix, up to the first line that is no comment."""
-    words: List[str] = []
-    for line in script.splitlines():
-        text = line.decode("utf-8", "replace").strip()
-        if prefix and text.startswith(prefix):
-            words += text[len(prefix) :].split()
-        elif text and not text.startswith("#"):
-            break
-    return words
+def list_jobs(path: str, words: List[str], role: Optional[str]) -> Told:
+    """`qstat`: the site's own listings where POSIX's options are given, and those of PBS else."""
+    options, operands = parse_anywhere("qstat", words)
+    is_queue = any("@" in operand or operand == QUEUE for operand in operands)
+    if any(letter != "f" for letter, _ in options) or is_queue:
+        from .listing import qstat
+
+        return qstat(path, words, role)
+    is_array = any("[" in operand for operand in operands)
+    told = Told(0, b"", "") if is_array else ask(path, ["qstat", *in_order("qstat", words)], role)
+    lines = LINES_IN_FULL if options else 1
+    if told.status or not operands or (not is_array and told.answer.count(b"\n") >= lines * len(operands)):
+        return told
+    from .listing import known
+
+    return known(path, [f"-{letter}" for letter, _ in options], operands, role)
 
 
-def read_script(operands: List[str]) -> bytes:
-    """The script that is named, or that of standard input."""
-    try:
-        if operands and operands[0] != "-":
-            with open(operands[0], "rb") as file:
-                script = file.read(MOST_BYTES + 1)
-        else:
-            script = sys.stdin.buffer.read(MOST_BYTES + 1)
-    except OSError as fault:
-        raise Fault(f"{operands[0] if operands else 'standard input'}: {fault.strerror}") from None
-    if len(script) > MOST_BYTES:
-        raise Fault(f"a script has at most {MOST_BYTES} bytes")
-    return script
+def change(path: str, utility: str, words: List[str], role: Optional[str]) -> Told:
+    """`qdel`, `qhold` and `qrls`: the site's answer."""
+    words = in_order(utility, words)
+    if utility == "qdel" and words and words[0].startswith("-"):
+        from .altering import without_options
 
-
-def facts() -> Dict[str, str]:
-    """What the job is told of where it was submitted."""
-    umask = os.umask(0o077)
-    os.umask(umask)
-    told = {"folder": os.getcwd(), "host": os.uname().nodename, "umask": f"{umask:03o}"}
-    for name, key in (("HOME", "home"), ("LANG", "lang"), ("PATH", "path"), ("SHELL", "shell"), ("TZ", "tz")):
-        if name in os.environ:
-            told[key] = os.environ[name]
+        words, said = without_options(words)
+    else:
+        said = []
+    told = ask(path, [utility, *words], role)
+    told.words = "\n".join(filter(None, (*said, told.words)))
     return told
-
-
-def submit(path: str, words: List[str], role: Optional[str]) -> Told:
-    """Submits a job with its script."""
-    options, operands = parse("qsub", words)
-    script = read_script(operands)
-    prefix = next((argument for letter, argument in reversed(options) if letter == "C" and argument is not None), "#PBS")
-    all_options = parse("qsub", directives(script, prefix))[0] + options
-    name = os.path.basename(operands[0])[:15] if operands else ""
-    if NAME.match(name) and not any(letter == "N" for letter, _ in all_options):
-        all_options.append(("N", name))
-    return ask(path, ["qsub", *joined(all_options)], role, facts(), script)
 
 
 def run(utility: str, words: List[str], path: Optional[str]) -> Told:
     """Asks for what the user typed."""
     role = os.environ.get("NETTLEBEAM_ROLE") or None
+    if words == ["--version"]:
+        return Told(0, f"{VERSION}\n".encode(), "")
+    if words == ["--help"]:
+        from .helping import usage_of
+
+        return Told(0, usage_of(utility).encode(), "")
     if utility in MORE:
         from .more_utilities import run as run_more
 
         return run_more(utility, words, path, role)
     if path is None:
-        raise Fault("NETTLEBEAM_SOCKET isn't set, and this machine hasn't one service of a site")
+        raise Fault(NO_SITE)
+    if utility in OF_SLURM:
+        from .slurm import run as run_slurm
+
+        return run_slurm(utility, words, path, role)
+    if utility == "qask":
+        return ask(path, words, role)
     if utility == "qsub":
+        from .submitting import submit
+
         return submit(path, words, role)
-    if utility == "qalter":
-        options, operands = parse("qalter", words)
-        return ask(path, ["qalter", *joined(options), "--", *operands], role)
-    return ask(path, [utility, *words] if utility != "qask" else words, role)
+    if utility == "qstat":
+        told = list_jobs(path, words, role)
+    else:
+        told = alter(path, words, role) if utility == "qalter" else change(path, utility, words, role)
+    if told.status in (1, 2) and told.words:
+        from .complaints import explained_words
+
+        return explained_words(utility, words, told)
+    return told
 
 
 def main(utility: str, words: List[str]) -> int:
     """A utility."""
     try:
         told = run(utility, words, find_socket())
+        sys.stdout.buffer.write(told.answer)
+        sys.stdout.buffer.flush()
     except (Unasked, Fault) as fault:
         print(f"{utility}: {fault}", file=sys.stderr)
         return 3 if isinstance(fault, Unasked) else 2
-    sys.stdout.buffer.write(told.answer)
-    sys.stdout.buffer.flush()
+    except BrokenPipeError:
+        os.dup2(os.open(os.devnull, os.O_WRONLY), 1)  # who reads the listing has seen enough of it
+        return 0
+    except KeyboardInterrupt:
+        return 130
     for line in told.words.splitlines():
-        print(f"{utility}: {NUMBER.sub('', line)}", file=sys.stderr)
+        print(f"{utility}: {words_of(line)}", file=sys.stderr)
     return told.status

@@ -9,12 +9,28 @@ from __future__ import annotations
 import json
 import os
 from dataclasses import dataclass, field
-from typing import Any, Dict, List, Optional
+from typing import Any, Dict, List, Optional, Tuple
 
 LONGEST_HEAD = 256 * 1024
 LONGEST_FACT = 4096
+LONGEST_LISTS = 65_536
+MOST_VARIABLES = 1024 * 1024
+LONGEST_VARIABLE = 128 * 1024 - 1  # more isn't taken by the kernel of one word
+# what a client tells of where it submits
+OF_CLIENTS = ("folder", "home", "host", "lang", "path", "shell", "tz", "umask")
+# what a client tells of what it submits, as the options of PBS have it
+OF_OPTIONS = (
+    *("arguments", "array", "at", "chunks", "depend", "err", "interpreter", "join", "keep"),
+    *("mail", "mail_to", "name", "out", "resources", "slurm", "variables"),
+)
 # what a client tells of itself with a qsub; the service passes it to the job, and rests nothing on it
-FACTS = ("folder", "home", "host", "lang", "path", "shell", "tz", "umask")
+FACTS = (*OF_CLIENTS, *OF_OPTIONS)
+# those that the node of a job is told
+OF_RUNS = (*OF_CLIENTS, "array_id", "chunks", "err", "index", "interpreter", "join", "keep", "out", "slurm", "variables")
+# those that may be longer than the others
+LISTS = ("depend", "resources", "arguments")
+# what the service of a job's origin adds, for the service where it runs
+ADDED = ("array_id", "ctime", "index", "owner")
 
 
 class Malformed(Exception):
@@ -45,9 +61,9 @@ class Reply:
         return json.dumps({"status": self.status, "words": self.words, "size": len(self.answer)}).encode() + b"\n"
 
 
-def is_fact(value: Any) -> bool:
+def is_fact(value: Any, key: str = "") -> bool:
     """Whether a value is a text that a file name or an environment may have. All facts fit into one word of a command."""
-    if not isinstance(value, str) or len(value) > LONGEST_FACT or "\0" in value:
+    if not isinstance(value, str) or len(value) > (LONGEST_LISTS if key in LISTS else LONGEST_FACT) or "\0" in value:
         return False
     try:
         return bool(os.fsencode(value)) or not value
@@ -69,8 +85,32 @@ def read_head(line: bytes) -> Request:
     if role is not None and not isinstance(role, str):
         raise Malformed("role is no text")
     facts = {} if facts is None else facts
-    if not isinstance(facts, dict) or not facts.keys() <= set(FACTS) or not all(map(is_fact, facts.values())):
+    if not isinstance(facts, dict) or not facts.keys() <= set(FACTS) or not all(is_fact(it, key) for key, it in facts.items()):
         raise Malformed(f"facts are texts: {', '.join(FACTS)}")
     if size is not None and (type(size) is not int or size < 0):
         raise Malformed("size is no number of bytes")
     return Request(words, role, facts, size)
+
+
+def split_body(request: Request) -> Tuple[Dict[str, str], bytes]:
+    """The variables in front of a script, where the facts say how many bytes they have, and the script. In the body each is
+    `NAME=VALUE` with a NUL behind it, so that they are never read as JSON."""
+    text = request.facts.get("variables", "0")
+    size = int(text) if text.isascii() and text.isdigit() and len(text) < 9 else -1
+    if not 0 <= size <= min(MOST_VARIABLES, len(request.body)):
+        raise Malformed("the variables have no such size")
+    variables: Dict[str, str] = {}
+    for pair in request.body[:size].split(b"\0")[:-1] if size else []:
+        name, mark, value = pair.partition(b"=")
+        if not name or not mark or len(pair) >= LONGEST_VARIABLE:
+            raise Malformed("the variables are none")
+        variables[os.fsdecode(name)] = os.fsdecode(value)
+    return variables, request.body[size:]
+
+
+def are_variables(value: Any) -> bool:
+    """Whether a value that another site told is a job's variables."""
+    if not isinstance(value, dict) or sum(len(str(key)) + len(str(it)) + 2 for key, it in value.items()) > MOST_VARIABLES:
+        return False
+    texts = all(isinstance(it, str) and "\0" not in it and len(it) < LONGEST_VARIABLE for pair in value.items() for it in pair)
+    return texts and all(name and "=" not in name for name in value)

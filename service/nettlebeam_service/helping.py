@@ -1,0 +1,26 @@
+"""What the utilities say to `--help`."""
+from __future__ import annotations
+
+USAGES = {
+    "qsub": "[-a date] [-A account] [-C prefix] [-e path] [-h] [-j oe|eo|n] [-J X-Y[:step][%most]] [-k o|e|oe|n] [-l list] [-m abe|n]"
+    " [-M users] [-N name] [-o path] [-p priority] [-q queue] [-S shell] [-v variables] [-V] [-W depend=..|block=true] [-z]"
+    " [script | -- program word ..]",
+    "qalter": "[-a date] [-A account] [-e path] [-j oe|eo|n] [-k o|e|oe|n] [-l list] [-m abe|n] [-M users] [-N name] [-o path]"
+    " [-p priority] [-S shell] [-v variables] [-V] [-W depend=..] job ..",
+    "qhold": "[-h kinds] job ..",
+    "qrls": "[-h kinds] job ..",
+    "qdel": "job ..",
+    "pbsnodes": "-a [-F json] | -l | -S | -o [-C why] host .. | -r host .. | host ..",
+    "sbatch": "[-n tasks] [-N nodes] [-c processors] [--ntasks-per-node=n] [-t time] [-J name] [-o path] [-e path] [-p partition]"
+    " [-M sites] [-A account] [-d dependencies] [-a indices] [-D folder] [-H] [-W] [--export=..] [--mail-type=..] [--mail-user=..]"
+    " [--parsable] [--wrap=command | script]",
+    "squeue": "[-h] [-o format] [-j jobs] [-u users | --me] [-t states] [-n names]",
+    "scancel": "[-u users | --me] [-n names] [-t states] [-s signal] [job ..]",
+    "sinfo": "[-h] [-N]",
+    "qstat": "[-f [-x] [-F json]] [-a | -i | -r | -H | -Q | -q | -B] [-n] [-s] [-T] [-1] [-w] [-t] [-x] [-u users] [job ..]",
+}
+
+
+def usage_of(utility: str) -> str:
+    """The usage of a utility."""
+    return f"usage: {utility} {USAGES.get(utility, 'word ..')}\n"
