@@ -478,9 +478,11 @@ class Site:
         seconds = {second} | {start for start, _, _ in spans if second < start < end}
         return all(use_at(it, spans) + job.value("nodes") <= nodes for it in seconds)
 
-    def plan(self, moment):
-        """The text of the plan: the jobs that start at the moment, and the head with the second at which it can."""
-        spans, queue, text = self.spans(moment), self.queue(), ""
+    def plan(self, moment, left_out=()):
+        """The text of the plan without some jobs: those that start at the moment, and the head with the second at which it
+        can."""
+        spans, text = self.spans(moment), ""
+        queue = [job for job in self.queue() if job.stamp not in left_out]
         while queue and self.fits(queue[0], moment, spans):
             job = queue.pop(0)
             text += f"start {self.name(job.stamp)}\n"

@@ -1,4 +1,6 @@
 """What the tools share that play worked rows: what is found is compared with what is wanted, and the program is called."""
+from __future__ import annotations
+
 import argparse
 import os
 import re
@@ -9,35 +11,37 @@ import subprocess
 import sys
 import tempfile
 import traceback
+from typing import Callable
 
 TOP = os.path.dirname(os.path.dirname(os.path.abspath(__file__)))
 PROGRAM = f"{TOP}/crates/nettlebeam/out/nettlebeam"
-PAGE = f"{TOP}/docs/OPERATING.md"
+# The pages whose commands are played.
+PAGES = [f"{TOP}/docs/{name}.md" for name in ("OPERATING", "BY_HAND")]
 
 
 class Tally:
     """Counts what was found as wanted, and what wasn't."""
 
-    def __init__(self, tool):
+    def __init__(self, tool: str) -> None:
         self.tool, self.scene, self.passed, self.failed = tool, "", 0, 0
 
-    def same(self, what, found, wanted):
+    def same(self, what: str, found: object, wanted: object) -> None:
         """Counts a comparison, and prints one that fails."""
         if found == wanted:
             self.passed += 1
         else:
             self.fail(f"{what}\n  found  {found!r}\n  wanted {wanted!r}")
 
-    def true(self, what, holds):
+    def true(self, what: str, holds: object) -> None:
         """Counts what has to hold."""
         self.same(what, bool(holds), True)
 
-    def fail(self, what):
+    def fail(self, what: str) -> None:
         """Counts what failed."""
         self.failed += 1
         print(f"{self.tool}: {self.scene}: FAILED: {what}")
 
-    def play(self, name, scene):
+    def play(self, name: str, scene: Callable[[], None]) -> None:
         """Plays a scene: where it breaks off it has failed, and the next can be played."""
         self.scene = name
         try:
@@ -45,7 +49,7 @@ class Tally:
         except Exception:
             self.fail(traceback.format_exc())
 
-    def end(self):
+    def end(self) -> int:
         """Prints the last line, and gives the status."""
         print(f"{self.passed} passed, {self.failed} failed")
         return 1 if self.failed else 0

@@ -12,7 +12,7 @@ import subprocess
 import time
 
 from service_moments import PORT, read_page
-from service_sites import Unasked, accounting, seal, until
+from service_sites import Unasked, accounting, as_told, seal, until
 
 
 def rewrite(site, old, new):
@@ -199,7 +199,8 @@ def accounts(tally, federation):
     gone = {name: line for name, line in zip(site.jobs(), site.said("jobs").splitlines()) if name != waiting}
     until(lambda: len(books(site)) >= len(gone), 20, "all are recorded")
     time.sleep(1)
-    tally.same("each job that is gone is recorded once, as the site tells it", sorted(books(site)), sorted(gone.values()))
+    tally.same("each job that is gone is recorded once, as the site tells it", sorted(map(as_told, books(site))), sorted(gone.values()))
+    tally.true("with what those used that ran", any('"used":{"cput":' in line for line in books(site)))
     tally.true("some were deleted, and some ended with a status", any('"deleted":true' in it for it in gone.values()) and len(jobs) > 15)
     (month,) = glob.glob(f"{site.home}/spool/accounting/*.jsonl")
     os.rename(month, f"{federation.folder}/moved")
@@ -246,7 +247,7 @@ def cut_accounts(tally, federation):
     write(f"{folder}/recorded", old)
     again = accounting.Accounting(folder, "argonne")
     tally.same("a list without moments is known", again.record(lines), 0)
-    tally.same("and is of this moment", min(again.known.values()) >= begun, True)
+    tally.same("and is of this moment", min(it.moment for it in again.known.values()) >= begun, True)
     tally.same("so all were recorded by now", again.recorded_before(jobs, time.time()), {job["id"] for job in jobs})
     tally.same("and none before", again.recorded_before(jobs, begun - 1), set())
     tally.same("each moment is kept", accounting.Accounting(folder, "argonne").record(lines), 0)
@@ -331,11 +332,11 @@ def spools(tally, federation):
     until(lambda: site.jobs(running)[running]["letter"] == "R", 20, "a job runs")
     until(lambda: len(books(site)) == 2, 20, "what is gone is recorded")
     time.sleep(1)
-    tally.true("its files stay for a while", os.path.exists(f"{site.home}/spool/runs/{done}/exit"))
+    tally.true("its files stay for a while", os.path.exists(f"{site.home}/spool/begun/{done}"))
     tally.true("so does the script of one that was deleted", os.path.exists(f"{site.home}/spool/scripts/{deleted}"))
 
     def kept(name):
-        return os.path.exists(f"{site.home}/spool/scripts/{name}") or os.path.exists(f"{site.home}/spool/runs/{name}")
+        return os.path.exists(f"{site.home}/spool/scripts/{name}") or os.path.exists(f"{site.home}/spool/begun/{name}")
 
     site.kill(signal.SIGTERM)
     rewrite(site, "keep = 600", "keep = 1")

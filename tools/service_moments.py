@@ -13,22 +13,17 @@ import urllib.error
 import urllib.request
 from xml.etree import ElementTree
 
-from service_sites import SERVICE, Unasked, config, until
+from service_sites import SERVICE, Unasked, config, free_port, kind_of, node_keys, until
 
 KILLS = 60
-PORT = 8479
-
-
-def is_shown(words, kind):
-    """Whether a command line is of a kind of process."""
-    return kind.encode() in words
+PORT = free_port()
 
 
 def starts(tally, federation):
     """A process of some kind is killed at a random moment of a job's start, again and again."""
     (site,) = federation.make("argonne:2")
     ran, pick = f"{federation.folder}/ran", random.Random(7)
-    kinds, killed, jobs = ("nettlebeamd", "runner.py", "serve"), collections.Counter(), {}
+    kinds, killed, jobs = ("nettlebeamd", "runner", "runner_server", "nettlebeam-node", "serve"), collections.Counter(), {}
     for number in range(KILLS):
         try:
             until(lambda: site.ask("seen").status == 0, 30, "the site answers")
@@ -39,15 +34,8 @@ def starts(tally, federation):
         kind, end, victim = pick.choice(kinds), time.monotonic() + 0.6, None
         time.sleep(pick.uniform(0, 0.45))
         while time.monotonic() < end:
-            found = []
-            for pid in federation.processes():
-                try:
-                    with open(f"/proc/{pid}/cmdline", "rb") as file:
-                        found += [pid] if is_shown(file.read(), kind) else []
-                except OSError:
-                    pass
+            found = [pid for pid in federation.processes() if kind_of(pid) == kind]
             if found:
-                # of the service it may be a child that isn't a runner yet
                 victim = pick.choice(found)
                 os.kill(victim, signal.SIGKILL)
                 killed[kind] += 1
@@ -73,11 +61,17 @@ def starts(tally, federation):
 def read_page(path, **headers):
     """A page: its status, and its text."""
     request = urllib.request.Request(f"http://127.0.0.1:{PORT}{path}", headers=headers)
-    try:
-        with urllib.request.urlopen(request, timeout=10) as response:
-            return response.status, response.read().decode()
-    except urllib.error.HTTPError as fault:
-        return fault.code, fault.read().decode()
+    end = time.monotonic() + 30
+    while True:
+        try:
+            with urllib.request.urlopen(request, timeout=10) as response:
+                return response.status, response.read().decode()
+        except urllib.error.HTTPError as fault:
+            return fault.code, fault.read().decode()
+        except urllib.error.URLError:  # the page comes a moment behind the answers of a service that is started
+            if time.monotonic() > end:
+                raise
+            time.sleep(0.1)
 
 
 def page(tally, federation):
@@ -154,11 +148,17 @@ def keys(tally, federation):
     found = set(re.findall(r"^;?([a-z_]+) =", text, re.M))
     named = {it.name for kind in (config.SiteKeys, config.ClientKeys, config.JobKeys, config.PageKeys, config.HouseKeys, config.PeerKeys) for it in dataclasses.fields(kind)}
     tally.same("every key stands there", found, named)
-    with_defaults = config_of(path, re.sub(r"^;(?!start|stop|folder|key|backup|operators|admins|hosts|elsewhere|history)", "", given, flags=re.M))
+    with_defaults = config_of(path, re.sub(r"^;(?!start|stop|folder|key|backup|operators|admins|hosts|link|cgroup|elsewhere|history)", "", given, flags=re.M))
     tally.same("the defaults are the defaults", with_defaults, plain)
+    with open(f"{SERVICE}/node.conf.example", encoding="utf-8") as file:
+        text = file.read()
+    tally.same("and every key of a node", set(re.findall(r"^;?([a-z_]+) =", text, re.M)), {it.name for it in dataclasses.fields(node_keys.NodeKeys)})
+    with open(path, "w", encoding="utf-8") as file:
+        file.write(re.sub(r"^;(?!start|stop|cgroup)", "", text, flags=re.M))
+    tally.same("with its defaults", node_keys.read_node_keys(path), node_keys.NodeKeys())
     for wrong, told in (("[jobs]\nhots = a\n", "hots"), ("[job]\n", "job"), ("[page]\nport = x\n", "port"), ("[jobs]\nrun = 1\n", "drain"),
                         ("[peer lemont]\nfolder = /x\n", "key"), ("[house]\nevery = -1\n", "below 0"),
-                        ("[peer rome]\ncommand = x\n", "rome"), ("[peer lemont]\n", "command or folder"), ("[jobs]\nhosts = a b a\n", "twice"), ("x\n", "line")):
+                        ("[peer rome]\ncommand = x\n", "rome"), ("[peer lemont]\n", "command or folder"), ("[jobs]\nhosts = a b a\n", "twice"), ("[jobs]\nlink = x {host}\n", "hosts"), ("[jobs]\nhosts = a\nlink = x\n", "{host}"), ("[jobs]\ncount = 1\n", "count"), ("x\n", "line")):
         try:
             config_of(path, f"[site]\ndirectory = {site.home}/site\n{wrong}")
             tally.fail(f"{wrong!r} is taken")

@@ -2,6 +2,7 @@
 import os
 import time
 
+from service_moments import PORT, read_page
 from service_scenes import ME, OPERATOR, OTHER, as_user, is_root, read
 from service_sites import until
 
@@ -42,6 +43,12 @@ def signals(tally, federation):
     tally.same("one that is gone", argonne.utility("qsig", job)[:2], (1, "refused 3\n"))
     asleep = argonne.submit("exec sleep 300\n", "-l", "sites=argonne")
     until(lambda: argonne.jobs(asleep)[asleep]["begun"], 20, "another runs")
+    until(lambda: asleep in lemont.jobs() and lemont.jobs(asleep)[asleep]["begun"], 20, "lemont knows of it")
+    federation.cut("lemont", "argonne")
+    tally.same("it is deleted where its site doesn't hear it", lemont.utility("qdel", asleep)[:2], (0, "done\n"))
+    begun = lemont.jobs(asleep)[asleep]["begun"]
+    told = f"{asleep}: it was begun at argonne at second {begun['moment']}, and runs until {begun['end']} at the latest\n"
+    tally.true("why tells where it runs", lemont.utility("qask", "why", asleep, "0")[2].startswith(f"qask: {told}"))
     until(lambda: argonne.utility("qsig", "-s", "KILL", asleep)[0] == 0, 10, "it is killed")
     tally.same("with the status of that", argonne.finished(asleep), 137)
 
@@ -120,4 +127,32 @@ def choices(tally, federation):
     tally.same("nothing else was changed", [job["letter"] for job in site.jobs().values()], ["Q", "Q", "H", "Q", "H", None])
 
 
-SCENES = {it.__name__: it for it in (signals, messages, choices)}
+def unheard(tally, federation):
+    """Who deletes or holds a job of a site that can't be reached is told so, and so is who asks why."""
+    federation.has_links = True
+    argonne, lemont = federation.make("argonne:1", "lemont:1", jobs="run = no", pages={"lemont": PORT})
+    held, deleted, heard = (argonne.submit("true\n") for _ in range(3))
+    until(lambda: heard in lemont.jobs(), 20, "lemont knows of them")
+    tally.same("where it is reached nothing is told", lemont.utility("qhold", heard), (0, "done\n", ""))
+    until(lambda: argonne.jobs(heard)[heard]["holds"], 20, "it hears of it")
+    until(lambda: lemont.utility("qask", "why", heard, "0")[2] == "", 20, "lemont is told that it has")
+    federation.cut("lemont", "argonne")
+    lemont.submit("true\n")
+    until(lambda: "argonne: " in lemont.logged(), 20, "it isn't reached")
+    for utility, job in (("qhold", held), ("qdel", deleted)):
+        told = f"{job}: its origin argonne hasn't heard of it yet, so that it may still run there\n"
+        tally.same(utility, lemont.utility(utility, job), (0, "done\n", f"{utility}: {told}"))
+        tally.same("why", lemont.utility("qask", "why", job, "0")[2], f"qask: {told}")
+        tally.true("its page", "hasn&#x27;t heard of it yet" in read_page(f"/jobs/{job}")[1])
+    tally.true("the page of the queue", "hasn&#x27;t heard of it yet" in read_page("/")[1])
+    tally.same("of one that it has heard of nothing is told", lemont.utility("qask", "why", heard, "0")[2], "")
+    lemont.kill()
+    lemont.start()
+    lemont.wait_ready()
+    tally.true("a restart keeps it", "hasn't heard" in lemont.utility("qask", "why", held, "0")[2])
+    federation.join("lemont", "argonne")
+    until(lambda: lemont.utility("qask", "why", held, "0")[2] == "", 30, "it is heard")
+    tally.same("then the job is held there", argonne.jobs(held)[held]["holds"], ["u"])
+
+
+SCENES = {it.__name__: it for it in (signals, messages, choices, unheard)}

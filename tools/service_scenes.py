@@ -300,7 +300,7 @@ def restored(tally, federation):
     tally.same("it ran once", read(ran), f"{job}\n")
     site.kill(signal.SIGTERM)
     shutil.copy(f"{federation.folder}/old", f"{site.home}/site/journal")
-    os.remove(f"{site.home}/spool/runs/{job}/exit")
+    without_end(f"{site.home}/spool/begun/{job}")
     site.start()
     site.wait_ready()
     tally.same("or as lost, where that isn't known", site.finished(job), 255)
@@ -314,6 +314,14 @@ def restored(tally, federation):
     other = site.submit(f"echo other >> {ran}; exit 5\n")
     tally.same("another job may get the name", other, job)
     tally.same("and runs", site.finished(other), 5)
+
+
+def without_end(path):
+    """Has a record of a job's start tell nothing of its end, as where the service was killed before that."""
+    record, ended = read(path).splitlines(True)
+    assert json.loads(ended)["exit"]
+    with open(path, "w", encoding="ascii") as file:
+        file.write(record)
 
 
 def folders(tally, federation):

@@ -3,6 +3,7 @@ import json
 import os
 import random
 import signal
+import socket
 import subprocess
 import sys
 import time
@@ -14,7 +15,7 @@ SERVICE = f"{TOP}/service"
 PYTHON = [os.environ["NETTLEBEAM_PYTHON"], "-IS"] if "NETTLEBEAM_PYTHON" in os.environ else []
 sys.path.insert(0, SERVICE)
 
-from nettlebeam_service import accounting, config, seal  # noqa: E402
+from nettlebeam_service import accounting, config, node_keys, seal  # noqa: E402
 from nettlebeam_service.ask import Told, Unasked, ask  # noqa: E402
 from nettlebeam_service.processes import stat_of  # noqa: E402
 
@@ -37,7 +38,7 @@ operators = {operators}
 admins = {admins}
 [jobs]
 every = 1
-grace = 2
+grace = 5
 elsewhere = {folder}
 {jobs}
 """
@@ -66,6 +67,40 @@ def until(holds, seconds, what):
         if time.monotonic() > end:
             raise NoEnd(f"after {seconds} s not: {what}")
         time.sleep(0.05)
+
+
+def free_port():
+    """A port of the loopback that nobody has, of those that no connection gets by itself."""
+    while True:
+        port = random.randrange(20_000, 32_000)
+        with socket.socket() as found:
+            try:
+                found.bind(("127.0.0.1", port))
+                return port
+            except OSError:
+                continue
+
+
+KINDS = ("runner_server", "nettlebeamd", "service_relay", "nettlebeam-node", "nettlebeam-peer", "link", "serve", "compact")
+
+
+def kind_of(pid):
+    """What kind of process of the service this is: a runner by the name that it gives itself, others by their words; nothing
+    where it has gone."""
+    try:
+        with open(f"/proc/{pid}/comm", encoding="utf-8", errors="replace") as file:
+            name = file.read()
+        with open(f"/proc/{pid}/cmdline", "rb") as file:
+            words = file.read().decode("utf-8", "replace")
+    except OSError:
+        return ""
+    return "runner" if name.startswith("run ") else next((it for it in KINDS if it in words), "other")
+
+
+def as_told(line):
+    """A line of accounting as the site told it, without what the job has used."""
+    front, mark, _ = line.partition(',"used":{')
+    return front + "}" if mark else line
 
 
 class ServedSite:
@@ -140,9 +175,9 @@ class ServedSite:
         """The answer to words, as a text."""
         return self.ask(*words).answer.decode()
 
-    def submit(self, script, *words, folder=None):
+    def submit(self, script, *words, folder=None, **facts):
         """Submits a script; its identifier. Unasked where none is told."""
-        facts = {"folder": folder or self.federation.folder, "umask": "022"}
+        facts = {"folder": folder or self.federation.folder, "umask": "022", **facts}
         told = self.ask("qsub", *words, body=script.encode(), facts=facts)
         if told.status:
             raise Unasked(told.words or told.answer.decode())
@@ -247,4 +282,4 @@ class ServedFederation:
                 pass
 
 
-__all__ = ["accounting", "seal", "NoEnd", "SERVICE", "ServedFederation", "ServedSite", "Told", "Unasked", "ask", "config", "stat_of", "until"]
+__all__ = ["accounting", "seal", "NoEnd", "SERVICE", "ServedFederation", "ServedSite", "TOP", "Told", "Unasked", "as_told", "ask", "config", "free_port", "kind_of", "node_keys", "stat_of", "until"]

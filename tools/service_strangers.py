@@ -140,6 +140,15 @@ def besiege(path):
     return found
 
 
+def take_places(path, count):
+    """Takes so many places at a socket and keeps them, once a line is printed, until standard input ends."""
+    streams = [connect(path) for _ in range(count)]
+    print("ready", flush=True)
+    sys.stdin.read()
+    for stream in streams:
+        stream.close()
+
+
 def heavy_strangers(tally, federation):
     """Too much, too slowly, and never read, by another user."""
     (site,) = federation.make("argonne:4", jobs="run = no", more="[clients]\nseconds = 3\nscript_bytes = 1000000\n")

@@ -34,8 +34,8 @@ def played(sites, ask, script):
 
 
 def scripts(tally, sites):
-    """Each script of examples/, by `at` and by `serve`."""
-    for path in sorted(glob.glob(f"{TOP}/examples/*.script")):
+    """Each script of examples/ and examples/rows/, by `at` and by `serve`."""
+    for path in sorted(glob.glob(f"{TOP}/examples/*.script") + glob.glob(f"{TOP}/examples/rows/*.script")):
         with open(path) as script, open(path[: -len("script")] + "out") as out:
             text, wanted = script.read(), out.read()
         name = os.path.basename(path)
@@ -139,6 +139,7 @@ def utilities(tally, sites):
     """The six utilities as users call them."""
     sites.make(TWO)
     shutil.copytree(f"{TOP}/bin", f"{sites.folder}/bin")
+    os.symlink(f"{TOP}/service", f"{sites.folder}/service")
     os.symlink(sites.program, f"{sites.folder}/bin/nettlebeam")
     environment = {**os.environ, "NETTLEBEAM_DIR": f"{sites.folder}/argonne"}
 

@@ -142,6 +142,13 @@ def keeping(tally, sites):
         tally.same("which stays as it was", file.read(), journal)
     refused(tally, sites, "a folder that isn't there", "argonne", "nettlebeam: none/old: ", "--keep", "none/old")
     refused(tally, sites, "a disk without room for it", "argonne", "nettlebeam: older: ", "--keep", "older", preexec_fn=limited(FSIZE=1000))
+    tally.true("which leaves no file", not os.path.exists(f"{sites.folder}/older"))
+    refused(tally, sites, "the name of a new journal", "argonne", "nettlebeam: argonne/journal.new: ", "--keep", "argonne/journal.new")
+    tally.true("which isn't made", not os.path.exists(f"{sites.folder}/argonne/journal.new"))
+    os.mkdir(f"{sites.folder}/argonne/journal.new")
+    refused(tally, sites, "a copy of a journal that stays", "argonne", ": not compacted: ", "--keep", "older")
+    tally.true("which doesn't stay", not os.path.exists(f"{sites.folder}/older"))
+    os.rmdir(f"{sites.folder}/argonne/journal.new")
 
 
 def obstacles(tally, sites):

@@ -106,6 +106,23 @@ def tails(tally, sites):
             tally.same(f"tail {number}", file.read(), tail)
 
 
+def rotted_gate(tally, sites):
+    """A disk that fails a write and then gives a byte of the journal wrong, without room for a copy: nothing that was
+    answered is cut."""
+    shim = f"{sites.folder}/rot_gate.so"
+    source = os.path.join(os.path.dirname(os.path.abspath(__file__)), "rot_gate.c")
+    compiler = [os.environ.get("CC", "cc"), "-O2", "-shared", "-fPIC", "-o", shim, source, "-ldl"]
+    tally.same("the shim is compiled", subprocess.run(compiler, check=False).returncode, 0)
+    sites.make(TWO)
+    sites.run("serve", "argonne", text=b"ann qsub\n" * 8)
+    journal = sites.journal("argonne")
+    status, output, errors = sites.run("serve", "argonne", text=b"ann qsub\n", env={**os.environ, "LD_PRELOAD": shim})
+    tally.same("the line that wasn't kept", output, "not kept\n\n")
+    tally.same(f"the program ends: {errors!r}", (status, "No space left on device" in errors), (3, True))
+    tally.same("the journal", sites.journal("argonne"), journal)
+    tally.same("goes on", sites.run("at", "argonne", "ann", "qsub"), (0, "9.argonne\n", ""))
+
+
 def full_disk(tally, sites):
     """A disk without room: what keeps nothing is answered, and `serve` goes on."""
     try:
@@ -219,4 +236,4 @@ def many(tally, sites):
     tally.same("check behind 100 kills", sites.run("check", "lemont")[0], 0)
 
 
-SCENES = {it.__name__: it for it in (faults, init, streams, tails, full_disk, long_lines, large_packet, at_once, many)}
+SCENES = {it.__name__: it for it in (faults, init, streams, tails, rotted_gate, full_disk, long_lines, large_packet, at_once, many)}

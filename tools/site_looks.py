@@ -68,6 +68,26 @@ CHART = [
     ("start", "5.argonne: start, nodes 3, from 0 to 1000", "5.argonne"),
     ("start", "7.argonne: start, nodes 1, from 0 to 100", "7.argonne"),
 ]
+# 3700 seconds are 900 pixels, and 10 nodes are 400: job 5 ends last and lies at the bottom, and the head lies above it
+DRAWN = [
+    "<text x='60' y='24' font-size='16'>argonne: nodes 10, from second 0 on</text>",
+    "<text x='285' y='462' class='middle'>925</text>",
+    "<text x='960' y='462' class='middle'>3700</text>",
+    "5.argonne: start, nodes 3, from 0 to 1000</title><rect x='60' y='320' width='243' height='120'/>",
+    "7.argonne: start, nodes 1, from 0 to 100</title><rect x='60' y='280' width='24' height='40'/>",
+    "1.argonne: running, nodes 6, from 0 to 100</title><rect x='60' y='40' width='24' height='240'/>",
+    "<text x='72' y='160' font-size='14' transform='rotate(-90 72 160)'>1.argonne</text>",
+    "4.argonne: head, nodes 7, from 100 to 3700</title><rect x='84' y='40' width='876' height='280'/>",
+    "<text x='522' y='180' font-size='14' transform='rotate(0 522 180)'>4.argonne</text>",
+    "<line x1='60' y1='40' x2='960' y2='40' class='nodes'/><text x='54' y='40' class='end'>10</text>",
+]
+# charts of the moments before a reservation, during it and behind it, and of reservations of more than the machine has
+RESERVED_CHARTS = [
+    ("reservation", 0, ["2.argonne: start, nodes 2, from 0 to 50", "3.argonne: head, nodes 2, from 60 to 111", "1.argonne: reservation, nodes 8, from 50 to 60"]),
+    ("reservation", 55, ["2.argonne: head, nodes 2, from 60 to 110", "1.argonne: reservation, nodes 8, from 55 to 60"]),
+    ("reservation", 60, ["3.argonne: start, nodes 2, from 60 to 111", "2.argonne: start, nodes 2, from 60 to 110"]),
+    ("reserved", 40, ["1.argonne: reservation, nodes 8, from 50 to 60", "2.argonne: reservation, nodes 8, from 55 to 70", "3.argonne: reservation, nodes 8, from 60 to 70"]),
+]
 RUNNING = {
     "account": "", "begun": {"end": 100, "moment": 0, "nodes": 6, "site": "argonne"}, "deleted": False, "finished": None,
     "grant": {"site": "argonne", "term": 1}, "holds": [], "id": "1.argonne", "letter": "R", "limit": 100, "name": "STDIN",
@@ -81,6 +101,21 @@ def lines_before_a_plan(name):
         lines = [line.split() for line in script if not line.startswith("#")]
     ends = [line[1] for line in lines].index("plan")
     return lines[0][1:], [line[1:] for line in lines[1:ends]]
+
+
+def charts(tally, sites):
+    """Where the boxes of charts lie."""
+    drawn = sites.at("extra_nodes", ["chart", "0"])
+    tally.same("what is drawn", [part for part in DRAWN if part not in drawn], [])
+    sites.run("init", "reserved", "argonne", "argonne:8")
+    for start, end in ((50, 60), (55, 70), (60, 70)):
+        sites.at("reserved", f"oz/operator reserve argonne {start} {end} 8".split())
+    for name, moment, titles in RESERVED_CHARTS:
+        drawn = sites.at(name, ["chart", str(moment)])
+        found = [box.findtext("{*}title") for box in ElementTree.fromstring(drawn).iter() if box.findtext("{*}title")]
+        tally.same(f"{name}: the boxes at {moment}", found, titles)
+    # 24 nodes are 400 pixels, of which those of the machine are a third
+    tally.true("the nodes of the machine", "<line x1='60' y1='307' x2='960' y2='307' class='nodes'/>" in drawn)
 
 
 def looks(tally, sites):
@@ -99,6 +134,7 @@ def looks(tally, sites):
     chart = ElementTree.fromstring(sites.at("extra_nodes", ["chart", "0"]))
     boxes = [(box.get("class"), box.findtext("{*}title"), box.findtext("{*}text")) for box in chart.iter() if box.findtext("{*}title")]
     tally.same("the boxes of a chart", sorted(boxes), CHART)
+    charts(tally, sites)
     sites.at("reservation", ["oz/operator", "cancel", "1"])
     tally.same("behind a cancel", [sites.at("reservation", line.split()) for line in ("reservations", "why 3 0")], ["", "starts\n"])
     named = sites.at("backfill", ["jobs", "1", "9"])
