@@ -10,7 +10,7 @@ import urllib.request
 
 from service_scenes import OPERATOR, OTHER, as_user, is_root, read
 from service_sites import until
-from nettlebeam_service.folder import FolderLink
+from nettlebeam_service.peers.folder_link import FolderLink
 
 
 def grants_fit(tally, federation):

@@ -13,7 +13,7 @@ import urllib.error
 import urllib.request
 from xml.etree import ElementTree
 
-from service_sites import SERVICE, Unasked, config, free_port, kind_of, node_keys, until
+from service_sites import SERVICE, Unasked, config, free_port, kind_of, settings, until
 
 KILLS = 60
 PORT = free_port()
@@ -152,10 +152,10 @@ def keys(tally, federation):
     tally.same("the defaults are the defaults", with_defaults, plain)
     with open(f"{SERVICE}/node.conf.example", encoding="utf-8") as file:
         text = file.read()
-    tally.same("and every key of a node", set(re.findall(r"^;?([a-z_]+) =", text, re.M)), {it.name for it in dataclasses.fields(node_keys.NodeKeys)})
+    tally.same("and every key of a node", set(re.findall(r"^;?([a-z_]+) =", text, re.M)), {it.name for it in dataclasses.fields(settings.NodeKeys)})
     with open(path, "w", encoding="utf-8") as file:
         file.write(re.sub(r"^;(?!start|stop|cgroup)", "", text, flags=re.M))
-    tally.same("with its defaults", node_keys.read_node_keys(path), node_keys.NodeKeys())
+    tally.same("with its defaults", settings.read_node_keys(path), settings.NodeKeys())
     for wrong, told in (("[jobs]\nhots = a\n", "hots"), ("[job]\n", "job"), ("[page]\nport = x\n", "port"), ("[jobs]\nrun = 1\n", "drain"),
                         ("[peer lemont]\nfolder = /x\n", "key"), ("[house]\nevery = -1\n", "below 0"),
                         ("[peer rome]\ncommand = x\n", "rome"), ("[peer lemont]\n", "command or folder"), ("[jobs]\nhosts = a b a\n", "twice"), ("[jobs]\nlink = x {host}\n", "hosts"), ("[jobs]\nhosts = a\nlink = x\n", "{host}"), ("[jobs]\ncount = 1\n", "count"), ("x\n", "line")):

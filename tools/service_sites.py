@@ -15,9 +15,12 @@ SERVICE = f"{TOP}/service"
 PYTHON = [os.environ["NETTLEBEAM_PYTHON"], "-IS"] if "NETTLEBEAM_PYTHON" in os.environ else []
 sys.path.insert(0, SERVICE)
 
-from nettlebeam_service import accounting, config, node_keys, seal  # noqa: E402
-from nettlebeam_service.ask import Told, Unasked, ask  # noqa: E402
-from nettlebeam_service.processes import stat_of  # noqa: E402
+from nettlebeam_service.common import config  # noqa: E402
+from nettlebeam_service.common.ask import Told, Unasked, ask  # noqa: E402
+from nettlebeam_service.common.processes import stat_of  # noqa: E402
+from nettlebeam_service.housekeeping import accounting  # noqa: E402
+from nettlebeam_service.node import settings  # noqa: E402
+from nettlebeam_service.peers import seal  # noqa: E402
 
 LINK = """\
 #!/bin/sh
@@ -282,4 +285,4 @@ class ServedFederation:
                 pass
 
 
-__all__ = ["accounting", "seal", "NoEnd", "SERVICE", "ServedFederation", "ServedSite", "TOP", "Told", "Unasked", "as_told", "ask", "config", "free_port", "kind_of", "node_keys", "stat_of", "until"]
+__all__ = ["accounting", "seal", "NoEnd", "SERVICE", "ServedFederation", "ServedSite", "TOP", "Told", "Unasked", "as_told", "ask", "config", "free_port", "kind_of", "settings", "stat_of", "until"]

@@ -40,7 +40,7 @@ def start_installed(federation, site, prefix):
 def updates(tally, federation):
     """While another version is installed again and again utilities answer, and a service that runs starts jobs by its own modules."""
     prefix = f"{federation.folder}/prefix"
-    first, other = archive(federation, "first"), archive(federation, "other", runner_server=LATER)
+    first, other = archive(federation, "first"), archive(federation, "other", **{"node/runner_server": LATER})
     subprocess.run([first, prefix], check=True, capture_output=True)
     (site,) = federation.make("argonne:4")
     site.kill(signal.SIGTERM)

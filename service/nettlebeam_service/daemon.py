@@ -11,34 +11,35 @@ import time
 from dataclasses import replace
 from typing import Any, List, Optional
 
-from .backup import Backup
-from .checking import faults, notes
-from .clients import Clients, listen
-from .compacting import Compacting
-from .config import Config, ConfigFault, read_config
-from .hearing import Hearing
-from .filling import Filling
-from .fitting import Fitting
-from .house import House
-from .memory import Memory
-from .metrics import Metrics
-from .nodes import Nodes
-from .page import Page
-from .peers import Peers
-from .processes import allow_many_files
-from .requests import Requests
-from .running import Running
-from .runs import Runs
-from .scheduler import Scheduler
-from .silence import for_somebody
-from .shares import Shares
-from .site import Site
-from .spool import Spool
-from .starts import Starts
-from .told_nodes import ToldNodes
-from .unheard import Unheard
-from .users import Users
-from .waits import Waits
+from .clients.clients import Clients, listen
+from .clients.node_requests import NodeRequests
+from .clients.requests import Requests
+from .clients.signals import Signals
+from .clients.user_limits import UserLimits
+from .clients.users import Users
+from .common.config import Config, ConfigFault, read_config
+from .common.processes import allow_many_files
+from .config_check import faults, notes
+from .housekeeping.capacity import Capacity
+from .housekeeping.compacting import Compacting
+from .housekeeping.daily import Housekeeping
+from .jobs.active_runs import Runs
+from .jobs.node_reports import NodeReports
+from .jobs.scheduler import Scheduler
+from .jobs.starting import Starts
+from .nodes.nodes import Nodes
+from .page.metrics import Metrics
+from .page.page import Page
+from .peers.eligibility import Eligibility
+from .peers.peers import Peers
+from .peers.unheard_changes import Unheard
+from .site.backup import Backup
+from .site.exchange import Exchange
+from .site.lost_state import LostState
+from .site.site import Site
+from .site.spool import Spool
+from .site.unanswered import for_somebody
+from .waits.waits import Waits
 
 FIRST_INHERITED = 3
 MOST_WAITING = 128  # clients that aren't served yet
@@ -106,40 +107,41 @@ class Service:
         self.config = config
         keys = config.site
         self.spool = Spool(keys.spool, keys.free_bytes)
-        self.memory = Memory(keys.spool, log)
-        self.site = Site(keys.program, keys.directory, list(config.roster), keys.free_bytes, self.memory, log)
+        self.lost_state = LostState(keys.spool, log)
+        self.site = Site(keys.program, keys.directory, list(config.roster), keys.free_bytes, self.lost_state, log)
         self.backup = Backup(keys.backup, keys.backup_seconds, os.path.join(keys.spool, "backup.lock"), keys.program, log)
         self.nodes = Nodes(config.jobs, keys.spool, log, self.changed)
         self.runs = Runs(config.jobs, self.site, self.spool, self.nodes, log, self.changed)
-        hearing = Hearing(self.nodes, self.runs, self.spool, log)
-        starts = Starts(self.spool, self.backup, self.runs, hearing, log)
-        running = Running(config.name, self.site, self.runs)
-        told = ToldNodes(self.nodes, self.runs, log)
+        node_reports = NodeReports(self.nodes, self.runs, self.spool, log)
+        starts = Starts(self.spool, self.backup, self.runs, node_reports, log)
+        signals = Signals(config.name, self.site, self.runs)
+        told = NodeRequests(self.nodes, self.runs, log)
         compacting = Compacting(config.house, self.site, self.backup, log)
         self.waits = Waits(config, self.site, self.spool, self.runs, log, self.changed)
         self.unheard = Unheard(config.name, self.site, keys.spool, log)
-        self.shares = Shares(config.name, config.clients, self.site, self.spool)
-        fitting = Fitting(config.name, config.roster, self.site)
-        parts = (self.site, self.spool, self.backup, running, compacting, told, self.waits, self.unheard, self.shares, fitting)
+        self.user_limits = UserLimits(config.name, config.clients, self.site, self.spool)
+        exchange = Exchange(self.site, self.spool, self.backup)
+        eligibility = Eligibility(config.name, config.roster, self.site)
+        parts = (self.site, self.spool, exchange, signals, compacting, told, self.waits, self.unheard, self.user_limits, eligibility)
         self.requests = Requests(*parts, self.changed)
         self.users = Users(config.site)
         self.clients = Clients(config.clients, self.users, self.requests, os.getuid(), log)
-        self.peers = Peers(config.name, config.peers, self.site, self.requests, log, self.changed)
+        self.peers = Peers(config.name, config.peers, self.site, exchange, eligibility, log, self.changed)
         self.unheard.is_silent = self.peers.is_silent
         self.scheduler = Scheduler(config, self.site, self.spool, self.backup, self.peers, self.nodes, self.runs, starts, log)
-        filling, needed = Filling(config.name, self.site, log), self.waits.groups.needed
+        capacity, needed = Capacity(config.name, self.site, log), self.waits.groups.needed
         self.waits.leave_alone(self.scheduler.begins.logged)
-        self.house = House(config.name, config.house, self.site, self.spool, compacting, filling, needed, log)
-        counting = self.scheduler.counting
-        metrics = Metrics(filling, self.spool, self.peers, self.backup, self.clients, lambda: counting.looked_at)
-        told_here = (filling, metrics, self.waits.reasons, self.unheard)
+        self.housekeeping = Housekeeping(config.name, config.house, self.site, self.spool, compacting, capacity, needed, log)
+        node_count = self.scheduler.node_count
+        metrics = Metrics(capacity, self.spool, self.peers, self.backup, self.clients, lambda: node_count.looked_at)
+        told_here = (capacity, metrics, self.waits.reasons, self.unheard)
         self.page = Page(config, self.site, self.backup, self.peers, self.runs, *told_here, log)
         self.stopping = asyncio.Event()
 
     def changed(self) -> None:
         """Something may have changed what starts here."""
         self.scheduler.wake()
-        self.waits.waiting.wake()
+        self.waits.releasing.wake()
 
     def reload(self) -> None:
         """Reads the configuration anew. What a running service can't change is told, and kept."""
@@ -155,7 +157,7 @@ class Service:
             log(f"a new {', '.join(fixed)} is used when the service starts anew")
         self.users.keys, self.users.known = config.site, {}
         self.clients.use(config.clients)
-        self.shares.keys = config.clients
+        self.user_limits.keys = config.clients
         self.page.config = replace(self.page.config, jobs=config.jobs)
         self.scheduler.use(config)
         self.waits.use(config)
@@ -167,7 +169,7 @@ class Service:
         if self.spool.open() is None:
             log(f"another service has the spool {self.spool.folder}")
             return 3
-        self.memory.look()
+        self.lost_state.look()
         self.nodes.open()
         self.waits.open()
         self.unheard.open()
@@ -187,10 +189,10 @@ class Service:
         parts: List["asyncio.Task[Any]"] = [asyncio.ensure_future(it) for it in self.peers.loops()]
         parts.append(asyncio.ensure_future(self.scheduler.run()))
         parts.append(asyncio.ensure_future(self.nodes.run()))
-        parts.append(asyncio.ensure_future(self.waits.waiting.run()))
+        parts.append(asyncio.ensure_future(self.waits.releasing.run()))
         parts.append(asyncio.ensure_future(tell_watchdog()))
         if self.config.house.every:
-            parts.append(asyncio.ensure_future(self.house.run()))
+            parts.append(asyncio.ensure_future(self.housekeeping.run()))
         if self.config.page.port:
             parts.append(asyncio.ensure_future(for_somebody(self.page.run())))
         notify("READY=1")

@@ -1,0 +1,1 @@
+"""The socket: who asks, what a request does, and how much one user may have."""

@@ -1,0 +1,78 @@
+"""What `nettlebeamd --check` finds beyond the form of a configuration: whether what it names is there for this account."""
+from __future__ import annotations
+
+import grp
+import os
+import re
+import shutil
+from typing import Dict, List, Sequence, Set
+
+from .common.config import Config
+from .peers.seal import BadSeal, read_key
+
+MARK = re.compile(r"\{[^{}]*\}")
+MARKS: Dict[str, Set[str]] = {"start": {"{user}", "{id}"}, "stop": {"{user}", "{id}", "{pid}", "{signal}"}, "link": {"{host}"}}
+
+
+def command_faults(key: str, words: Sequence[str]) -> List[str]:
+    """What is wrong with a command: its program isn't there."""
+    if not words or "{" in words[0] or shutil.which(words[0]):
+        return []
+    return [f"{key}: there is no program {words[0]}"]
+
+
+def mark_faults(key: str, words: Sequence[str]) -> List[str]:
+    """Marks that nothing is put in for."""
+    known = MARKS[key]
+    found = {mark for word in words for mark in MARK.findall(word)} - known
+    return [f"[jobs] {key}: nothing is put in for {mark}; there are {', '.join(sorted(known))}" for mark in sorted(found)]
+
+
+def group_faults(config: Config) -> List[str]:
+    """Groups that aren't there."""
+    found = []
+    for key, name in (("operators", config.site.operators), ("admins", config.site.admins)):
+        try:
+            if name:
+                grp.getgrnam(name)
+        except KeyError:
+            found.append(f"[site] {key} = {name}: there is no such group")
+    return found
+
+
+def key_faults(config: Config) -> List[str]:
+    """Keys of shared folders that can't be read."""
+    found = []
+    for name, peer in config.peers.items():
+        try:
+            if peer.key:
+                read_key(peer.key)
+        except OSError as fault:
+            found.append(f"[peer {name}] key = {peer.key}: {fault.strerror}")
+        except BadSeal as fault:
+            found.append(f"[peer {name}] {fault}")
+    return found
+
+
+def faults(config: Config) -> List[str]:
+    """All that is wrong."""
+    site, jobs = config.site, config.jobs
+    found = command_faults("[site] program", [site.program]) + command_faults("[site] backup", site.backup)
+    for key, words in (("start", jobs.start), ("stop", jobs.stop), ("link", jobs.link)):
+        found += command_faults(f"[jobs] {key}", words) + mark_faults(key, words)
+    found += command_faults("[jobs] mail", jobs.mail)
+    if not os.access(site.directory, os.R_OK | os.W_OK | os.X_OK):
+        found.append(f"[site] directory = {site.directory}: this account may not write there")
+    if os.path.exists(site.spool) and not os.access(site.spool, os.R_OK | os.W_OK | os.X_OK):
+        found.append(f"[site] spool = {site.spool}: this account may not write there")
+    return found + group_faults(config) + key_faults(config)
+
+
+def notes(config: Config) -> List[str]:
+    """What has to be made before the service starts."""
+    place = config.site.spool
+    while not os.path.exists(place):
+        place = os.path.dirname(place) or "."
+    if place == config.site.spool or os.access(place, os.W_OK | os.X_OK):
+        return []
+    return [f"[site] spool = {config.site.spool}: it isn't there yet, and this account may not make it in {place}"]

@@ -1,0 +1,1 @@
+"""What is done once a day and kept for long: accounting, usage, retiring, compacting."""

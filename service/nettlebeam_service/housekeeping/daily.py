@@ -1,0 +1,145 @@
+"""Housekeeping, at the start and once a day: jobs that are gone are recorded, the grants of those that were deleted before
+they began are declined, their files in the spool removed, those that were recorded long ago are retired, and the journal is
+compacted."""
+from __future__ import annotations
+
+import asyncio
+import json
+import math
+import time
+from typing import Callable, Dict, Iterable, Sequence, Set
+
+from ..common.config import HouseKeys
+from ..site.job_queries import Job, is_granted_to, origin_of
+from ..site.site import Site, Stopped
+from ..site.spool import Spool
+from .accounting import Accounting
+from .capacity import Capacity
+from .compacting import Compacting
+from .retiring import oldest, ranges_to_retire, standing_in
+
+FIRST_SECONDS = 2
+RETRY_SECONDS = 60
+LOOK_SECONDS = 60
+
+
+class Housekeeping:
+    """Keeps house for one site."""
+
+    def __init__(
+        self,
+        name: str,
+        keys: HouseKeys,
+        site: Site,
+        spool: Spool,
+        compacting: Compacting,
+        capacity: Capacity,
+        needed: Callable[[], Set[str]],
+        log: Callable[[str], None],
+    ):
+        self.name = name
+        self.keys = keys
+        self.site = site
+        self.spool = spool
+        self.compacting = compacting
+        self.capacity = capacity
+        self.needed = needed  # the jobs that others wait for
+        self.log = log
+        self.accounting = Accounting(keys.accounting, name)
+
+    async def run(self) -> None:
+        """Keeps house again and again."""
+        pause: float = min(FIRST_SECONDS, self.keys.every)
+        while True:
+            try:
+                await self.rest(pause)
+                await self.keep()
+                pause = self.keys.every
+            except Stopped:
+                await self.site.ready.wait()
+                pause = FIRST_SECONDS
+            except Exception as fault:  # whatever goes wrong once, it is done again
+                self.log(f"the house is kept later: {fault!r}")
+                pause = min(RETRY_SECONDS, self.keys.every)
+
+    async def rest(self, seconds: float) -> None:
+        """Waits so long, or until the site is so full that what is gone is retired early."""
+        end = time.monotonic() + seconds
+        while end > time.monotonic():
+            await asyncio.sleep(min(LOOK_SECONDS, end - time.monotonic()))
+            if self.may_retire() and await self.capacity.is_high():
+                return
+
+    async def keep(self) -> None:
+        """Keeps house once."""
+        # what is in the spool before the site is asked is of jobs that it knows, unless it has lost or retired them
+        names = await asyncio.to_thread(self.spool.names_kept)
+        last = await self.capacity.last()  # so that each job of this site up to there is among those told next
+        lines = (await self.site.ask("jobs")).text.splitlines()
+        if self.keys.accounting and not self.site.lost_state.loss:
+            count = await asyncio.to_thread(self.accounting.record, lines, self.completed, self.submitted)
+            if count:
+                self.log(f"{count} jobs that are gone are recorded in {self.keys.accounting}")
+        jobs = [json.loads(line) for line in lines]
+        self.capacity.note(jobs, last)
+        await self.decline(jobs)
+        removed = await asyncio.to_thread(self.clear, names, lines)
+        if removed:
+            self.log(f"the files of {removed} jobs that are gone are removed from the spool")
+        if self.may_retire():
+            await self.retire(last, jobs)
+        await self.compacting.keep()
+
+    def submitted(self, name: str) -> str:
+        """The second in which a job was submitted, as far as it is known here."""
+        second = str((self.spool.facts(name) or {}).get("ctime", ""))
+        return second if second.isascii() and second.isdigit() else ""
+
+    def completed(self, name: str, line: str) -> str:
+        """The line of a job with what the site doesn't tell: why the service deleted it, and what it used."""
+        comment = (self.spool.facts(name) or {}).get("comment")
+        used = self.spool.used(name) if json.loads(line)["finished"] else None
+        more = {key: value for key, value in (("comment", comment), ("used", used)) if value}
+        return f'{line[:-1]},{json.dumps(more, separators=(",", ":"))[1:]}' if more else line
+
+    def may_retire(self) -> bool:
+        """Whether something is retired now. Nothing is that isn't recorded."""
+        return bool(self.keys.retire and self.keys.accounting) and not self.site.lost_state.loss
+
+    async def retire(self, last: int, jobs: Sequence[Job]) -> None:
+        """Retires the jobs of this site up to this counter that were recorded long enough ago; of a site that is nearly full
+        also the oldest of the others that are recorded."""
+        mine, needed = [job for job in jobs if origin_of(job["id"]) == self.name], self.needed()
+        may_leave = self.accounting.recorded_before(mine, time.time() - self.keys.retire) - needed
+        lacking = self.capacity.surplus() - len(may_leave)
+        if lacking > 0:
+            recorded = self.accounting.recorded_before(mine, time.time()) - needed - may_leave
+            may_leave |= set(oldest(recorded, self.accounting.known)[:lacking])
+        standing = standing_in((await self.site.ask("reservations")).text)
+        count = 0
+        for first, end, its in ranges_to_retire(self.name, last, jobs, standing, may_leave):
+            answer = (await self.site.ask(f"retire {first} {end}")).text.strip()
+            if answer == "done":
+                count += its
+            else:
+                self.log(f"{self.name}: retire {first} {end} is answered {answer}")
+        if count:
+            self.log(f"{count} jobs of {self.name} that are recorded are retired")
+
+    async def decline(self, jobs: Iterable[Job]) -> None:
+        """Declines the grants of jobs that were deleted before they began: their origins can't tell else that such a job never
+        begins."""
+        for job in jobs:
+            if job["deleted"] and not job["begun"] and is_granted_to(job, self.name):
+                answer = (await self.site.ask(f"decline {job['id']}")).text.strip()
+                self.log(f"{job['id']}: it was deleted before it began, so its grant is declined: {answer}")
+
+    def clear(self, names: Sequence[str], lines: Sequence[str]) -> int:
+        """Removes the scripts and the runs of jobs that are gone for long enough; of how many."""
+        since: Dict[str, float] = {}
+        for line in lines:
+            job = json.loads(line)
+            is_gone = job["letter"] is None
+            since[job["id"]] = math.inf if not is_gone else job["finished"]["moment"] if job["finished"] else 0.0
+        before = time.time() - self.keys.keep
+        return sum(self.spool.forget(name, before) for name in names if since.get(name, 0.0) <= before)

@@ -1,0 +1,1 @@
+"""Jobs from the plan to their end: grants, begins, starts, and the runs on their nodes."""

@@ -1,0 +1,132 @@
+"""Starts of runs: a run is prepared by its node, begun at the site, and started once.
+
+A job's script is started only by the process that was itself answered `done` when it asked the site to begin the job, by the nonce
+that the job's node gave for that, which the node takes once. Any other process takes the nonce away before it says anything of
+the job. So where a node answers `dropped` nothing of the job ran or will run there, and that one process may ask for another nonce.
+"""
+from __future__ import annotations
+
+import asyncio
+import math
+from typing import Any, Callable, Dict
+
+from ..node.store import boot_time
+from ..nodes.link import NodeFault
+from ..nodes.node import OWN
+from ..site.backup import Backup
+from ..site.spool import Spool
+from .active_runs import Runs
+from .node_reports import NodeReports
+from .run_record import Run, lost
+
+MOST_TRIES = 3  # of a start that a node answers to be late
+FRESH_SECONDS = 30.0  # after so many a nonce is asked for anew before it is used
+RETRY_SECONDS = 5.0
+
+
+class Starts:
+    """Has nodes prepare and start runs."""
+
+    def __init__(self, spool: Spool, backup: Backup, runs: Runs, node_reports: NodeReports, log: Callable[[str], None]):
+        self.spool = spool
+        self.backup = backup
+        self.runs = runs
+        self.node_reports = node_reports
+        self.log = log
+        runs.take_back, runs.start_again = self.take_back, self.start_again
+
+    async def prepare(self, run: Run, order: Dict[str, Any], script: bytes) -> str:
+        """Asks the home node of a run to prepare it: `ready`, or why it can't."""
+        run.order = {**order, "hosts": run.hosts, "alone": run.node.name != OWN}
+        run.limit = order["limit"]
+        answer = await run.node.ask({"ask": "prepare", "id": run.job, "order": run.order}, script)
+        if answer["answer"] == "ready":
+            run.nonce, run.grace, run.node_boot, run.prepared = answer["nonce"], answer["grace"], answer["boot"], boot_time()
+        elif answer["answer"] == "busy" and run.node.name != OWN:
+            self.node_reports.haunt(run.node, answer["by"])
+        elif answer["answer"] == "no room":
+            run.node.fail(f"it has no room: {answer['why']}")
+        return str(answer["answer"])
+
+    def release(self, run: Run) -> None:
+        """Gives up a run that wasn't begun."""
+        if self.runs.all.get(run.job) is run:
+            del self.runs.all[run.job]
+        if run.nonce:
+            self.runs.spawn(self.runs.ask_aside(run.node, {"ask": "drop", "id": run.job, "nonce": run.nonce}))
+
+    def give_up(self, job: str) -> None:
+        """A job has begun that isn't started: what is known of it, as of one that an earlier service started, tells its end."""
+        self.runs.starting.discard(job)
+        self.runs.all[job] = self.runs.known(job)
+        self.runs.spawn(self.runs.look(self.runs.all[job]))
+
+    # Starts
+
+    async def start(self, run: Run) -> None:
+        """Starts a job that the site has begun.
+
+        A backup that doesn't know of the begin would have the job begun anew: as a packet, a start waits for a newer one.
+        """
+        try:
+            await self.backup.insist()
+            answer = await self.try_start(run)
+            if answer == "started":
+                self.log(f"{run.job}: started on {len(run.hosts)} nodes" + (f", at {run.node.name}" if run.node.name else ""))
+            else:
+                self.log(f"{run.job}: {run.node.shown} doesn't start it: {answer}")
+                await asyncio.sleep(0 if run.is_sent else RETRY_SECONDS)
+        except NodeFault as fault:
+            self.runs.doubt_of(run, str(fault))
+        except OSError as fault:
+            self.log(f"{run.job}: its start is tried again, since what is to be known of it can't be kept: {fault}")
+            await asyncio.sleep(RETRY_SECONDS)
+        finally:
+            run.touched = boot_time()
+            self.runs.starting.discard(run.job)
+            await self.runs.look(run)  # which also hears of an end that was told meanwhile
+
+    async def try_start(self, run: Run) -> str:
+        """Has the node start a run. A nonce that is too old is replaced, which only this process may do, and only where the
+        node hasn't used it."""
+        script = b""
+        for number in range(MOST_TRIES):
+            if number or boot_time() - run.prepared > FRESH_SECONDS:
+                script = script or self.spool.stored(run.job).partition(b"\n")[2]
+                answer = await self.prepare(run, run.order, script)
+                if answer != "ready":
+                    return answer
+                await asyncio.to_thread(self.spool.keep_records, {run.job: run.record()})
+            run.is_sent = True
+            answer = (await run.node.ask({"ask": "start", "id": run.job, "nonce": run.nonce}))["answer"]
+            if answer not in ("late", "busy"):
+                break
+            run.is_sent = False
+        return str(answer)
+
+    async def start_again(self, run: Run) -> None:
+        """Has a run started by another nonce, since none of its nonces was used."""
+        self.log(f"{run.job}: its start didn't reach {run.node.shown}, so it is sent again")
+        run.prepared = -math.inf  # it needs another nonce
+        await self.start(run)
+
+    async def take_back(self, run: Run) -> None:
+        """Takes the nonce of a run away that isn't started. A start that is on its way may come before."""
+        try:
+            answer = await run.node.ask({"ask": "drop", "id": run.job, "nonce": run.nonce})
+        except NodeFault as fault:
+            self.runs.doubt_of(run, str(fault))
+            return
+        finally:
+            self.runs.taking.discard(run.job)
+        if answer["answer"] != "dropped":
+            return
+        # what another run of its machine has kept doesn't tell whether the nonce was used
+        run.is_sent = run.is_sent and answer["boot"] != run.node_boot
+        if run.may_start_again():
+            self.runs.starting.add(run.job)
+            await self.start_again(run)
+        else:
+            self.log(f"{run.job}: its start didn't reach {run.node.shown}, so it is never started")
+            run.exit = lost()
+            await self.runs.settle(run)

@@ -1,0 +1,127 @@
+"""The utilities as users call them: qsub, qalter, qhold, qrls, qdel and qstat, `qask` for the rest, and MORE and those of Slurm,
+which are in other modules.
+
+Each loads what it needs alone, since a user waits for that at each call.
+"""
+from __future__ import annotations
+
+import os
+import sys
+
+from ..common.ask import Told, Unasked, ask, find_socket
+from ..words.options import Fault, in_order, parse_anywhere
+
+TYPE_CHECKING = False
+if TYPE_CHECKING:
+    from typing import List, Optional
+
+MORE = ("qselect", "qsig", "qmsg", "qmove", "qrerun", "pbsnodes")
+OF_SLURM = ("sbatch", "squeue", "scancel", "sinfo")
+# the number of a refusal is in the answer already
+KINDS = ("refused ", "usage ")
+PROGRAM = "nettlebeam: "
+QUEUE = "batch"
+LINES_IN_FULL = 12
+VERSION = "pbs_version = nettlebeam"
+NO_SITE = "NETTLEBEAM_SOCKET isn't set, and this machine hasn't one service of a site"
+
+
+def words_of(line: str) -> str:
+    """A line of complaints without the number of the refusal."""
+    text = line[len(PROGRAM) :] if line.startswith(PROGRAM) else line
+    number, mark, words = text.partition("): ")
+    return words if mark and text.startswith(KINDS) and number.split(" ")[1].isdigit() else line
+
+
+def alter(path: str, words: List[str], role: Optional[str]) -> Told:
+    """`qalter`: the values of the site, and what the service has a job wait for."""
+    from .altering import alter as alter_all
+
+    return alter_all(path, words, role)
+
+
+def list_jobs(path: str, words: List[str], role: Optional[str]) -> Told:
+    """`qstat`: the site's own listings where POSIX's options are given, and those of PBS else."""
+    options, operands = parse_anywhere("qstat", words)
+    is_queue = any("@" in operand or operand == QUEUE for operand in operands)
+    if any(letter != "f" for letter, _ in options) or is_queue:
+        from .listing import qstat
+
+        return qstat(path, words, role)
+    is_array = any("[" in operand for operand in operands)
+    told = Told(0, b"", "") if is_array else ask(path, ["qstat", *in_order("qstat", words)], role)
+    lines = LINES_IN_FULL if options else 1
+    if told.status or not operands or (not is_array and told.answer.count(b"\n") >= lines * len(operands)):
+        return told
+    from .listing import known
+
+    return known(path, [f"-{letter}" for letter, _ in options], operands, role)
+
+
+def change(path: str, utility: str, words: List[str], role: Optional[str]) -> Told:
+    """`qdel`, `qhold` and `qrls`: the site's answer."""
+    words = in_order(utility, words)
+    if utility == "qdel" and words and words[0].startswith("-"):
+        from .altering import without_options
+
+        words, said = without_options(words)
+    else:
+        said = []
+    told = ask(path, [utility, *words], role)
+    told.words = "\n".join(filter(None, (*said, told.words)))
+    return told
+
+
+def run(utility: str, words: List[str], path: Optional[str]) -> Told:
+    """Asks for what the user typed."""
+    role = os.environ.get("NETTLEBEAM_ROLE") or None
+    if words == ["--version"]:
+        return Told(0, f"{VERSION}\n".encode(), "")
+    if words == ["--help"]:
+        from .help_texts import usage_of
+
+        return Told(0, usage_of(utility).encode(), "")
+    if utility in MORE:
+        from .more_utilities import run as run_more
+
+        return run_more(utility, words, path, role)
+    if path is None:
+        raise Fault(NO_SITE)
+    if utility in OF_SLURM:
+        from .slurm import run as run_slurm
+
+        return run_slurm(utility, words, path, role)
+    if utility == "qask":
+        return ask(path, words, role)
+    if utility == "qsub":
+        from .submitting import submit
+
+        return submit(path, words, role)
+    if utility == "qstat":
+        told = list_jobs(path, words, role)
+    else:
+        told = alter(path, words, role) if utility == "qalter" else change(path, utility, words, role)
+    if told.status in (1, 2) and told.words:
+        from .complaints import explained_words
+
+        return explained_words(utility, words, told)
+    return told
+
+
+def main(utility: str, words: List[str]) -> int:
+    """A utility."""
+    try:
+        told = run(utility, words, find_socket())
+        sys.stdout.buffer.write(told.answer)
+        sys.stdout.buffer.flush()
+    except (Unasked, Fault) as fault:
+        print(f"{utility}: {fault}", file=sys.stderr)
+        return 3 if isinstance(fault, Unasked) else 2
+    except BrokenPipeError:
+        os.dup2(os.open(os.devnull, os.O_WRONLY), 1)  # who reads the listing has seen enough of it
+        return 0
+    except KeyboardInterrupt:
+        return 130
+    for line in told.words.splitlines():
+        print(f"{utility}: {words_of(line)}", file=sys.stderr)
+    return told.status

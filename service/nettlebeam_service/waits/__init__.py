@@ -1,0 +1,1 @@
+"""What jobs wait for, arrays, mail, and the listings of these."""

@@ -1,0 +1,120 @@
+"""The look `details`: jobs with what this service knows of them besides the site, for listings as PBS has them.
+
+`details now [JOB ..]` tells those that aren't gone, `details all ..` also those that are gone, as long as the site or the
+accounting has them, `details now,why ..` and `details all,why ..` also why each waits. Each is a line of JSON: what the look `jobs`
+tells, and under `more` the facts of its submission, its hosts, its place in an array and what it waits for. Variables, and the
+words of the submission, which may have some, are told to owners and operators alone.
+"""
+from __future__ import annotations
+
+import asyncio
+import json
+import re
+from typing import AbstractSet, Any, Dict, List, Optional, Sequence, Tuple
+
+from ..housekeeping.gone_jobs import recorded
+from ..jobs.active_runs import Runs
+from ..site.job_queries import Job, now
+from ..site.lines import JOB, Client, Denied, name_of
+from ..site.site import Site
+from ..site.spool import Spool
+from .groups import Groups
+
+KINDS = (["now"], ["all"], ["now", "why"], ["all", "why"])
+MOST_REASONS = 100
+LEFT_ALONE = "left alone, since nothing is run here as its owner"
+PRIVATE = ("arguments", "variables")
+ONE_JOB = re.compile(f"{JOB}\\Z")
+
+
+def read_jobs(text: str) -> Tuple[List[Job], Dict[str, str]]:
+    """The jobs of an answer, and the line of each."""
+    lines = [line for line in text.splitlines() if line.startswith("{")]
+    jobs = [json.loads(line) for line in lines]
+    return jobs, {job["id"]: line for job, line in zip(jobs, lines)}
+
+
+class Details:
+    """Answers the look."""
+
+    def __init__(self, here: str, site: Site, spool: Spool, groups: Groups, runs: Runs, accounting: str):
+        self.here = here
+        self.site = site
+        self.spool = spool
+        self.groups = groups
+        self.runs = runs
+        self.accounting = accounting
+        self.left_alone: AbstractSet[str] = frozenset()
+
+    async def answer(self, client: Client, words: Sequence[str], role: Optional[str]) -> bytes:
+        """The lines for these words."""
+        kind, names = words[1].split(",") if len(words) > 1 else [], list(words[2:])
+        if kind not in KINDS or not all(map(ONE_JOB.match, names)):
+            raise Denied("the words of details are wrong")
+        jobs, raw = await asyncio.to_thread(read_jobs, (await self.site.ask(" ".join(["jobs", *names]))).text)
+        if "all" in kind and self.accounting:
+            jobs = await self.with_older(jobs, names)
+        elif "all" not in kind:
+            jobs = [job for job in jobs if job["letter"]]
+        reasons = await self.reasons(jobs) if "why" in kind else {}
+        user = name_of(client)
+        is_trusted = role is not None and role in client.roles
+        return await asyncio.to_thread(self.lines, jobs, raw, reasons, user, is_trusted)
+
+    async def with_older(self, jobs: Sequence[Job], names: Sequence[str]) -> List[Job]:
+        """Jobs with those that the accounting alone has, of these names where there are some."""
+        known = {job["id"] for job in jobs}
+        wanted = {name if "." in name else f"{name}.{self.here}" for name in names} - known
+        if names and not wanted:
+            return list(jobs)
+        older = await asyncio.to_thread(recorded, self.accounting, wanted)
+        return [job for job in older if job["id"] not in known] + list(jobs)
+
+    async def reasons(self, jobs: Sequence[Job]) -> Dict[str, str]:
+        """Why jobs wait, as the site tells it, of the first of them."""
+        names = [job["id"] for job in jobs if job["letter"] in ("Q", "T")][:MOST_REASONS]
+        answers = await asyncio.gather(*(self.site.ask(f"why {name} {now()}") for name in names))
+        told = {name: answer.text.strip() for name, answer in zip(names, answers)}
+        return {name: LEFT_ALONE if why == "starts" and name in self.left_alone else why for name, why in told.items()}
+
+    def lines(self, jobs: Sequence[Job], raw: Dict[str, str], reasons: Dict[str, str], user: str, is_trusted: bool) -> bytes:
+        """The lines of jobs, whose texts are these where the site told them."""
+        found: List[str] = []
+        stored = set(self.spool.names_kept())
+        for job in jobs:
+            more = self.more(job) if job["id"] in stored or job["begun"] or job["holds"] else {}
+            if job["owner"] != user and not is_trusted:
+                more = {key: value for key, value in more.items() if key not in PRIVATE}
+            if job["id"] in reasons:
+                more["why"] = reasons[job["id"]]
+            text = raw.get(job["id"]) or json.dumps(job)
+            found.append(f'{text[:-1]}, "more": {json.dumps(more) if more else "{}"}}}')
+        return "".join(f"{line}\n" for line in found).encode("ascii")
+
+    def more(self, job: Job) -> Dict[str, Any]:
+        """What is known here of a job besides."""
+        name = job["id"]
+        more: Dict[str, Any] = dict(self.spool.facts(name) or {})
+        for key in ("owner", "group"):
+            more.pop(key, None)
+        group = self.groups.by_job.get(name)
+        if group and group.is_waiting and "s" in job["holds"]:
+            more["waits"], more["waits_until"] = group.waits_for(), group.at
+            if group.comment:
+                more["comment"] = group.comment
+        elif group and group.most and "s" in job["holds"]:
+            more["waits_turn"] = True
+        used = job.get("used") or (self.spool.used(name) if job["finished"] else None)
+        if used:
+            more["used"] = used
+        if job["begun"] and job["begun"]["site"] == self.here:
+            run = self.runs.all.get(name)
+            if run and run.doubt:
+                more["comment"] = f"It isn't known whether it runs, since {run.node.shown} can't be asked: {' '.join(run.doubt.split())}"
+            hosts = run.hosts if run else self.spool.hosts(name)
+            if hosts:
+                more["hosts"] = hosts
+            session = self.spool.session(name) if job["letter"] else None
+            if session:
+                more["session"] = session
+        return more
