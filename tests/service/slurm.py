@@ -1,0 +1,124 @@
+"""A scene of what those use who come from Slurm: sbatch, squeue, scancel and sinfo."""
+import re
+import time
+
+from tests.service.pbs import text_of, work_in
+from tests.service.scenes import ME
+from tests.service.sites import until
+
+SCRIPT = """\
+#!/bin/bash
+# a comment
+#SBATCH --job-name=tasks   # its name
+#SBATCH -n 6 -N 2
+#SBATCH --time=1-02:03
+#SBATCH --mem=4G
+#SBATCH -o out-%x-%j.txt
+
+echo "$SLURM_JOB_ID $SLURM_JOB_NAME $SLURM_NTASKS $SLURM_JOB_NUM_NODES $SLURM_CPUS_PER_TASK" | sed 's/^[0-9]*//'
+wc -l < $PBS_NODEFILE
+#SBATCH -J behind-the-head
+echo error >&2
+"""
+NUMBER = re.compile(r"Submitted batch job ([0-9]+)\.argonne\n\Z")
+
+
+def parsable(site, folder, *words, **how):
+    """Submits by sbatch; the identifier."""
+    status, output, errors = site.utility("sbatch", "--parsable", *words, cwd=folder, **how)
+    if status:
+        raise ValueError(errors)
+    return output.strip()
+
+
+def slurm(tally, federation):
+    """What sbatch, squeue, scancel and sinfo do, and what they say that they don't."""
+    (site,) = federation.make("argonne:4", "lemont:4", jobs="hosts = h1 h2 h3 h4")[:1]
+    folder = work_in(federation)
+    with open(f"{folder}/tasks.sh", "w", encoding="ascii") as file:
+        file.write(SCRIPT)
+    status, output, errors = site.utility("sbatch", "-p", "argonne", "tasks.sh", cwd=folder)
+    tally.same("sbatch of a script", (status, bool(NUMBER.match(output)), "--mem" in errors), (0, True, True))
+    number = NUMBER.match(output).group(1)
+    told = site.jobs(number)[f"{number}.argonne"]
+    tally.same("what it asks for", [told[key] for key in ("name", "nodes", "limit", "sites")], ["tasks", 2, 93780, ["argonne"]])
+    site.finished(f"{number}.argonne")
+    wanted = ".argonne tasks 6 2 1\n6\nerror\n"
+    tally.same("what it was told, and output and errors in one file", text_of(folder, f"out-tasks-{number}.txt"), wanted)
+    job = parsable(site, folder, "-M", "argonne", "-A", "chem", "-c", "3", "--wrap", 'echo "$OMP_NUM_THREADS $MINE"; echo e >&2', "-e", "e.%j", environment={"MINE": "x"})
+    site.finished(job)
+    number = job.split(".")[0]
+    tally.same("--wrap, its threads and its environment", text_of(folder, f"slurm-{number}.out"), "3 x\n")
+    tally.same("-e", text_of(folder, f"e.{number}"), "e\n")
+    tally.same("-A", site.jobs(job)[job]["account"], "chem")
+    array = parsable(site, folder, "-p", "argonne", "-a", "1-5:2", "--wrap", "echo $SLURM_ARRAY_TASK_ID; exit $((SLURM_ARRAY_TASK_ID / 5))")
+    behind = parsable(site, folder, "-p", "argonne", "-d", f"afterany:{array}", "--wrap", "exit 0")
+    strict = parsable(site, folder, "-p", "argonne", "-d", f"afterok:{array}_3", "--wrap", "exit 0")
+    never = parsable(site, folder, "-p", "argonne", "--dependency=afterok:" + array, "--wrap", "exit 0")
+    tally.same("what waits for an array", (site.finished(behind), site.finished(strict)), (0, 0))
+    number = array.split(".")[0]
+    tally.same("its outputs", [text_of(folder, f"slurm-{number}_{index}.out") for index in (1, 3, 5)], ["1\n", "3\n", "5\n"])
+    until(lambda: site.jobs(never)[never]["deleted"], 20, "what waits for all its members to end well is deleted")
+    tally.same("-W", site.utility("sbatch", "-W", "-p", "argonne", "--wrap", "exit 6", cwd=folder)[0], 6)
+    tally.same("--export=NONE", site.finished(parsable(site, folder, "-p", "argonne", "--export=NONE", "--wrap", 'test -z "$MINE"', environment={"MINE": "x"})), 0)
+    queued(tally, site, folder)
+    for words in (("-Y",), ("--foo=1",), ("-n", "x"), ("-t", "1:2:3:4"), ("-t", "999999"), ("-a", "5-1"), ("-o", "a-%N"), ("-d", "singleton"), ("--mail-type=X",), ("-d", "afterok:x"), ("tasks.sh", "word")):
+        status, output, errors = site.utility("sbatch", *words, *(() if "tasks.sh" in words else ("--wrap", "true")), cwd=folder)
+        tally.same(f"sbatch {words} is refused, and named", (status, output, words[-1].lstrip("-").partition("=")[0].partition(":")[0] in errors), (2, "", True))
+    tally.same("no script beside --wrap", site.utility("sbatch", "--wrap", "true", "tasks.sh", cwd=folder)[:2], (2, ""))
+    status, output, errors = site.utility("sbatch", "-p", "debug", "--wrap", "true", cwd=folder)
+    tally.same("no partition", (status, output, errors), (1, "", "sbatch: --partition debug: there is no queue and no site of this name\n"))
+
+
+def queued(tally, site, folder):
+    """squeue, scancel and sinfo of a queue."""
+    runs = parsable(site, folder, "-p", "argonne", "-N", "3", "-J", "runs", "--wrap", "sleep 300")
+    until(lambda: site.jobs(runs)[runs]["begun"], 20, "it runs")
+    waits = parsable(site, folder, "-p", "argonne", "-N", "4", "-J", "waits", "-t", "90", "--wrap", "true")
+    held = parsable(site, folder, "-H", "-J", "held", "-a", "1-2", "--wrap", "true")
+    behind = parsable(site, folder, "-d", f"afterany:{held}", "-J", "behind", "--wrap", "true")
+    number = held.split(".")[0]
+
+    def told(*words):
+        status, output, errors = site.utility("squeue", *words)
+        tally.same(f"squeue {words}", (status, errors), (0, ""))
+        return output
+
+    lines = told().splitlines()
+    tally.same("the head", lines[0], "             JOBID PARTITION     NAME     USER ST       TIME  NODES NODELIST(REASON)")
+    tally.same("what runs", re.sub("0:[0-9]{2}", "0:00", lines[1]), f"{runs:>18}     batch     runs {ME:>8.8}  R       0:00      3 h1,h2,h3")
+    form = [line.split() for line in told("-h", "-o", "%i %t %r %l %D").splitlines()]
+    tally.same("in another form, without a head", [line for line in form if line[0] != runs], [
+        [waits, "PD", "Resources", "1:30:00", "4"],
+        *([f"{number}_{index}.argonne", "PD", "JobHeldUser", "1:00:00", "1"] for index in (1, 2)),
+        [behind, "PD", "Dependency", "1:00:00", "1"],
+    ])
+    for words, wanted in (
+        (("-j", f"{runs},{waits}"), [runs, waits]),
+        (("-j", f"{held}_2"), [f"{number}_2.argonne"]),
+        (("-j", f"{number}[1].argonne"), [f"{number}_1.argonne"]),
+        (("-j", number), [f"{number}_1.argonne", f"{number}_2.argonne"]),
+        (("-u", ME, "-t", "R"), [runs]),
+        (("-u", "nobody"), []),
+        (("--me", "-n", "waits"), [waits]),
+        (("-t", "PENDING", "-n", "held,waits"), [waits, f"{number}_1.argonne", f"{number}_2.argonne"]),
+    ):
+        tally.same(f"squeue {words} chooses", told("-ho", "%i", *words).split(), wanted)
+    tally.same("of one that isn't known", site.utility("squeue", "-j", "900")[:2], (2, ""))
+    nodes = site.utility("sinfo")[1].splitlines()
+    tally.same("sinfo", [line.split() for line in nodes[1:]], [["batch*", "up", "infinite", "3", "alloc", "h1,h2,h3"], ["batch*", "up", "infinite", "1", "idle", "h4"]])
+    tally.same("sinfo -hN", [line.split()[::3] for line in site.utility("sinfo", "-hN")[1].splitlines()], [[f"h{it}", "idle" if it == 4 else "alloc"] for it in (1, 2, 3, 4)])
+    tally.same("a member is cancelled", site.utility("scancel", f"{held}_1"), (0, "", ""))
+    tally.same("and no other", told("-ho", "%i", "-j", held).split(), [f"{number}_2.argonne"])
+    tally.same("all of an array is", (site.utility("scancel", held), told("-ho", "%i", "-j", held)), ((0, "", ""), ""))
+    tally.same("one that ended is listed no more", told("-h", "-j", held), "")
+    tally.same("all of a user are", site.utility("scancel", "-u", ME, runs, waits), (0, "", ""))
+    until(lambda: not told("-h", "-t", "R"), 20, "nothing runs")
+    for words in ((), ("900",), ("-Y",), ("x",)):
+        tally.same(f"scancel {words} is refused", site.utility("scancel", *words)[:2], (2, ""))
+    began = time.monotonic()
+    until(lambda: not told("-h", "-n", "behind"), 30, "what waited has run")
+    tally.true("and soon", time.monotonic() - began < 30)
+
+
+SCENES = {"slurm": slurm}
