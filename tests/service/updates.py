@@ -73,6 +73,9 @@ def updates(tally, federation):
     subprocess.run([first, prefix], check=True, capture_output=True)
     start_installed(federation, site, prefix)
     tally.same("and the one that is started next by those of today", site.finished(site.submit("exit 5\n")), 5)
+    earlier = f"import sys; sys.path.insert(0, '{prefix}/lib/nettlebeam/current'); from nettlebeam_service.calling import main; sys.exit(main('qstat', [], ''))"
+    asked = subprocess.run(["/usr/bin/python3", "-IS", "-c", earlier], env={**os.environ, "NETTLEBEAM_SOCKET": site.socket}, check=False)
+    tally.same("a utility that an earlier version put in bin finds what it imports", asked.returncode, 0)
     tally.true("what copies the journal is installed", os.access(f"{prefix}/libexec/nettlebeam/copy-journal", os.X_OK))
     until(lambda: not os.path.exists(f"{prefix}/bin/qstat.new"), 1, "nothing half stays")
 
