@@ -1,4 +1,4 @@
-"""What the programs of bin/ of an earlier version import, which an update puts in their places one by one."""
+"""What the utilities that an earlier version put in PREFIX/bin import, which an update replaces one by one."""
 from __future__ import annotations
 
 from .utilities.by_name import main
