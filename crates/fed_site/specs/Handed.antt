@@ -1,6 +1,6 @@
 -- Texts that are handed in by a site: `take from NAME TEXT`.
-use Rattle.std.specs.Prelude.{ℕ, Bool, nat_eq, ◌==◌, List, ◌++◌, drop, codes, Option, Some, None, Result, Ok, Err, if◌then◌else◌}
-use Rattle.std.specs.List.{after_first, before_first, starts_with}
+use Rattle.std.specs.Prelude.{ℕ, ◌+◌, Bool, nat_eq, ◌==◌, List, [], ◌++◌, drop, take, position, codes, Option, Some, None, Result, Ok, Err, if◌then◌else◌}
+use Rattle.std.specs.List.{starts_with}
 use Rattle.fed_wire.specs.declared.faults.WireFault.{WireFault}
 use Rattle.fed_delta.specs.Packet.{PacketValue}
 use Rattle.fed_words.specs.Site.{site_named}
@@ -15,13 +15,21 @@ is_blank byte = byte == 32
 abbrev pub names_site : List ℕ → Bool
 names_site text = starts_with nat_eq text (codes "from ")
 
+-- a name, and what stands behind the first blank
+abbrev pub cut_at : Option ℕ → List ℕ → List ℕ × List ℕ
+cut_at None bytes = (bytes, [])
+cut_at (Some blank) bytes = (take blank bytes, drop (blank + 1) bytes)
+
+abbrev pub cut_behind : List ℕ → List ℕ × List ℕ
+cut_behind bytes = cut_at (position is_blank bytes) bytes
+
 -- the name of the site that hands the text in, where it is told
 abbrev pub named_in : List ℕ → Option (List ℕ)
-named_in text = if names_site text then Some (before_first is_blank (drop 5 text)) else None
+named_in text = if names_site text then Some (cut_behind (drop 5 text)).0 else None
 
 -- the packet's own text
 abbrev pub packet_of : List ℕ → List ℕ
-packet_of text = if names_site text then after_first is_blank (drop 5 text) else text
+packet_of text = if names_site text then (cut_behind (drop 5 text)).1 else text
 
 module _ (roster : List (List ℕ × ℕ)) where
   -- the site of this name

@@ -1,5 +1,5 @@
 //! What a site does to the texts of packets, and the text of its own.
-ghost use Rattle.std.specs.Prelude.{◌≡◌, ◌≢◌, ◌≤◌, ◌++◌, nat_lt, drop, ℕ, List, IfOk, OnErr, codes, if◌then◌else◌, option_map};
+ghost use Rattle.std.specs.Prelude.{◌≡◌, ◌≢◌, ◌≤◌, ◌<◌, ◌++◌, nat_lt, drop, ℕ, List, IfOk, IfSome, OnErr, codes, if◌then◌else◌, length, option_map, position};
 ghost use Rattle.std.specs.Cow.{cow_str_bytes};
 ghost use Rattle.std.specs.Fmt.{decimal};
 ghost use Rattle.std.specs.List.{list_any};
@@ -9,7 +9,7 @@ ghost use Rattle.fed_qstat.specs.Outcome.{answer_line};
 ghost use Rattle.fed_site.specs.Acts.{DoneAs};
 ghost use Rattle.fed_replica.specs.State.{state_of};
 ghost use Rattle.fed_site.specs.Packets.{is_foreign as tells_of_others, is_forgotten as has_seen_more, part_text as text_of_part, place_text as text_of_place, unread_text, IsPacketText};
-ghost use Rattle.fed_site.specs.Handed.{complaint_of_name, named_in, packet_of, site_of, text_of_complaint};
+ghost use Rattle.fed_site.specs.Handed.{complaint_of_name, cut_behind, is_blank, named_in, packet_of, site_of, text_of_complaint};
 ghost use Rattle.fed_site.specs.Says.{after_packet, after_reading, after_receipt, after_text};
 ghost use Rattle.fed_wire.specs.Reading.{packet_in};
 
@@ -208,6 +208,24 @@ fn take_reading(
     }
 }
 
+/// The place of the first blank.
+fn blank_in(text: &[u8]) -> Option<usize>
+    ensures found { result ≡ position is_blank text.now }
+    ensures within { IfSome result (λ blank. blank < length text.now) }
+{
+    text.iter().position(|byte| *byte == b' ')
+}
+
+/// What stands before the first blank, and what stands behind it.
+fn cut_behind_name(text: &[u8]) -> (&[u8], &[u8])
+    ensures { (result.0.now, result.1.now) ≡ cut_behind text.now }
+{
+    match blank_in(text) {
+        Some(blank) => (&text[..blank], &text[blank + 1..]),
+        None => (text, &[]),
+    }
+}
+
 /// `from NAME TEXT`: the name, where one is told, and the packet's own text.
 fn split_name(text: &[u8]) -> (Option<&[u8]>, &[u8])
     ensures name { option_map (λ name. name.now) result.0 ≡ named_in text.now }
@@ -216,11 +234,8 @@ fn split_name(text: &[u8]) -> (Option<&[u8]>, &[u8])
     if !text.starts_with(b"from ") {
         return (None, text);
     }
-    let rest = &text[5..];
-    match rest.iter().position(|byte| *byte == b' ') {
-        Some(blank) => (Some(&rest[..blank]), &rest[blank + 1..]),
-        None => (Some(rest), &[]),
-    }
+    let (name, packet) = cut_behind_name(&text[5..]);
+    (Some(name), packet)
 }
 
 /// The site of this name.
