@@ -1,11 +1,12 @@
 """Scenes of worked rows at sites by themselves: answers, statuses, words, utilities, packets of strangers."""
 import glob
+import io
 import os
 import shutil
 import subprocess
 
 from tests.playing import TOP
-from tests.site.played import TWO, Sites
+from tests.site.played import TWO, Sites, frame, read_frame
 
 LISTED = "1.argonne          STDIN            ann              Q      0        1      3600 -\n"
 
@@ -67,14 +68,14 @@ def one_site(tally, sites):
 
 
 def words(tally, sites):
-    """What is said on standard error of refusals and misuses, with what was asked of what; by `serve` the same, if asked."""
+    """What is said on standard error of refusals and misuses, with what was asked of what; by `serve` the same, in frames."""
     sites.make(TWO)
     asked = []
 
     def says(words, status, errors):
         found = sites.run("at", "argonne", *words.split())
         tally.same(f"words of {words}", (found[0], found[2]), (status, f"nettlebeam: {errors}\n" if errors else ""))
-        asked.append((words, found[1], f"# {errors}\n" if errors else ""))
+        asked.append((words, found[1], errors, status))
 
     for words in ["ann qsub", "bob qsub -l nodes=6", "bob qsub", "ann qsub -l sites=lemont", "ann qsub -l nodes=6"]:
         says(words, 0, "")
@@ -122,14 +123,14 @@ def words(tally, sites):
     says("ann qdel 3 x", 1, "usage 5 (BadIdentifier): x is no identifier of a job, as 3 or 3.argonne")
     says("ann qdel 3 1.fermi", 1, "usage 6 (UnknownSite): 1.fermi names a site that the roster has not")
     says("ann qdel", 1, "usage 7 (MissingOperand): qdel names no job")
-    asked.append(("\x07", "cannot be read\n", "# cannot be read: the line has no form that this site knows\n"))
-    lines = "".join(f"{line}\n" for line, _, _ in asked).encode()
+    asked.append(("\x07", "cannot be read\n", "cannot be read: the line has no form that this site knows", 1))
+    lines = "".join(f"{line}\n" for line, *_ in asked).encode()
     sites.run("init", "served", "argonne", *TWO)
-    found = sites.run("serve", "served", "--words", text=lines)
-    tally.same("all of these at once, with words", found, (0, "".join(f"{answer}{words}\n" for _, answer, words in asked), ""))
+    found = sites.run("serve", "served", "--frames", text=lines)
+    tally.same("all of these at once, in frames", found, (0, "".join(frame(status, answer, words) for _, answer, words, status in asked), ""))
     tally.same("their journal", sites.journal("served"), sites.journal("argonne"))
     sites.run("init", "untold", "argonne", *TWO)
-    tally.same("and without", sites.run("serve", "untold", text=lines), (0, "".join(f"{answer}\n" for _, answer, _ in asked), ""))
+    tally.same("and in lines", sites.run("serve", "untold", text=lines), (0, "".join(f"{answer}\n" for _, answer, *_ in asked), ""))
     sites.at("lemont", ["take"], sites.at("argonne", ["ship", "lemont"]).encode())
     found = sites.run("at", "lemont", "grant", "3.argonne", "lemont")
     tally.same("words of another site's grant", found, (1, "refused 5\n", "nettlebeam: refused 5 (NotOrigin): 3.argonne was submitted at argonne, which alone grants it\n"))
@@ -183,6 +184,24 @@ def strangers(tally, sites):
     sites.at("sparks", ["ann", "qsub"])
     status, output, errors = sites.run("at", "argonne", "take", text=sites.at("sparks", ["ship", "argonne"]).encode())
     tally.same("foreign", (status, output, errors.startswith("nettlebeam: foreign")), (1, "foreign\n", True))
+    # who hands a packet in is its sender
+    handed = sites.at("sparks", ["ship", "lemont"]), sites.at("argonne", ["ship", "lemont"]), sites.at("lemont", ["ship", "argonne"])
+    for site, name, packet, status, output, words in (
+        ("lemont", "fermi", handed[1], 1, "foreign\n", "foreign: "),
+        ("lemont", "batavia", handed[1], 1, "not from batavia\n", "not from batavia: "),
+        ("lemont", "argonne", handed[1], 0, "taken\n", ""),
+        ("argonne", "batavia", handed[2], 1, "not from batavia\n", "not from batavia: "),
+        ("argonne", "lemont", handed[2], 0, "known\n", ""),
+        ("argonne", "batavia", handed[0], 1, "not from batavia\n", "not from batavia: "),
+        ("argonne", "lemont", "{}\n", 1, "unread 3 whole 0\n", "unread 3 whole 0: "),
+    ):
+        before = sites.journal(site)
+        line = f"take from {name} {packet}".encode()
+        told = read_frame(io.BytesIO(sites.run("serve", "--frames", site, text=line)[1].encode()))
+        tally.same(f"take from {name} at {site}", (told[:2], told[2].startswith(words)), ((status, output), True))
+        tally.same(f"and what is kept of it", sites.journal(site) != before, status == 0)
+        asked = sites.run("at", site, "take", text=line[len("take ") :])
+        tally.same(f"take from {name} at {site}, by at", (asked[0], asked[1] in (output, "known\n")), (status, True))
     for text, output in ([b"{}", "unread 3 whole 0\n"], [b"", "unread 1\n"], [b'{"format":4}\n', "unread 2 4\n"], [first + b"\n", "cannot be read\n"]):
         status, found, errors = sites.run("at", "argonne", "take", text=text)
         tally.same(f"take of {text[:20]}", (status, found, errors.count("\n")), (1, output, 1))

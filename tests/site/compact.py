@@ -9,7 +9,7 @@ import time
 
 from tests.playing import limited
 from tests.site.disk_journals import Damaged, SmallDisk, journal_of, read_journal
-from tests.site.played import TWO, Sites
+from tests.site.played import TWO, Sites, frame
 
 THREE = ["argonne:8", "lemont:4", "batavia:2"]
 DONE = re.compile(r"compacted: ([0-9]+) bytes before, ([0-9]+) now\n")
@@ -108,7 +108,7 @@ def young(tally, sites):
         tally.true("it tells its bytes", int(match[1]) == len(journal) <= int(match[2]))
     tally.same("at never compacts", sites.run("serve", "argonne", text=ALTERATIONS)[0] or sites.at("argonne", ["ann", "qsub"]), "402.argonne\n")
     tally.same("so it begins as before", sites.journal("argonne")[: len(journal) - 1], journal[:-1])
-    for words in (["compact"], ["compact", "--keep"], ["compact", "--keep", "x"], ["compact", "--words", "argonne"], ["check", "--keep", "x", "argonne"], ["compact", "argonne", "lemont"]):
+    for words in (["compact"], ["compact", "--keep"], ["compact", "--keep", "x"], ["compact", "--frames", "argonne"], ["check", "--keep", "x", "argonne"], ["compact", "argonne", "lemont"]):
         tally.same(f"{words}", sites.run(*words)[:2], (2, ""))
     status, output, errors = sites.run("compact", "nowhere")
     tally.same("no site", (status, output, errors), (3, "", "nettlebeam: nowhere: no site is there; nettlebeam init makes one\n"))
@@ -248,9 +248,11 @@ def serve_compacts(tally, sites):
     """`serve` compacts by itself where the journal is long, and never with --keep-history; its answers are the same."""
     for name in ("short", "kept", "told"):
         sites.run("init", name, "argonne", *TWO)
-    found = {name: sites.run("serve", *options, name, text=long_lines()) for name, options in (("short", []), ("kept", ["--keep-history"]), ("told", ["--keep-history", "--words"]))}
+    found = {name: sites.run("serve", *options, name, text=long_lines()) for name, options in (("short", []), ("kept", ["--keep-history"]), ("told", ["--keep-history", "--frames"]))}
     tally.same("status and words", [(it[0], it[2]) for it in found.values()], [(0, "")] * 3)
-    tally.true("all have the same answers", found["short"][1] == found["kept"][1] == found["told"][1])
+    tally.same("the answers without a pause", found["kept"][1], found["short"][1])
+    answers = found["kept"][1].split("\n\n")[:-1]
+    tally.true("frames have the same answers", found["told"][1] == "".join(frame(int(it.startswith("refused")), it + "\n") for it in answers))
     tally.same("the history", sites.journal("kept").count(b"\n"), LONG + 1)
     entries = read_journal(sites.journal("short"))[0]
     tally.same("the compacted one", (entries[0].split()[1], 0 < len(sites.journal("short")) < 1_300_000), (b"2", True))

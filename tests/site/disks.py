@@ -6,7 +6,7 @@ import time
 
 from tests.playing import limited
 from tests.site.disk_journals import SmallDisk
-from tests.site.played import TWO
+from tests.site.played import TWO, frame, read_frame
 
 
 def faults(tally, sites):
@@ -88,9 +88,9 @@ def streams(tally, sites):
         done = subprocess.run([sites.program, "serve", "lemont"], input=b"ann qsub\n", stdout=full, stderr=subprocess.PIPE, cwd=sites.folder, check=False)
     tally.same("answers that can't be written", (done.returncode, b"standard output: " in done.stderr, b"is kept" in done.stderr), (3, True, True))
     sites.run("init", "again", "argonne", *TWO)
-    found = sites.run("serve", "again", "--words", text=b"ann qsub\nann qdel 1")
-    told = "cannot be read\n# cannot be read: the line has no form that this site knows\n\n"
-    tally.same("a line that was cut", found, (0, "1.argonne\n\n" + told, ""))
+    found = sites.run("serve", "again", "--frames", text=b"ann qsub\nann qdel 1")
+    told = frame(1, "cannot be read\n", "cannot be read: the line has no form that this site knows")
+    tally.same("a line that was cut", found, (0, frame(0, "1.argonne\n") + told, ""))
     tally.same("what it would have deleted", sites.at("again", ["why", "1", "0"]), "starts\n")
 
 
@@ -133,20 +133,20 @@ def full_disk(tally, sites):
     try:
         sites.run("init", "disk/argonne", "argonne", *TWO)
         answers = []
-        with subprocess.Popen([sites.program, "serve", "--words", "disk/argonne"], stdin=subprocess.PIPE, stdout=subprocess.PIPE, stderr=subprocess.PIPE, cwd=sites.folder) as serve:
+        with subprocess.Popen([sites.program, "serve", "--frames", "disk/argonne"], stdin=subprocess.PIPE, stdout=subprocess.PIPE, stderr=subprocess.PIPE, cwd=sites.folder) as serve:
 
             def ask(line):
                 serve.stdin.write(line + b"\n")
                 serve.stdin.flush()
-                answers.append("".join(iter(lambda: serve.stdout.readline().decode(), "\n")))
-                return answers[-1]
+                answers.append(read_frame(serve.stdout))
+                return answers[-1][1]
 
             disk.fill(0)
             count = 0
             while ask(b"ann qsub") == f"{count + 1}.argonne\n" and count < 1_000:
                 count += 1
             words = "No space left on device (os error 28); neither this line is done nor another that came with it"
-            tally.same("a line that isn't kept", answers[-1], f"not kept\n# not kept: {words}\n")
+            tally.same("a line that isn't kept", answers[-1], (3, "not kept\n", f"not kept: {words}"))
             tally.same("a listing beside it", ask(b"ann qstat").count("\n"), count)
             tally.same("and another line that isn't kept", ask(b"ann qsub").split("\n")[0], "not kept")
             disk.empty()

@@ -6,6 +6,17 @@ from tests.playing import call
 TWO = ["argonne:8", "lemont:4"]
 
 
+def frame(status, answer, words=""):
+    """What `serve --frames` writes of a line: its status, its answer, and the words beside it."""
+    return f"{status} {len(answer)} {len(words)}\n{answer}{words}"
+
+
+def read_frame(stream):
+    """The status, the answer and the words of the frame that comes next."""
+    status, answer, words = map(int, stream.readline().split())
+    return status, stream.read(answer).decode(), stream.read(words).decode()
+
+
 class Sites:
     """Sites of a roster in a folder."""
 

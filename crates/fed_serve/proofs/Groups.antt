@@ -89,34 +89,34 @@ replies_both roster s [] second (x ∷ xs) ys a b = absurd a
 replies_both roster s (line ∷ first) second [] ys a b = absurd a
 replies_both roster s (line ∷ first) second (x ∷ xs) ys a b = (a.0, a.1, a.2, a.3, replies_both (roster_after roster line) (site_says roster s line).after first second xs ys a.4 b)
 
--- ---- answers after answers, with words or without
-module _ (asked : Bool) (roster : List (List ℕ × ℕ)) where
-  pub answered_none : (s : State) (known : Option (List ℕ)) → HasAnswered asked roster s [] known known
-  answered_none s known = ([], tt, All-nil (IsTold asked), appends_none known)
+-- ---- answers after answers, in lines or in frames
+module _ (frames : Bool) (roster : List (List ℕ × ℕ)) where
+  pub answered_none : (s : State) (known : Option (List ℕ)) → HasAnswered frames roster s [] known known
+  answered_none s known = ([], tt, All-nil (IsTold frames), appends_none known)
 
-  pub answered_both : (s : State) (first second : List (List ℕ)) (a b c : Option (List ℕ)) → HasAnswered asked roster s first a b → HasAnswered asked (roster_after_lines roster first) (after_lines roster s first) second b c
-      → HasAnswered asked roster s (first ++ second) a c
+  pub answered_both : (s : State) (first second : List (List ℕ)) (a b c : Option (List ℕ)) → HasAnswered frames roster s first a b → HasAnswered frames (roster_after_lines roster first) (after_lines roster s first) second b c
+      → HasAnswered frames roster s (first ++ second) a c
   answered_both s first second a b c one two = (
     one.0 ++ two.0,
     subst (AreReplies roster s (first ++ second)) (sym (map-append (λ (told : Told). told.answer) one.0 two.0)) (replies_both roster s first second (answers_in one.0) (answers_in two.0) one.1 two.1),
-    All-append (IsTold asked) one.0 two.0 one.2 two.2,
-    subst (Appends a c) (sym (flat_map-append told_bytes one.0 two.0)) (appends_more a b c (told_text one.0) (told_text two.0) one.3 two.3),
+    All-append (IsTold frames) one.0 two.0 one.2 two.2,
+    subst (Appends a c) (sym (flat_map-append (told_bytes frames) one.0 two.0)) (appends_more a b c (told_text frames one.0) (told_text frames two.0) one.3 two.3),
   )
 
-  pub answered_kept : (s : State) (given : List (List ℕ)) (a b c : Option (List ℕ)) → HasAnswered asked roster s given a b → Keeps b c → HasAnswered asked roster s given a c
-  answered_kept s given a b c one same = (one.0, one.1, one.2, appends_kept a b c (told_text one.0) one.3 same)
+  pub answered_kept : (s : State) (given : List (List ℕ)) (a b c : Option (List ℕ)) → HasAnswered frames roster s given a b → Keeps b c → HasAnswered frames roster s given a c
+  answered_kept s given a b c one same = (one.0, one.1, one.2, appends_kept a b c (told_text frames one.0) one.3 same)
 
 -- ---- the entries of an open site
 some_entries : (r : Reading) (x : Replayed) → replay (entries_of r) ≡ Some x → r ≡ Ok (entries_of r)
 some_entries (Ok entries) x e = refl
 some_entries (Err line) x e = cc
 
-module _ {D : Type 0} (asked : Bool) (seen : D → List ℕ) (may_leave : D → List ℕ → Type 0) where
+module _ {D : Type 0} (frames : Bool) (seen : D → List ℕ) (may_leave : D → List ℕ → Type 0) where
   -- the entries of an open site
   open_entries : (home : Home D) → IsOpen seen may_leave home → recovered (seen (home_device home)) ≡ Ok (entries_in (seen (home_device home)))
   open_entries home opened = some_entries (recovered (seen (home_device home))) (replayed_of (site_of home)) opened.replayed
 
-  done_none : (home : Home D) → IsOpen seen may_leave home → IsDone asked seen may_leave home home []
+  done_none : (home : Home D) → IsOpen seen may_leave home → IsDone frames seen may_leave home home []
   done_none home opened = record {
     is_open = opened;
     roster = refl;
@@ -124,15 +124,15 @@ module _ {D : Type 0} (asked : Bool) (seen : D → List ℕ) (may_leave : D → 
     kept = open_entries home opened ∙ ap Ok (sym (append-nil (entries_in (seen (home_device home)))));
   }
 
-  pub served_none : (home : Home D) (known : Option (List ℕ)) → IsOpen seen may_leave home → HasServed asked seen may_leave home home [] known known
-  served_none home known opened = record { done = done_none home opened; answered = answered_none asked (site_of home).roster (state_in home) known }
+  pub served_none : (home : Home D) (known : Option (List ℕ)) → IsOpen seen may_leave home → HasServed frames seen may_leave home home [] known known
+  served_none home known opened = record { done = done_none home opened; answered = answered_none frames (site_of home).roster (state_in home) known }
 
-  pub served_open : (old new : Home D) (given : List (List ℕ)) (a b : Option (List ℕ)) (r : Result Served ServeFault) → OnOk r (HasServed asked seen may_leave old new given a b) → OnOk r (IsOpen seen may_leave new)
+  pub served_open : (old new : Home D) (given : List (List ℕ)) (a b : Option (List ℕ)) (r : Result Served ServeFault) → OnOk r (HasServed frames seen may_leave old new given a b) → OnOk r (IsOpen seen may_leave new)
   served_open old new given a b (Ok end) served = served.done.is_open
   served_open old new given a b (Err fault) served = tt
 
   -- the entries that a group leaves behind those of the lines before it
-  kept_behind : (old mid : Home D) (first group : List (List ℕ)) → IsDone asked seen may_leave old mid first
+  kept_behind : (old mid : Home D) (first group : List (List ℕ)) → IsDone frames seen may_leave old mid first
       → entries_in (seen (home_device mid)) ++ kept_lines (site_of mid).roster (state_in mid) group ≡ entries_in (seen (home_device old)) ++ kept_lines (site_of old).roster (state_in old) (first ++ group)
   kept_behind old mid first group one =
       let r = (site_of old).roster in
@@ -141,8 +141,8 @@ module _ {D : Type 0} (asked : Bool) (seen : D → List ℕ) (may_leave : D → 
       (λ i. entries_of (one.kept i) ++ kept_lines (one.roster i) (one.left i) group)
       ∙ append_assoc e (kept_lines r s first) (kept_lines (roster_after_lines r first) (after_lines r s first) group) ∙ ap (λ ls. e ++ ls) (sym (kept_both r s first group))
 
-  served_both : (old mid new : Home D) (first second : List (List ℕ)) (a b c : Option (List ℕ)) → HasServed asked seen may_leave old mid first a b → HasServed asked seen may_leave mid new second b c
-      → HasServed asked seen may_leave old new (first ++ second) a c
+  served_both : (old mid new : Home D) (first second : List (List ℕ)) (a b c : Option (List ℕ)) → HasServed frames seen may_leave old mid first a b → HasServed frames seen may_leave mid new second b c
+      → HasServed frames seen may_leave old new (first ++ second) a c
   served_both old mid new first second a b c one two =
       let r = (site_of old).roster in
       let s = state_in old in
@@ -153,8 +153,8 @@ module _ {D : Type 0} (asked : Bool) (seen : D → List ℕ) (may_leave : D → 
           left = two.done.left ∙ (λ i. after_lines (one.done.roster i) (one.done.left i) second) ∙ sym (after_both r s first second);
           kept = two.done.kept ∙ ap Ok (kept_behind old mid first second one.done);
         };
-        answered = answered_both asked r s first second a b c one.answered
-            (subst (λ (t : State). HasAnswered asked (roster_after_lines r first) t second b c) one.done.left (subst (λ (q : List (List ℕ × ℕ)). HasAnswered asked q (state_in mid) second b c) one.done.roster two.answered));
+        answered = answered_both frames r s first second a b c one.answered
+            (subst (λ (t : State). HasAnswered frames (roster_after_lines r first) t second b c) one.done.left (subst (λ (q : List (List ℕ × ℕ)). HasAnswered frames q (state_in mid) second b c) one.done.roster two.answered));
       }
 
   -- ---- crashes
@@ -182,7 +182,7 @@ module _ {D : Type 0} (asked : Bool) (seen : D → List ℕ) (may_leave : D → 
         (λ c left. ([], [], refl, left_open home c opened (only c left) ∙ ap Ok (sym (append-nil (entries_in (seen (home_device home)))))))
 
     -- before a group, or behind it
-    group_left : (old mid : Home D) (first group : List (List ℕ)) (file : List ℕ) → IsDone asked seen may_leave old mid first
+    group_left : (old mid : Home D) (first group : List (List ℕ)) (file : List ℕ) → IsDone frames seen may_leave old mid first
         → IsBeforeOrAfter (entries_in (seen (home_device mid))) (kept_lines (site_of mid).roster (state_in mid) group) file
         → HasKept (site_of old).roster (state_in old) (entries_in (seen (home_device old))) first file
         ⊎ HasKept (site_of old).roster (state_in old) (entries_in (seen (home_device old))) (first ++ group) file
@@ -199,7 +199,7 @@ module _ {D : Type 0} (asked : Bool) (seen : D → List ℕ) (may_leave : D → 
         → KeepsSome (site_of old).roster (state_in old) (entries_in (seen (home_device old))) first file → KeepsSome (site_of old).roster (state_in old) (entries_in (seen (home_device old))) all file
     some_more old all first more file is some = (some.0, some.1 ++ more, is ∙ ap (λ ls. ls ++ more) some.2 ∙ append_assoc some.0 some.1 more, some.3)
 
-    leaves_more : (old mid new : Home D) (first group : List (List ℕ)) → IsDone asked seen may_leave old mid first → LeavesSome old mid first → LeavesGroup mid new group → LeavesSome old new (first ++ group)
+    leaves_more : (old mid new : Home D) (first group : List (List ℕ)) → IsDone frames seen may_leave old mid first → LeavesSome old mid first → LeavesGroup mid new group → LeavesSome old new (first ++ group)
     leaves_more old mid new first group one run more =
         both moment left_since (home_device old) (home_device mid) (home_device new) _
         (weaker moment left_since (home_device old) (home_device mid) _ _ (λ c some. some_more old (first ++ group) first group c refl some) run)
@@ -210,7 +210,7 @@ module _ {D : Type 0} (asked : Bool) (seen : D → List ℕ) (may_leave : D → 
     pub record IsServing (old now : Home D) (had has : Option (List ℕ)) (start begun : List ℕ) (before after : Option (List ℕ)) : Type 0 where
       pub given : List (List ℕ)
       pub read : List ℕ
-      pub served : HasServed asked seen may_leave old now given before after
+      pub served : HasServed frames seen may_leave old now given before after
       pub came : Consumes had has read
       pub lines : (more : List ℕ) → lines_in (start ++ (read ++ more)) ≡ given ++ lines_in (begun ++ more)
       pub leaves : LeavesSome old now given
@@ -234,7 +234,7 @@ module _ {D : Type 0} (asked : Bool) (seen : D → List ℕ) (may_leave : D → 
         ap (λ (bs : List ℕ). lines_in (start ++ bs)) (append_assoc read chunk more) ∙ lines (chunk ++ more) ∙ ap (λ ls. given ++ ls) (takes.lines more)
 
     pub serving_more : (old mid new : Home D) (had has now : Option (List ℕ)) (start begun chunk taken left : List ℕ) (a b c : Option (List ℕ)) → IsServing old mid had has start begun a b → Takes begun chunk taken left
-        → Consumes has now chunk → HasServed asked seen may_leave mid new (lines_in taken) b c → LeavesGroup mid new (lines_in taken) → IsServing old new had now start left a c
+        → Consumes has now chunk → HasServed frames seen may_leave mid new (lines_in taken) b c → LeavesGroup mid new (lines_in taken) → IsServing old new had now start left a c
     serving_more old mid new had has now start begun chunk taken left a b c run takes consumed two more = record {
       given = run.given ++ lines_in taken;
       read = run.read ++ chunk;
@@ -250,7 +250,7 @@ module _ {D : Type 0} (asked : Bool) (seen : D → List ℕ) (may_leave : D → 
     abbrev pub Serves : (errors : D → List Error) → Home D → Home D → Option (List ℕ) → Option (List ℕ) → (start begun : List ℕ) → Option (List ℕ) → Option (List ℕ) → Result Served ServeFault → Type 0
     Serves errors old new had now start begun before after result =
         (read : List ℕ) × (unread : List ℕ) × IsKnownAs had (read ++ unread) × IsKnownAs now unread
-        × ServesAs asked seen may_leave errors old new (lines_in (start ++ (read ++ unread))) (lines_in (begun ++ unread)) before after result
+        × ServesAs frames seen may_leave errors old new (lines_in (start ++ (read ++ unread))) (lines_in (begun ++ unread)) before after result
 
     abbrev pub AnyMoment : Home D → Home D → Option (List ℕ) → List ℕ → Type 0
     AnyMoment old new had start = (input : List ℕ) × IsKnownAs had input × LeavesSome old new (lines_in (start ++ input))
@@ -311,7 +311,7 @@ module _ {D : Type 0} (asked : Bool) (seen : D → List ℕ) (may_leave : D → 
       served_memory old mid had has now start begun chunk left a b (Ok done) run consumed e = absurd e
       served_memory old mid had has now start begun chunk left a b (Err fault) run consumed e =
           let others = lines_in (begun ++ (chunk ++ rest_of now)) in
-          let behind : StopsBehind asked seen may_leave errors old mid run.given others (lines_in (left ++ rest_of now)) a b (serve.Home home.NoMemory) = (
+          let behind : StopsBehind frames seen may_leave errors old mid run.given others (lines_in (left ++ rest_of now)) a b (serve.Home home.NoMemory) = (
             run.served.answered,
             λ c now_left. ([], others, refl, kept_nil old run.given c (left_open mid c run.served.done.is_open now_left ∙ (λ i. Ok (entries_of (run.served.done.kept i))))),
           ) in (
@@ -323,7 +323,7 @@ module _ {D : Type 0} (asked : Bool) (seen : D → List ℕ) (may_leave : D → 
               run.given,
               others,
               ap (λ (bs : List ℕ). lines_in (start ++ bs)) (append_assoc run.read chunk (rest_of now)) ∙ run.lines (chunk ++ rest_of now),
-              subst (StopsBehind asked seen may_leave errors old mid run.given others (lines_in (left ++ rest_of now)) a b) (sym e) behind,
+              subst (StopsBehind frames seen may_leave errors old mid run.given others (lines_in (left ++ rest_of now)) a b) (sym e) behind,
             ),
           )
 
@@ -342,20 +342,20 @@ module _ {D : Type 0} (asked : Bool) (seen : D → List ℕ) (may_leave : D → 
           → ((error : Error) × (fault ≡ serve.Read error)) → Serves errors old mid had now start begun a b (Err fault)
       served_read old mid had has now start begun a b fault run same is =
           let others = lines_in (begun ++ rest_of now) in
-          let behind : StopsBehind asked seen may_leave errors old mid run.given others others a b (serve.Read is.0) = (run.served, refl) in (
+          let behind : StopsBehind frames seen may_leave errors old mid run.given others others a b (serve.Read is.0) = (run.served, refl) in (
             run.read,
             rest_of now,
             known_input had now run.read (consumes_kept had has now run.read run.came same),
             known_rest now,
-            (run.given, others, run.lines (rest_of now), subst (StopsBehind asked seen may_leave errors old mid run.given others others a b) (sym is.1) behind),
+            (run.given, others, run.lines (rest_of now), subst (StopsBehind frames seen may_leave errors old mid run.given others others a b) (sym is.1) behind),
           )
 
       module _ (counts : CountsNow) where
         -- a group that isn't served, behind lines that are
-        stops_behind : (old mid new : Home D) (given group unread : List (List ℕ)) (a b c : Option (List ℕ)) (fault : ServeFault) → HasServed asked seen may_leave old mid given a b
-            → StopsAt asked seen errors moment left_since mid new group b c fault → LeavesGroup mid new group → StopsBehind asked seen may_leave errors old new given (group ++ unread) unread a c fault
+        stops_behind : (old mid new : Home D) (given group unread : List (List ℕ)) (a b c : Option (List ℕ)) (fault : ServeFault) → HasServed frames seen may_leave old mid given a b
+            → StopsAt frames seen errors moment left_since mid new group b c fault → LeavesGroup mid new group → StopsBehind frames seen may_leave errors old new given (group ++ unread) unread a c fault
         stops_behind old mid new given group unread a b c (serve.Home fault) one stopped more = (
-          answered_kept asked (site_of old).roster (state_in old) given a b c one.answered stopped.1,
+          answered_kept frames (site_of old).roster (state_in old) given a b c one.answered stopped.1,
           λ file left. from_group old given group unread file (group_left old mid given group file one.done (more.each file (counts (home_device new) (moment (home_device mid)) file more.later left))),
         )
         stops_behind old mid new given group unread a b c (serve.NotKept fault) one stopped more = (
@@ -372,7 +372,7 @@ module _ {D : Type 0} (asked : Bool) (seen : D → List ℕ) (may_leave : D → 
         stops_behind old mid new given group unread a b c (serve.Read error) one stopped more = absurd stopped
 
         pub served_stop : (old mid new : Home D) (had has now : Option (List ℕ)) (start begun chunk taken left : List ℕ) (a b c : Option (List ℕ)) (fault : ServeFault) → IsServing old mid had has start begun a b → Takes begun chunk taken left
-            → Consumes has now chunk → StopsAt asked seen errors moment left_since mid new (lines_in taken) b c fault → LeavesGroup mid new (lines_in taken) → Serves errors old new had now start left a c (Err fault)
+            → Consumes has now chunk → StopsAt frames seen errors moment left_since mid new (lines_in taken) b c fault → LeavesGroup mid new (lines_in taken) → Serves errors old new had now start left a c (Err fault)
         served_stop old mid new had has now start begun chunk taken left a b c fault run takes consumed stopped more = (
           run.read ++ chunk,
           rest_of now,
@@ -387,7 +387,7 @@ module _ {D : Type 0} (asked : Bool) (seen : D → List ℕ) (may_leave : D → 
         )
 
         pub served_at_the_end : (old mid new : Home D) (had has now : Option (List ℕ)) (start begun left : List ℕ) (a b c : Option (List ℕ)) (r : Result Served ServeFault) → IsServing old mid had has start begun a b
-            → Consumes has now [] → IsAtEnd now → left ≡ [] → IfOk r (λ served. served ≡ Ended) → OnOk r (HasServed asked seen may_leave mid new (cut_line begun) b c) → IfErr r (StopsAt asked seen errors moment left_since mid new (cut_line begun) b c)
+            → Consumes has now [] → IsAtEnd now → left ≡ [] → IfOk r (λ served. served ≡ Ended) → OnOk r (HasServed frames seen may_leave mid new (cut_line begun) b c) → IfErr r (StopsAt frames seen errors moment left_since mid new (cut_line begun) b c)
             → LeavesGroup mid new (cut_line begun) → Serves errors old new had now start left a c r
         served_at_the_end old mid new had has now start begun left a b c r run consumed ended empty whole two stopped more = (
           run.read,
@@ -403,17 +403,17 @@ module _ {D : Type 0} (asked : Bool) (seen : D → List ℕ) (may_leave : D → 
             unread : lines_in (left ++ rest_of now) ≡ []
             unread = (λ i. lines_in (empty i ++ rest_at_end now ended i))
 
-            ends : (r : Result Served ServeFault) → IfOk r (λ served. served ≡ Ended) → OnOk r (HasServed asked seen may_leave mid new (cut_line begun) b c) → IfErr r (StopsAt asked seen errors moment left_since mid new (cut_line begun) b c)
-                → ServesAs asked seen may_leave errors old new (lines_in (start ++ (run.read ++ rest_of now))) (lines_in (left ++ rest_of now)) a c r
+            ends : (r : Result Served ServeFault) → IfOk r (λ served. served ≡ Ended) → OnOk r (HasServed frames seen may_leave mid new (cut_line begun) b c) → IfErr r (StopsAt frames seen errors moment left_since mid new (cut_line begun) b c)
+                → ServesAs frames seen may_leave errors old new (lines_in (start ++ (run.read ++ rest_of now))) (lines_in (left ++ rest_of now)) a c r
             ends (Ok Long) whole two stopped = absurd (other whole)
               where
                 other : Long ≡ Ended → ⊥
                 other e = cc
-            ends (Ok Ended) whole two stopped = subst (λ (ls : List (List ℕ)). HasServed asked seen may_leave old new ls a c) (sym is) (served_both old mid new run.given (cut_line begun) a b c run.served two)
+            ends (Ok Ended) whole two stopped = subst (λ (ls : List (List ℕ)). HasServed frames seen may_leave old new ls a c) (sym is) (served_both old mid new run.given (cut_line begun) a b c run.served two)
             ends (Err fault) whole two stopped = (
               run.given,
               cut_line begun ++ lines_in (left ++ rest_of now),
               is ∙ ap (λ ls. run.given ++ ls) (sym (append-nil (cut_line begun))) ∙ ap (λ ls. run.given ++ (cut_line begun ++ ls)) (sym unread),
-              subst (λ (ls : List (List ℕ)). StopsBehind asked seen may_leave errors old new run.given (cut_line begun ++ ls) ls a c fault) (sym unread)
+              subst (λ (ls : List (List ℕ)). StopsBehind frames seen may_leave errors old new run.given (cut_line begun ++ ls) ls a c fault) (sym unread)
                   (stops_behind old mid new run.given (cut_line begun) [] a b c fault run.served stopped more),
             )

@@ -1,3 +1,4 @@
+pub mod Frames
 pub mod Writing
 pub mod InputLines
 pub mod Stops

@@ -21,23 +21,23 @@ use Rattle.fed_serve.specs.declared.serving.Served.TheVariants.{Ended, Long}
 use Rattle.fed_serve.proofs.InputLines.{whole_lines}
 
 -- as much is written to the lines as to what is given of them
-text_of_given : (words : Option (List ℕ)) (given : List (List ℕ)) → not_kept_text words (map given_as given) ≡ not_kept_text words given
-text_of_given words [] = refl
-text_of_given words (line ∷ given) = ap (λ (bs : List ℕ). not_kept_bytes words ++ bs) (text_of_given words given)
+text_of_given : (frames : Bool) (words : Option (List ℕ)) (given : List (List ℕ)) → not_kept_text frames words (map given_as given) ≡ not_kept_text frames words given
+text_of_given frames words [] = refl
+text_of_given frames words (line ∷ given) = ap (λ (bs : List ℕ). not_kept_bytes frames words ++ bs) (text_of_given frames words given)
 
-not_kept_of : (asked : Bool) (text : List ℕ) (before after : Option (List ℕ)) → EndsLines text → AreNotKept asked (lines text) before after → AreNotKept asked (lines_in text) before after
-not_kept_of asked text before after ends told =
-    let same : not_kept_text told.0 (lines text) ≡ not_kept_text told.0 (lines_in text) = sym (ap (not_kept_text told.0) (whole_lines text ends) ∙ text_of_given told.0 (lines text)) in
+not_kept_of : (frames : Bool) (text : List ℕ) (before after : Option (List ℕ)) → EndsLines text → AreNotKept frames (lines text) before after → AreNotKept frames (lines_in text) before after
+not_kept_of frames text before after ends told =
+    let same : not_kept_text frames told.0 (lines text) ≡ not_kept_text frames told.0 (lines_in text) = sym (ap (not_kept_text frames told.0) (whole_lines text ends) ∙ text_of_given frames told.0 (lines text)) in
     (told.0, told.1, subst (Appends before after) same told.2)
 
-module _ {D : Type 0} (asked : Bool) (seen : D → List ℕ) (errors : D → List Error) (moment : D → ℕ) (left_since : D → ℕ → List ℕ → Type 0) where
-  pub stops_at : (old new : Home D) (text : List ℕ) (before after : Option (List ℕ)) (cause : HomeFault) (fault : ServeFault) → EndsLines text → IsStop asked (lines text) before after cause fault
+module _ {D : Type 0} (frames : Bool) (seen : D → List ℕ) (errors : D → List Error) (moment : D → ℕ) (left_since : D → ℕ → List ℕ → Type 0) where
+  pub stops_at : (old new : Home D) (text : List ℕ) (before after : Option (List ℕ)) (cause : HomeFault) (fault : ServeFault) → EndsLines text → IsStop frames (lines text) before after cause fault
       → (is_in_doubt cause ≡ false → LeavesOnly moment left_since (home_device old) (home_device new) (λ c. recovered c ≡ Ok (entries_in (seen (home_device old)))))
       → StopsAnswers (errors (home_device old)) (errors (home_device new)) (bytes_with seen old (lines_in text)) cause
-      → StopsAt asked seen errors moment left_since old new (lines_in text) before after fault
+      → StopsAt frames seen errors moment left_since old new (lines_in text) before after fault
   stops_at old new text before after cause (serve.Home fault) ends stop nothing stops = (subst (λ (f : HomeFault). is_in_doubt f ≡ true) (sym stop.0) stop.1, stop.2)
   stops_at old new text before after cause (serve.NotKept fault) ends stop nothing stops = (
-    not_kept_of asked text before after ends stop.2,
+    not_kept_of frames text before after ends stop.2,
     nothing stop.1,
     (
       subst (λ (f : HomeFault). is_in_doubt f ≡ false) (sym stop.0) stop.1,

@@ -1,5 +1,6 @@
 -- What the contracts of this crate cite.
 pub mod Fault
+pub mod Frame
 pub mod Inputs
 pub mod Served
 pub mod Words

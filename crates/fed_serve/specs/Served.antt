@@ -23,15 +23,15 @@ use Rattle.fed_serve.specs.declared.faults.ServeFault.TheVariants as serve
 use Rattle.fed_serve.specs.declared.serving.Served.{Served}
 use Rattle.fed_serve.specs.declared.serving.Served.TheVariants.{Ended, Long}
 
--- The answers to these lines, one after another, were written, with words where they are asked for.
-abbrev pub HasAnswered : (asked : Bool) → List (List ℕ × ℕ) → State → List (List ℕ) → Option (List ℕ) → Option (List ℕ) → Type 0
-HasAnswered asked roster s given before after =
-    (answers : List Told) × AreReplies roster s given (answers_in answers) × All (IsTold asked) answers × Appends before after (told_text answers)
+-- The answers to these lines, one after another, were written, in lines or in frames.
+abbrev pub HasAnswered : (frames : Bool) → List (List ℕ × ℕ) → State → List (List ℕ) → Option (List ℕ) → Option (List ℕ) → Type 0
+HasAnswered frames roster s given before after =
+    (answers : List Told) × AreReplies roster s given (answers_in answers) × All (IsTold frames) answers × Appends before after (told_text frames answers)
 
--- Each of these lines was answered `not kept`, with words at most where they are asked for.
-abbrev pub AreNotKept : (asked : Bool) → List (List ℕ) → Option (List ℕ) → Option (List ℕ) → Type 0
-AreNotKept asked given before after =
-    (words : Option (List ℕ)) × (asked ≡ false → words ≡ None) × Appends before after (not_kept_text words given)
+-- Each of these lines was answered `not kept`, with words at most in frames.
+abbrev pub AreNotKept : (frames : Bool) → List (List ℕ) → Option (List ℕ) → Option (List ℕ) → Type 0
+AreNotKept frames given before after =
+    (words : Option (List ℕ)) × (frames ≡ false → words ≡ None) × Appends before after (not_kept_text frames words given)
 
 -- a file that has, behind these entries, what lines keep
 abbrev pub HasKept : List (List ℕ × ℕ) → State → List (List ℕ) → List (List ℕ) → List ℕ → Type 0
@@ -58,13 +58,13 @@ StopsGroup seen errors old new given fault =
     (is_in_doubt fault ≡ false) × ((earlier : List Error) × StopsAnswers earlier (errors (home_device new)) (bytes_with seen old given) fault)
 
 -- what is told of lines that can't be kept for this cause, and what is written to them
-abbrev pub IsStop : (asked : Bool) → List (List ℕ) → Option (List ℕ) → Option (List ℕ) → HomeFault → ServeFault → Type 0
-IsStop asked given before after cause (serve.Home fault) = (fault ≡ cause) × (is_in_doubt cause ≡ true) × Keeps before after
-IsStop asked given before after cause (serve.NotKept fault) = (fault ≡ cause) × (is_in_doubt cause ≡ false) × AreNotKept asked given before after
-IsStop asked given before after cause (serve.Write error) = is_in_doubt cause ≡ false
-IsStop asked given before after cause (serve.Read error) = ⊥
+abbrev pub IsStop : (frames : Bool) → List (List ℕ) → Option (List ℕ) → Option (List ℕ) → HomeFault → ServeFault → Type 0
+IsStop frames given before after cause (serve.Home fault) = (fault ≡ cause) × (is_in_doubt cause ≡ true) × Keeps before after
+IsStop frames given before after cause (serve.NotKept fault) = (fault ≡ cause) × (is_in_doubt cause ≡ false) × AreNotKept frames given before after
+IsStop frames given before after cause (serve.Write error) = is_in_doubt cause ≡ false
+IsStop frames given before after cause (serve.Read error) = ⊥
 
-module _ {D : Type 0} (asked : Bool) (seen : D → List ℕ) (may_leave : D → List ℕ → Type 0) where
+module _ {D : Type 0} (frames : Bool) (seen : D → List ℕ) (may_leave : D → List ℕ → Type 0) where
   -- the site has done these lines, and what they keep is on the disk
   pub record IsDone (old new : Home D) (given : List (List ℕ)) : Type 0 where
     pub is_open : IsOpen seen may_leave new
@@ -75,7 +75,7 @@ module _ {D : Type 0} (asked : Bool) (seen : D → List ℕ) (may_leave : D → 
   -- and the answers are written
   pub record HasServed (old new : Home D) (given : List (List ℕ)) (before after : Option (List ℕ)) : Type 0 where
     pub done : IsDone old new given
-    pub answered : HasAnswered asked (site_of old).roster (state_in old) given before after
+    pub answered : HasAnswered frames (site_of old).roster (state_in old) given before after
 
   module _ (errors : D → List Error) where
     -- What is left by a fault behind these first lines, with the others of the input and those that aren't read yet.
@@ -85,12 +85,12 @@ module _ {D : Type 0} (asked : Bool) (seen : D → List ℕ) (may_leave : D → 
     -- a group behind the first can't be kept and is answered so; nothing of it is kept, and the rest is not read
     StopsBehind old new first others unread before after (serve.NotKept fault) =
         (group : List (List ℕ)) × (between : Option (List ℕ)) × (others ≡ group ++ unread)
-        × HasAnswered asked (site_of old).roster (state_in old) first before between × AreNotKept asked group between after
+        × HasAnswered frames (site_of old).roster (state_in old) first before between × AreNotKept frames group between after
         × Leaves (HasKept (site_of old).roster (state_in old) (entries_in (seen (home_device old))) first) (may_leave (home_device new))
         × StopsGroup seen errors old new (first ++ group) fault
     -- the first are answered, and of the others nobody is
     StopsBehind old new first others unread before after (serve.Home fault) =
-        HasAnswered asked (site_of old).roster (state_in old) first before after
+        HasAnswered frames (site_of old).roster (state_in old) first before after
         × Leaves (KeepsFrom (site_of old).roster (state_in old) (entries_in (seen (home_device old))) first others) (may_leave (home_device new))
     -- the first are answered, and of a group behind them, which is kept too, some may be
     StopsBehind old new first others unread before after (serve.Write error) =
@@ -105,12 +105,12 @@ module _ {D : Type 0} (asked : Bool) (seen : D → List ℕ) (may_leave : D → 
     ServesAs old new given unread before after (Err fault) =
         (first : List (List ℕ)) × (others : List (List ℕ)) × (given ≡ first ++ others) × StopsBehind old new first others unread before after fault
 
-module _ {D : Type 0} (asked : Bool) (seen : D → List ℕ) (errors : D → List Error) (moment : D → ℕ) (left_since : D → ℕ → List ℕ → Type 0) where
+module _ {D : Type 0} (frames : Bool) (seen : D → List ℕ) (errors : D → List Error) (moment : D → ℕ) (left_since : D → ℕ → List ℕ → Type 0) where
   -- what is left where a group isn't served
   abbrev pub StopsAt : Home D → Home D → List (List ℕ) → Option (List ℕ) → Option (List ℕ) → ServeFault → Type 0
   StopsAt old new given before after (serve.Home fault) = (is_in_doubt fault ≡ true) × Keeps before after
   StopsAt old new given before after (serve.NotKept fault) =
-      AreNotKept asked given before after
+      AreNotKept frames given before after
       × LeavesOnly moment left_since (home_device old) (home_device new) (λ c. recovered c ≡ Ok (entries_in (seen (home_device old))))
       × StopsGroup seen errors old new given fault
   StopsAt old new given before after (serve.Write error) = ⊤

@@ -1,28 +1,40 @@
--- What is written to a line: its answer, the words that are told beside it, and an empty line.
-use Rattle.std.specs.Prelude.{ℕ, List, [], ◌∷◌, ◌++◌, Option, Some, None, codes, option_map, slice_get, string_bytes, unwrap_or}
+-- What is written to a line: in lines its answer and an empty line, in frames one frame.
+use Rattle.std.specs.Prelude.{ℕ, Bool, List, [], ◌∷◌, ◌++◌, Option, Some, None, codes, decimal, if◌then◌else◌, length, option_map, string_bytes, unwrap_or}
 use Rattle.std.specs.List.{flat_map}
-use Rattle.std.specs.Str.Lines.{lines}
-use Rattle.fed_site.specs.Answered.{bytes_of}
+use Rattle.fed_site.specs.Answered.{bytes_of, complaint_of}
+use Rattle.fed_site.specs.declared.complaints.Complaint.{Complaint}
 use Rattle.fed_site.specs.declared.tellings.Told.{Told}
+use Rattle.fed_serve.specs.Frame.{Frame, frame_bytes}
 
-abbrev pub first_line : List ℕ → List ℕ
-first_line text = unwrap_or (slice_get (lines text) 0) []
+-- the status where a line is answered: 1 where it isn't done as it asks
+abbrev pub answered_status : Option Complaint → ℕ
+answered_status None = 0
+answered_status (Some complaint) = 1
 
--- Words stand on one line; of more lines the first is told.
-abbrev pub words_line : Option (List ℕ) → List ℕ
-words_line None = []
-words_line (Some words) = codes "# " ++ first_line words ++ 10 ∷ []
+abbrev pub words_of : Told → List ℕ
+words_of told = unwrap_or (option_map string_bytes told.words) []
 
-abbrev pub told_bytes : Told → List ℕ
-told_bytes told = bytes_of told.answer ++ words_line (option_map string_bytes told.words) ++ 10 ∷ []
+-- the frame of an answer and of the words that are told beside it
+abbrev pub frame_of : Told → Frame
+frame_of told = record { status = answered_status (complaint_of told.answer); answer = bytes_of told.answer; words = words_of told }
 
-abbrev pub told_text : List Told → List ℕ
-told_text answers = flat_map told_bytes answers
+abbrev pub told_bytes : (frames : Bool) → Told → List ℕ
+told_bytes frames told = if frames then frame_bytes (frame_of told) else (bytes_of told.answer ++ 10 ∷ [])
 
--- to a line that can't be kept, with these words
-abbrev pub not_kept_bytes : Option (List ℕ) → List ℕ
-not_kept_bytes words = codes "not kept" ++ 10 ∷ [] ++ words_line words ++ 10 ∷ []
+abbrev pub told_text : (frames : Bool) → List Told → List ℕ
+told_text frames answers = flat_map (told_bytes frames) answers
+
+-- the answer to a line that can't be kept
+abbrev pub not_kept : List ℕ
+not_kept = codes "not kept" ++ 10 ∷ []
+
+-- its frame, with these words, if any
+abbrev pub not_kept_frame : Option (List ℕ) → Frame
+not_kept_frame words = record { status = 3; answer = not_kept; words = unwrap_or words [] }
+
+abbrev pub not_kept_bytes : (frames : Bool) → Option (List ℕ) → List ℕ
+not_kept_bytes frames words = if frames then frame_bytes (not_kept_frame words) else (not_kept ++ 10 ∷ [])
 
 -- to each of these lines
-abbrev pub not_kept_text : Option (List ℕ) → List (List ℕ) → List ℕ
-not_kept_text words given = flat_map (λ line. not_kept_bytes words) given
+abbrev pub not_kept_text : (frames : Bool) → Option (List ℕ) → List (List ℕ) → List ℕ
+not_kept_text frames words given = flat_map (λ line. not_kept_bytes frames words) given

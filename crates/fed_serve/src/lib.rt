@@ -18,3 +18,4 @@ pub use faults::ServeFault;
 pub use inputs::{MAX_LINE_BYTES, MAX_TAKE_BYTES, at_most_longest};
 pub use lines::{line_of_words, take_line};
 pub use serving::{Served, serve};
+pub use written::answered_status;

@@ -68,13 +68,13 @@ fn answers_to<D: Device + Drop>(
     alloc: Global,
     home: &mut Home<D>,
     text: &[u8],
-    asked: bool,
+    frames: bool,
 ) -> Result<Vec<Told>, HomeFault>
     requires open { IsOpen D.seen D.may_leave home.old }
     requires whole { EndsLines text.now }
-    ensures done { OnOk result (IsDone asked D.seen D.may_leave home.old home.new (lines_in text.now)) }
+    ensures done { OnOk result (IsDone frames D.seen D.may_leave home.old home.new (lines_in text.now)) }
     ensures answers { IfOk result (λ answers. AreReplies (site_of home.old).roster (state_in home.old) (lines_in text.now) (answers_in answers.items)) }
-    ensures words { IfOk result (λ answers. All (IsTold asked) answers.items) }
+    ensures words { IfOk result (λ answers. All (IsTold frames) answers.items) }
     ensures any_moment { LeavesOnly D.moment D.left_since (home_device home.old) (home_device home.new)
         (IsBeforeOrAfter (entries_in (D.seen (home_device home.old)))
         (kept_lines (site_of home.old).roster (state_in home.old) (lines_in text.now))) }
@@ -83,14 +83,14 @@ fn answers_to<D: Device + Drop>(
     ensures fault { IfErr result (StopsAnswers (D.errors (home_device home.old)) (D.errors (home_device home.new)) (bytes_with D.seen home.old (lines_in text.now))) }
 {
     let lines = given_lines(alloc, text)?;
-    home.answer(&lines, asked)
+    home.answer(&lines, frames)
 }
 
-/// What is told beside `not kept`, where words are asked for and there is memory for them.
-fn not_kept_words(alloc: Global, asked: bool, fault: HomeFault) -> Option<String>
-    ensures { asked ≡ false → result ≡ None }
+/// What is told beside `not kept` in frames, where there is memory for it.
+fn not_kept_words(alloc: Global, frames: bool, fault: HomeFault) -> Option<String>
+    ensures { frames ≡ false → result ≡ None }
 {
-    if !asked {
+    if !frames {
         return None;
     }
     format!(in alloc;
@@ -103,16 +103,16 @@ fn stop<W: Write>(
     alloc: Global,
     text: &[u8],
     writer: &mut W,
-    asked: bool,
+    frames: bool,
     fault: HomeFault,
 ) -> ServeFault
-    ensures { IsStop asked (lines text.now) (W.contents writer.old) (W.contents writer.new) fault result }
+    ensures { IsStop frames (lines text.now) (W.contents writer.old) (W.contents writer.new) fault result }
 {
     if fault.is_in_doubt() {
         return ServeFault::Home(fault);
     }
-    let words = not_kept_words(alloc, asked, fault);
-    match write_not_kept(writer, text, words.as_deref()) {
+    let words = not_kept_words(alloc, frames, fault);
+    match write_not_kept(writer, text, words.as_deref(), frames) {
         Ok(()) => ServeFault::NotKept(fault),
         Err(error) => ServeFault::Write(error),
     }
@@ -124,23 +124,23 @@ fn answer_text<D: Device + Drop, W: Write>(
     home: &mut Home<D>,
     text: &[u8],
     writer: &mut W,
-    asked: bool,
+    frames: bool,
 ) -> Result<(), ServeFault>
     requires open { IsOpen D.seen D.may_leave home.old }
     requires whole { EndsLines text.now }
-    ensures served { OnOk result (HasServed asked D.seen D.may_leave home.old home.new (lines_in text.now) (W.contents writer.old) (W.contents writer.new)) }
-    ensures stopped { IfErr result (StopsAt asked D.seen D.errors D.moment D.left_since home.old home.new (lines_in text.now) (W.contents writer.old) (W.contents writer.new)) }
+    ensures served { OnOk result (HasServed frames D.seen D.may_leave home.old home.new (lines_in text.now) (W.contents writer.old) (W.contents writer.new)) }
+    ensures stopped { IfErr result (StopsAt frames D.seen D.errors D.moment D.left_since home.old home.new (lines_in text.now) (W.contents writer.old) (W.contents writer.new)) }
     ensures any_moment { LeavesOnly D.moment D.left_since (home_device home.old) (home_device home.new)
         (IsBeforeOrAfter (entries_in (D.seen (home_device home.old)))
         (kept_lines (site_of home.old).roster (state_in home.old) (lines_in text.now))) }
     ensures fault { IfErr result (StopsServing (D.errors (home_device home.new))) }
 {
-    match answers_to(alloc, home, text, asked) {
-        Ok(answers) => match write_answers(writer, &answers) {
+    match answers_to(alloc, home, text, frames) {
+        Ok(answers) => match write_answers(writer, &answers, frames) {
             Ok(()) => Ok(()),
             Err(error) => Err(ServeFault::Write(error)),
         },
-        Err(fault) => Err(stop(alloc, text, writer, asked, fault)),
+        Err(fault) => Err(stop(alloc, text, writer, frames, fault)),
     }
 }
 
@@ -150,12 +150,12 @@ fn answer_cut<D: Device + Drop, W: Write>(
     home: &mut Home<D>,
     begun: &mut Vec<u8>,
     writer: &mut W,
-    asked: bool,
+    frames: bool,
 ) -> Result<Served, ServeFault>
     requires { IsOpen D.seen D.may_leave home.old }
     ensures ended { IfOk result (λ served. served ≡ Served.Ended) }
-    ensures served { OnOk result (HasServed asked D.seen D.may_leave home.old home.new (cut_line begun.old.items) (W.contents writer.old) (W.contents writer.new)) }
-    ensures stopped { IfErr result (StopsAt asked D.seen D.errors D.moment D.left_since home.old home.new (cut_line begun.old.items) (W.contents writer.old) (W.contents writer.new)) }
+    ensures served { OnOk result (HasServed frames D.seen D.may_leave home.old home.new (cut_line begun.old.items) (W.contents writer.old) (W.contents writer.new)) }
+    ensures stopped { IfErr result (StopsAt frames D.seen D.errors D.moment D.left_since home.old home.new (cut_line begun.old.items) (W.contents writer.old) (W.contents writer.new)) }
     ensures any_moment { LeavesOnly D.moment D.left_since (home_device home.old) (home_device home.new)
         (IsBeforeOrAfter (entries_in (D.seen (home_device home.old)))
         (kept_lines (site_of home.old).roster (state_in home.old) (cut_line begun.old.items))) }
@@ -166,15 +166,16 @@ fn answer_cut<D: Device + Drop, W: Write>(
         return Ok(Served::Ended);
     }
     begun.clear();
-    match answer_text(alloc, home, CUT, writer, asked) {
+    match answer_text(alloc, home, CUT, writer, frames) {
         Ok(()) => Ok(Served::Ended),
         Err(fault) => Err(fault),
     }
 }
 
-/// Answers each line of an input, until it ends: the text that the site says to it; where words are asked for and the user
-/// is told something of the line, a line of `# ` and these words; and an empty line. A last line without its line feed was
-/// cut on its way: it is given as a line that can't be read. The lines that come together are one group, which the disk has
+/// Answers each line of an input, until it ends: by the text that the site says to it and an empty line; in `frames` by a
+/// head line, that text, and the words that the user is told beside it, if any. The head line has the status that the
+/// program ends with where this is its only line, the bytes of the text and the bytes of the words. A last line without its
+/// line feed was cut on its way: it is given as a line that can't be read. The lines that come together are one group, which the disk has
 /// before one of them is answered. Of the next line `begun` has what has come of it, at first nothing. Between two groups
 /// the call ends with `Long` once the journal has more than `most_bytes` bytes, at once where it has.
 ///
@@ -189,13 +190,13 @@ pub fn serve<D: Device + Drop, R: Read, W: Write>(
     begun: &mut Vec<u8>,
     reader: &mut R,
     writer: &mut W,
-    asked: bool,
+    frames: bool,
     most_bytes: usize,
 ) -> Result<Served, ServeFault>
     requires open { IsOpen D.seen D.may_leave home.old }
     requires begun { HasNoLineFeed begun.old.items }
     ensures served { (read : List ℕ) × (unread : List ℕ) × IsKnownAs (R.remaining reader.old) (read ++ unread) × IsKnownAs (R.remaining reader.new) unread
-        × ServesAs asked D.seen D.may_leave D.errors home.old home.new (lines_in (begun.old.items ++ (read ++ unread))) (lines_in (begun.new.items ++ unread))
+        × ServesAs frames D.seen D.may_leave D.errors home.old home.new (lines_in (begun.old.items ++ (read ++ unread))) (lines_in (begun.new.items ++ unread))
         (W.contents writer.old) (W.contents writer.new) result }
 
     // A crash at any moment of the call leaves the entries from before it and, behind them, what some first lines keep.
@@ -214,12 +215,12 @@ pub fn serve<D: Device + Drop, R: Read, W: Write>(
             return Ok(Served::Long);
         }
         let count = match read_chunk(reader, &mut chunk) {
-            Ok(0) => return answer_cut(alloc, home, begun, writer, asked),
+            Ok(0) => return answer_cut(alloc, home, begun, writer, frames),
             Ok(count) => count,
             Err(fault) => return Err(fault),
         };
         let lines = take_lines(alloc, begun, &chunk[..count])?;
-        if let Err(fault) = answer_text(alloc, home, &lines, writer, asked) {
+        if let Err(fault) = answer_text(alloc, home, &lines, writer, frames) {
             return Err(fault);
         }
     }

@@ -15,9 +15,10 @@ use Rattle.fed_machine.specs.Planned.{plan_if_any}
 use Rattle.fed_site.specs.declared.complaints.Complaint.{Complaint}
 use Rattle.fed_site.specs.Journal.{after_lines, kept_line, kept_lines}
 use Rattle.fed_site.specs.OwnLine.{OwnLine, tells, carries, asks, says, own_line_of, told_by}
+use Rattle.fed_site.specs.Handed.{complaint_of_name, named_in, packet_of}
 use Rattle.fed_site.specs.Packets.{is_foreign, is_forgotten}
 use Rattle.fed_site.specs.Rosters.{are_same, next_roster, roster_after, roster_after_lines, roster_told}
-use Rattle.fed_site.specs.Says.{after_command, after_commands, after_next, after_own, after_plan, after_reading, after_receipt, site_says, undone}
+use Rattle.fed_site.specs.Says.{after_command, after_commands, after_handing, after_next, after_own, after_plan, after_reading, after_receipt, after_text, site_says, undone}
 use Rattle.fed_site.proofs.ReadLines.{told_is}
 use Rattle.fed_site.proofs.RosterLines.{same_sites}
 
@@ -59,6 +60,13 @@ module _ (roster : List (List ℕ × ℕ)) where
   reading_unkept s (Ok p) e = packet_unkept s p (is_foreign roster p) (is_forgotten s p) e
   reading_unkept s (Err fault) e = refl
 
+  handing_unkept : (s : State) (complaint : Option Complaint) (r : Result PacketValue WireFault) → (after_handing roster s complaint r).kept ≡ false → (after_handing roster s complaint r).after ≡ s
+  handing_unkept s None r e = reading_unkept s r e
+  handing_unkept s (Some complaint) r e = refl
+
+  pub text_unkept : (s : State) (text : List ℕ) → (after_text roster s text).kept ≡ false → (after_text roster s text).after ≡ s
+  text_unkept s text e = handing_unkept s (complaint_of_name roster (named_in text) (packet_in (packet_of text))) (packet_in (packet_of text)) e
+
   -- ---- lines
   pub next_unkept : (s : State) (next : Option (List (List ℕ × ℕ))) → (after_next roster s next).after ≡ s
   next_unkept s None = refl
@@ -66,7 +74,7 @@ module _ (roster : List (List ℕ × ℕ)) where
 
   own_unkept : (s : State) (line : OwnLine) → (after_own roster s line).kept ≡ false → (after_own roster s line).after ≡ s
   own_unkept s (tells told) e = next_unkept s (next_roster roster told)
-  own_unkept s (carries text) e = reading_unkept s (packet_in text) e
+  own_unkept s (carries text) e = text_unkept s text e
   own_unkept s (asks look) e = refl
   own_unkept s (says None) e = refl
   own_unkept s (says (Some skips)) e = refl

@@ -2,6 +2,7 @@
 pub mod Site
 pub mod Line
 pub mod LookText
+pub mod Handed
 pub mod Packets
 pub mod Rosters
 pub mod Seen

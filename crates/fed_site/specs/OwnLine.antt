@@ -10,7 +10,7 @@ use Rattle.fed_site.specs.Rosters.{words_behind}
 pub data OwnLine : Type 0 where
   -- the roster, or words that name none
   tells : (told : Option (List (List ℕ × ℕ))) → OwnLine
-  -- the text of a packet
+  -- the text of a packet, and by whom it is handed in, where that is told
   carries : (text : List ℕ) → OwnLine
   -- it asks for a look
   asks : (look : Look) → OwnLine

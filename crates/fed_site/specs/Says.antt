@@ -18,6 +18,7 @@ use Rattle.fed_site.specs.LookText.{text_of_look}
 use Rattle.fed_site.specs.declared.answers.Begun.{Begun}
 use Rattle.fed_site.specs.declared.complaints.Complaint.{Complaint}
 use Rattle.fed_site.specs.OwnLine.{OwnLine, tells, carries, asks, says, own_line_of}
+use Rattle.fed_site.specs.Handed.{complaint_of_name, named_in, packet_of, text_of_complaint}
 use Rattle.fed_site.specs.Packets.{is_foreign, is_forgotten, unread_text, IsPacketText}
 use Rattle.fed_site.specs.Rosters.{are_same, next_roster}
 
@@ -125,6 +126,15 @@ module _ (roster : List (List ℕ × ℕ)) where
   after_reading s (Ok p) = after_packet s p
   after_reading s (Err fault) = undone s (answer_line (unread_text fault)) (Complaint.Unread fault)
 
+  -- of a text that a site hands in, a packet of another sender is not taken
+  abbrev pub after_handing : State → Option Complaint → Result PacketValue WireFault → Done
+  after_handing s None reading = after_reading s reading
+  after_handing s (Some complaint) reading = undone s (answer_line (text_of_complaint roster complaint)) complaint
+
+  -- to what stands behind `take`
+  abbrev pub after_text : State → List ℕ → Done
+  after_text s text = after_handing s (complaint_of_name roster (named_in text) (packet_in (packet_of text))) (packet_in (packet_of text))
+
   -- ---- lines
   abbrev pub unreadable : State → Said
   unreadable s = said_of (undone s (answer_line (codes "cannot be read")) Complaint.Unreadable)
@@ -150,7 +160,7 @@ module _ (roster : List (List ℕ × ℕ)) where
   -- to what a line says
   abbrev pub after_own : State → OwnLine → Said
   after_own s (tells told) = said_of (after_next s (next_roster roster told))
-  after_own s (carries text) = said_of (after_reading s (packet_in text))
+  after_own s (carries text) = said_of (after_text s text)
   after_own s (asks look) = said_of (only s (text_of_look roster s look))
   after_own s (says (Some line)) = after_line s line
   after_own s (says None) = unreadable s

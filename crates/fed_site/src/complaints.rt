@@ -34,6 +34,8 @@ pub enum Complaint {
     Foreign,
     /// The packet has seen more of this site's own operations than the site has made.
     Forgotten,
+    /// The packet's sender is another site than this one, which is said to hand it in.
+    NotFrom(SiteId),
     /// The packet needs what this site lacks, of that site.
     Gap(SiteId),
     /// What the board says runs at the site fits no machine, so that there is no plan.
@@ -144,6 +146,10 @@ impl fmt::Display for Complaint {
                 f,
                 "forgotten: the packet has seen operations of this site that its journal lacks: stop, and go on \
                 with the newest journal"
+            ),
+            Complaint::NotFrom(_) => write!(
+                f,
+                "not from: the packet's sender is another site than the one that hands it in"
             ),
             Complaint::Gap(_) => write!(
                 f,

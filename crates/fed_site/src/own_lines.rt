@@ -19,7 +19,7 @@ use std::alloc::Global;
 pub enum OwnLine<'a> {
     /// `roster NAME:NODES ..`: the roster, or `None` where the words name none.
     Roster(Option<BoxedRoster>),
-    /// `take TEXT`: the text.
+    /// `take TEXT`, `take from NAME TEXT`: what stands behind `take`.
     Packet(&'a [u8]),
     /// What an operator asks the site.
     Look(Look),
@@ -34,7 +34,7 @@ fn has_line_feed(line: &[u8]) -> bool
     line.contains(&b'\n')
 }
 
-/// `take TEXT`: the text, which has no line feed.
+/// `take TEXT`: what stands behind `take`, which has no line feed.
 fn packet_text(line: &[u8]) -> Option<&[u8]>
     ensures { option_map (λ text. text.now) result ≡ packet_text_in line.now }
 {

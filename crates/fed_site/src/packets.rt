@@ -1,5 +1,5 @@
 //! What a site does to the texts of packets, and the text of its own.
-ghost use Rattle.std.specs.Prelude.{◌≡◌, ◌≢◌, ◌≤◌, ◌++◌, nat_lt, drop, ℕ, List, IfOk, OnErr, codes, if◌then◌else◌};
+ghost use Rattle.std.specs.Prelude.{◌≡◌, ◌≢◌, ◌≤◌, ◌<◌, ◌++◌, nat_lt, drop, ℕ, List, IfOk, IfSome, OnErr, codes, if◌then◌else◌, length, option_map, position};
 ghost use Rattle.std.specs.Cow.{cow_str_bytes};
 ghost use Rattle.std.specs.Fmt.{decimal};
 ghost use Rattle.std.specs.List.{list_any};
@@ -9,7 +9,8 @@ ghost use Rattle.fed_qstat.specs.Outcome.{answer_line};
 ghost use Rattle.fed_site.specs.Acts.{DoneAs};
 ghost use Rattle.fed_replica.specs.State.{state_of};
 ghost use Rattle.fed_site.specs.Packets.{is_foreign as tells_of_others, is_forgotten as has_seen_more, part_text as text_of_part, place_text as text_of_place, unread_text, IsPacketText};
-ghost use Rattle.fed_site.specs.Says.{after_packet, after_reading, after_receipt};
+ghost use Rattle.fed_site.specs.Handed.{complaint_of_name, cut_behind, is_blank, named_in, packet_of, site_of, text_of_complaint};
+ghost use Rattle.fed_site.specs.Says.{after_packet, after_reading, after_receipt, after_text};
 ghost use Rattle.fed_wire.specs.Reading.{packet_in};
 
 use crate::answers::{LineText, TextAnswer, undone};
@@ -17,8 +18,9 @@ use crate::complaints::Complaint;
 use fed_delta::Packet;
 use fed_lattice::NoMemory;
 use fed_model::Outcome;
-use fed_qstat::{AnswerText, outcome_line};
+use fed_qstat::{AnswerText, outcome_line, site_text};
 use fed_replica::{Received, Replica, Taken};
+use fed_script::{one_word, told_words};
 use fed_stamp::{Roster, SiteId, Version, site_is_in_range};
 use fed_wire::{Part, Place, WireFault, read, told_packets_are_within_limits, write};
 use std::alloc::{AllocError, Global};
@@ -176,7 +178,118 @@ pub(crate) fn of_text(fault: WireFault) -> Result<WireFault, NoMemory>
     }
 }
 
-/// Takes the packet that a text is of. Where memory is refused, nothing changes.
+/// What a text is read as, but for want of memory.
+fn read_text(alloc: Global, text: &[u8]) -> Result<Result<Packet, WireFault>, NoMemory>
+    ensures { IfOk result (λ reading. reading ≡ packet_in text.now) }
+{
+    match read(alloc, text) {
+        Ok(packet) => Ok(Ok(packet)),
+        Err(fault) => Ok(Err(of_text(fault)?)),
+    }
+}
+
+/// Takes what a text was read as. Where memory is refused, nothing changes.
+fn take_reading(
+    alloc: Global,
+    roster: &Roster,
+    here: SiteId,
+    replica: &mut Replica,
+    reading: &Result<Packet, WireFault>,
+) -> Result<TextAnswer, NoMemory>
+    requires { replica.old.site ≡ here }
+    ensures done { IfOk result (λ a. DoneAs replica.new a
+        (after_reading roster.now (state_of replica.old) reading.now)) }
+    ensures site { replica.new.site ≡ here }
+    ensures unchanged { OnErr result (replica.new ≡ replica.old) }
+{
+    match reading {
+        Ok(packet) => take_packet(alloc, roster, here, replica, packet),
+        Err(fault) => Ok(undone(unread_line(alloc, *fault)?, Complaint::Unread(*fault))),
+    }
+}
+
+/// The place of the first blank.
+fn blank_in(text: &[u8]) -> Option<usize>
+    ensures found { result ≡ position is_blank text.now }
+    ensures within { IfSome result (λ blank. blank < length text.now) }
+{
+    text.iter().position(|byte| *byte == b' ')
+}
+
+/// What stands before the first blank, and what stands behind it.
+fn cut_behind_name(text: &[u8]) -> (&[u8], &[u8])
+    ensures { (result.0.now, result.1.now) ≡ cut_behind text.now }
+{
+    match blank_in(text) {
+        Some(blank) => (&text[..blank], &text[blank + 1..]),
+        None => (text, &[]),
+    }
+}
+
+/// `from NAME TEXT`: the name, where one is told, and the packet's own text.
+fn split_name(text: &[u8]) -> (Option<&[u8]>, &[u8])
+    ensures name { option_map (λ name. name.now) result.0 ≡ named_in text.now }
+    ensures packet { result.1.now ≡ packet_of text.now }
+{
+    if !text.starts_with(b"from ") {
+        return (None, text);
+    }
+    let (name, packet) = cut_behind_name(&text[5..]);
+    (Some(name), packet)
+}
+
+/// The site of this name.
+fn site_named(alloc: Global, roster: &Roster, name: &[u8]) -> Result<Option<SiteId>, NoMemory>
+    ensures { IfOk result (λ site. site ≡ site_of roster.now name.now) }
+{
+    let Some(words) = told_words(alloc, name)? else {
+        return Ok(None);
+    };
+    match one_word(words.as_slice()) {
+        Some(word) => Ok(roster.find(word)),
+        None => Ok(None),
+    }
+}
+
+/// Why a text is not taken that was read so and that a site of this name, where one is told, hands in.
+fn complaint_of(
+    alloc: Global,
+    roster: &Roster,
+    name: Option<&[u8]>,
+    reading: &Result<Packet, WireFault>,
+) -> Result<Option<Complaint>, NoMemory>
+    ensures { IfOk result (λ complaint. complaint ≡ complaint_of_name roster.now (option_map (λ name. name.now) name.entry) reading.now) }
+{
+    let Some(name) = name else {
+        return Ok(None);
+    };
+    let Some(site) = site_named(alloc, roster, name)? else {
+        return Ok(Some(Complaint::Foreign));
+    };
+    match reading {
+        Ok(packet) if packet.sender() != site => Ok(Some(Complaint::NotFrom(site))),
+        _ => Ok(None),
+    }
+}
+
+/// The line that tells why a text is not taken that a site hands in.
+fn complaint_line(
+    alloc: Global,
+    roster: &Roster,
+    complaint: Complaint,
+) -> Result<AnswerText, AllocError>
+    ensures { IfOk result (λ line. cow_str_bytes line ≡ answer_line (text_of_complaint roster.now complaint)) }
+{
+    match complaint {
+        Complaint::NotFrom(site) => {
+            let name = site_text(alloc, roster, site)?;
+            Ok(CowStr::Owned(format!(in alloc; "not from {name}\n")?))
+        }
+        _ => Ok(CowStr::Borrowed("foreign\n")),
+    }
+}
+
+/// Takes the packet that a text is of, which a site may be told to hand in. Where memory is refused, nothing changes.
 pub(crate) fn take(
     alloc: Global,
     roster: &Roster,
@@ -186,17 +299,16 @@ pub(crate) fn take(
 ) -> Result<TextAnswer, NoMemory>
     requires { replica.old.site ≡ here }
     ensures done { IfOk result (λ a. DoneAs replica.new a
-        (after_reading roster.now (state_of replica.old) (packet_in text.now))) }
+        (after_text roster.now (state_of replica.old) text.now)) }
     ensures site { replica.new.site ≡ here }
     ensures unchanged { OnErr result (replica.new ≡ replica.old) }
 {
-    match read(alloc, text) {
-        Ok(packet) => take_packet(alloc, roster, here, replica, &packet),
-        Err(fault) => {
-            let fault = of_text(fault)?;
-            Ok(undone(unread_line(alloc, fault)?, Complaint::Unread(fault)))
-        }
+    let (name, text) = split_name(text);
+    let reading = read_text(alloc, text)?;
+    if let Some(complaint) = complaint_of(alloc, roster, name, &reading)? {
+        return Ok(undone(complaint_line(alloc, roster, complaint)?, complaint));
     }
+    take_reading(alloc, roster, here, replica, &reading)
 }
 
 /// The text of the packet for a site, and the end of the line.

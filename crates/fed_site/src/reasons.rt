@@ -21,6 +21,14 @@ fn gap_text(alloc: Global, site: &Site, lacking: SiteId) -> Result<String, NoMem
     )?)
 }
 
+/// That the sender of a packet is another site than the one that hands it in.
+fn not_from_text(alloc: Global, site: &Site, from: SiteId) -> Result<String, NoMemory> {
+    let name = site_text(alloc, site.roster(), from)?;
+    Ok(format!(in alloc;
+        "not from {name}: the packet's sender is another site, and {name} hands in its own packets alone"
+    )?)
+}
+
 /// What is said of the cause alone.
 fn cause_text(alloc: Global, complaint: &Complaint) -> Result<String, NoMemory> {
     Ok(format!(in alloc; "{complaint}")?)
@@ -36,6 +44,7 @@ pub fn reason_text(
     let told = match complaint {
         Complaint::Refused(refused) => Some(refused_text(alloc, site, refused)?),
         Complaint::Misused(fault) => misused_text(alloc, site, line, *fault)?,
+        Complaint::NotFrom(from) => Some(not_from_text(alloc, site, *from)?),
         Complaint::Gap(lacking) => Some(gap_text(alloc, site, *lacking)?),
         Complaint::OtherRoster => other_roster_text(alloc, site, line)?,
         _ => None,

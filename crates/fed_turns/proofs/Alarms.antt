@@ -1,5 +1,5 @@
 -- No text that was shipped tells that a site forgot, or is a stranger's where the site knows all sites.
-use Rattle.std.specs.Prelude.{suc, Some, None, Ok, Result}
+use Rattle.std.specs.Prelude.{suc, Option, Some, None, Ok, Result}
 use Rattle.std.specs.Option.{option_map_or}
 use Rattle.std.specs.List.{position_or_len}
 use Rattle.std.proofs.Common.{◌≡◌, ◌≤◌, ℕ, List, false, length, refl, sym, subst, ap, ◌∙◌}
@@ -14,8 +14,10 @@ use Rattle.fed_theory.proofs.Runs.{packet_Has}
 use Rattle.fed_script.specs.Line.{words_in}
 use Rattle.fed_site.specs.Line.{packet_text}
 use Rattle.fed_site.specs.OwnLine.{carries, says, own_words}
+use Rattle.fed_site.specs.Handed.{complaint_of_name, named_in, packet_of}
 use Rattle.fed_site.specs.Packets.{is_foreign}
-use Rattle.fed_site.specs.Says.{after_own, after_reading, said_of, site_says}
+use Rattle.fed_site.specs.declared.complaints.Complaint.{Complaint}
+use Rattle.fed_site.specs.Says.{after_handing, after_own, after_reading, after_text, said_of, site_says}
 use Rattle.fed_turns.specs.Alarm.{RaisesNoAlarm}
 use Rattle.fed_turns.specs.Turn.{Course, MayTurns, Turn, WasShipped, after_turns, beginning}
 use Rattle.fed_turns.specs.Run.{StandsFor, events_from, is_read_in, state_at}
@@ -23,6 +25,12 @@ use Rattle.fed_turns.proofs.Packets.{IsFound, found, placed}
 use Rattle.fed_turns.proofs.Reached.{Reached, run_reached, start_reached}
 use Rattle.fed_turns.proofs.Takes.{is_known, is_read, is_remembered, reads_receipt}
 use Rattle.fed_turns.proofs.Turns.{ArePlayed, turns_played}
+
+-- what is read is taken by what is told of its name
+named_so : (roster : List (List ℕ × ℕ)) (text : List ℕ) (s : State) {p : PacketValue} → packet_in (packet_of text) ≡ Ok p → (complaint : Option Complaint) → complaint_of_name roster (named_in text) (Ok p) ≡ complaint
+    → said_of (after_text roster s text) ≡ said_of (after_handing roster s complaint (Ok p))
+named_so roster text s {p} read complaint is =
+    ap (λ o. said_of (after_handing roster s (complaint_of_name roster (named_in text) o) o)) read ∙ ap (λ c. said_of (after_handing roster s c (Ok p))) is
 
 pub start_stands : (rosters : ℕ → List (List ℕ × ℕ)) → StandsFor (beginning rosters) start
 start_stands rosters = record { sites = λ i. refl; shipped = tt }
@@ -53,26 +61,28 @@ module _ (whole : List (List ℕ × ℕ)) (few : length whole ≤ 16) (rosters :
   posted : Has w.packets it.packet
   posted = packet_Has w (suc (position_or_len (is_read_in text) c.shipped)) it.packet it.is
 
-  reads : (i : ℕ) → packet_in text ≡ Ok it.of.sent
+  reads : (i : ℕ) → packet_in (packet_of text) ≡ Ok it.of.sent
   reads i = it.reads ∙ is_read n few w reached i it.packet posted it.shipped it.of
 
-  pub all_known : (i : ℕ) (packet : PacketValue) → packet_in text ≡ Ok packet → n ≤ length (c.roster i) → is_foreign (c.roster i) packet ≡ false
+  pub all_known : (i : ℕ) (packet : PacketValue) → packet_in (packet_of text) ≡ Ok packet → n ≤ length (c.roster i) → is_foreign (c.roster i) packet ≡ false
   all_known i packet e all =
-      subst (λ (p : PacketValue). is_foreign (c.roster i) p ≡ false) (some_packet it.of.sent packet (packet_in text) (reads i) e)
+      subst (λ (p : PacketValue). is_foreign (c.roster i) p ≡ false) (some_packet it.of.sent packet (packet_in (packet_of text)) (reads i) e)
       (is_known n few w reached i it.packet posted it.shipped it.of (c.roster i) all)
 
   pub no_alarm : (i : ℕ) (line : List ℕ) → packet_text line ≡ Some text → RaisesNoAlarm (c.roster i) (c.site i) line text
   no_alarm i line is =
       let roster = c.roster i in
-      let told : (s : State) → site_says roster s line ≡ said_of (after_reading roster s (packet_in text)) =
+      let told : (s : State) → site_says roster s line ≡ said_of (after_text roster s text) =
       λ s. ap (λ o. after_own roster s (option_map_or carries o (option_map_or (own_words roster s.site) (words_in line) (says None)))) is in
       let here : State = state_at i (w.site i) in
+      let by_name = named_so roster text in
       subst (λ (s : State). RaisesNoAlarm roster s line text) (sym (played.stands.sites i)) (record {
         packet = it.of.sent;
         read = reads i;
         remembered = is_remembered n few w reached i it.packet posted it.shipped it.of;
-        said = λ known. told here ∙ ap (λ o. said_of (after_reading roster here o)) it.reads
+        said = λ none known. told here ∙ by_name here (reads i) None none
+            ∙ ap (λ o. said_of (after_reading roster here o)) (sym (is_read n few w reached i it.packet posted it.shipped it.of))
             ∙ ap said_of (reads_receipt n few w reached i it.packet posted it.shipped it.of roster known);
-        foreign = λ far. told here ∙ ap (λ o. said_of (after_reading roster here o)) (reads i)
-            ∙ ap said_of (cond-true (is_foreign roster it.of.sent) _ _ far);
+        named = λ complaint is. told here ∙ by_name here (reads i) (Some complaint) is;
+        foreign = λ none far. told here ∙ by_name here (reads i) None none ∙ ap said_of (cond-true (is_foreign roster it.of.sent) _ _ far);
       })

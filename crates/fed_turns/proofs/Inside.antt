@@ -31,9 +31,10 @@ use Rattle.fed_qstat.specs.Outcome.{answer_line}
 use Rattle.fed_machine.specs.Planned.{plan_if_any}
 use Rattle.fed_site.specs.declared.complaints.Complaint.{Complaint}
 use Rattle.fed_site.specs.OwnLine.{OwnLine, tells, carries, asks, says, own_line_of}
+use Rattle.fed_site.specs.Handed.{complaint_of_name, named_in, packet_of}
 use Rattle.fed_site.specs.Packets.{is_foreign, is_forgotten}
 use Rattle.fed_site.specs.Rosters.{next_roster, roster_after}
-use Rattle.fed_site.specs.Says.{after_commands, after_own, after_plan, after_reading, after_receipt, site_says, undone}
+use Rattle.fed_site.specs.Says.{after_commands, after_handing, after_own, after_plan, after_reading, after_receipt, site_says, undone}
 use Rattle.fed_site.proofs.Replays.{next_unkept}
 use Rattle.fed_site.proofs.RosterLines.{after_begins, begins_length}
 use Rattle.fed_turns.specs.Run.{StandsFor, events_at}
@@ -124,6 +125,10 @@ module _ (roster : List (List ℕ × ℕ)) where
   reading_none s (Ok p) none = packet_none s p (is_foreign roster p) refl (is_forgotten s p) none
   reading_none s (Err fault) none = none
 
+  handing_none : (s : State) (complaint : Option Complaint) (o : Result PacketValue WireFault) → NoneFrom m s → NoneFrom m (after_handing roster s complaint o).after
+  handing_none s None o none = reading_none s o none
+  handing_none s (Some complaint) o none = none
+
   -- ---- lines
   plan_none : (s : State) (plan : Option (List ℕ)) → NoneFrom m s → NoneFrom m (after_plan s plan).after
   plan_none s (Some text) none = none
@@ -131,7 +136,7 @@ module _ (roster : List (List ℕ × ℕ)) where
 
   own_none : (s : State) (line : OwnLine) → s.site < m → NoneFrom m s → NoneFrom m (after_own roster s line).after
   own_none s (tells told) small none = subst (NoneFrom m) (sym (next_unkept roster s (next_roster roster told))) none
-  own_none s (carries text) small none = reading_none s (packet_in text) none
+  own_none s (carries text) small none = handing_none s (complaint_of_name roster (named_in text) (packet_in (packet_of text))) (packet_in (packet_of text)) none
   own_none s (asks look) small none = none
   own_none s (says None) small none = none
   own_none s (says (Some skips)) small none = none

@@ -21,6 +21,7 @@ use Rattle.fed_world.specs.Kept.{IsTextOf}
 use Rattle.fed_model.specs.Run.{World}
 use Rattle.fed_theory.proofs.HeardLaws.{met_below}
 use Rattle.fed_qstat.specs.Outcome.{answer_line}
+use Rattle.fed_site.specs.Handed.{packet_of}
 use Rattle.fed_site.specs.Says.{IsReply, PacketFor}
 use Rattle.fed_turns.specs.Run.{AreShipments, IsShipment, is_read_in, is_same_reading, state_at, text_of}
 use Rattle.fed_turns.proofs.Reached.{Reached, counters, good, lawful, within}
@@ -62,7 +63,7 @@ pub record IsFound (packets : List Packet) (text : List ℕ) (place : ℕ) : Typ
   pub is : slice_get packets place ≡ Some packet
   pub shipped : List ℕ
   pub of : IsTextOf packet shipped
-  pub reads : packet_in text ≡ packet_in shipped
+  pub reads : packet_in (packet_of text) ≡ packet_in shipped
 
 text_of_line : (text : List ℕ) → text_of (answer_line text) ≡ text
 text_of_line text =
@@ -84,11 +85,11 @@ shipped_read : (p : Packet) (text : List ℕ) (t : IsTextOf p text) → packet_i
 shipped_read p text t = again Two text t.sent t.limits t.again
 
 -- an answer that is a shipment of it
-reads_shipment : (p : Packet) (a text : List ℕ) → IsShipment p a → is_read_in text a ≡ true → (shipped : List ℕ) × IsTextOf p shipped × (packet_in text ≡ packet_in shipped)
+reads_shipment : (p : Packet) (a text : List ℕ) → IsShipment p a → is_read_in text a ≡ true → (shipped : List ℕ) × IsTextOf p shipped × (packet_in (packet_of text) ≡ packet_in shipped)
 reads_shipment p a text one e =
     let is : text_of a ≡ one.0 = ap text_of one.2 ∙ text_of_line one.0 in
-    let same : is_same_reading (packet_in text) (packet_in one.0) ≡ true = subst (λ t. is_same_reading (packet_in text) (packet_in t) ≡ true) is e in
-    (one.0, one.1, same_reading (packet_in text) (packet_in one.0) one.1.sent (shipped_read p one.0 one.1) same)
+    let same : is_same_reading (packet_in (packet_of text)) (packet_in one.0) ≡ true = subst (λ t. is_same_reading (packet_in (packet_of text)) (packet_in t) ≡ true) is e in
+    (one.0, one.1, same_reading (packet_in (packet_of text)) (packet_in one.0) one.1.sent (shipped_read p one.0 one.1) same)
 
 module _ (text : List ℕ) where
   abbrev place_in : List (List ℕ) → ℕ
@@ -131,16 +132,16 @@ module _ (text : List ℕ) where
           omega (arith, at, within)
 
   -- a text that was shipped has a place
-  read_in_line : (p : Packet) (a shipped : List ℕ) → IsShipment p a → a ≡ answer_line shipped → packet_in text ≡ packet_in shipped → is_read_in text a ≡ true
+  read_in_line : (p : Packet) (a shipped : List ℕ) → IsShipment p a → a ≡ answer_line shipped → packet_in (packet_of text) ≡ packet_in shipped → is_read_in text a ≡ true
   read_in_line p a shipped one at reads =
       let same : one.0 ≡ shipped = append_cancel_right one.0 shipped (10 ∷ []) (sym one.2 ∙ at) in
       let is : text_of a ≡ shipped = ap text_of at ∙ text_of_line shipped in
       let read : packet_in shipped ≡ Ok one.1.sent = ap packet_in (sym same) ∙ shipped_read p one.0 one.1 in
-      ap (λ t. is_same_reading (packet_in text) (packet_in t)) is
+      ap (λ t. is_same_reading (packet_in (packet_of text)) (packet_in t)) is
       ∙ ap (λ r. is_same_reading r (packet_in shipped)) reads
       ∙ same_itself (packet_in shipped) one.1.sent read
 
-  pub placed : (packets : List Packet) (answers : List (List ℕ)) (shipped : List ℕ) → AreShipments packets answers → Has answers (answer_line shipped) → packet_in text ≡ packet_in shipped → place_in answers < length answers
+  pub placed : (packets : List Packet) (answers : List (List ℕ)) (shipped : List ℕ) → AreShipments packets answers → Has answers (answer_line shipped) → packet_in (packet_of text) ≡ packet_in shipped → place_in answers < length answers
   placed [] [] shipped all h reads = absurd h
   placed [] (a ∷ rest) shipped all h reads = absurd all
   placed (p ∷ packets) [] shipped all h reads = absurd all

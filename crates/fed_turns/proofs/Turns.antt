@@ -1,5 +1,5 @@
 -- Turns do what their events do in a run.
-use Rattle.std.specs.Prelude.{codes, map, nat_lt, suc, Option, Some, None, IfSome, option_map, Result, Ok, Err, if◌then◌else◌}
+use Rattle.std.specs.Prelude.{◌||◌, codes, is_some, map, nat_lt, suc, Option, Some, None, IfSome, option_map, Result, Ok, Err, if◌then◌else◌}
 use Rattle.std.specs.List.{position_or_len}
 use Rattle.std.proofs.Common.{◌≡◌, ◌≢◌, ◌≤◌, ◌<◌, ℕ, List, [], ◌∷◌, ◌++◌, All, Bool, true, false, length, append-nil, refl, sym, subst, ap, ◌∙◌, inl, inr, arith}
 use Rattle.std.proofs.lemmas.Bool.{cases_eq, lt-ltb, ltb-true}
@@ -28,15 +28,16 @@ use Rattle.fed_looks.specs.Look.{Look}
 use Rattle.fed_site.specs.LookText.{text_of_look}
 use Rattle.fed_site.specs.Journal.{kept_line}
 use Rattle.fed_site.specs.OwnLine.{asks, says, own_line_of}
+use Rattle.fed_site.specs.Handed.{complaint_of_name, named_in, packet_of}
 use Rattle.fed_site.specs.Packets.{is_foreign, is_forgotten}
 use Rattle.fed_site.specs.Rosters.{next_roster, roster_after}
 use Rattle.fed_site.specs.declared.complaints.Complaint.{Complaint}
 use Rattle.fed_site.proofs.ReadLines.{read_is}
-use Rattle.fed_site.proofs.Replays.{next_unkept, reading_unkept}
+use Rattle.fed_site.proofs.Replays.{next_unkept, text_unkept}
 use Rattle.fed_site.proofs.RosterLines.{begins_length}
-use Rattle.fed_site.specs.Says.{Done, IsReply, Said, after_commands, after_line, after_next, after_own, after_plan, after_reading, after_receipt, only, said_of, site_says, undone}
+use Rattle.fed_site.specs.Says.{Done, IsReply, Said, after_commands, after_handing, after_line, after_next, after_own, after_plan, after_reading, after_receipt, after_text, only, said_of, site_says, undone}
 use Rattle.fed_turns.specs.Turn.{Course, IsCarried, MayTurn, MayTurns, Turn, WasShipped, after_said, after_turn, after_turns, said_to}
-use Rattle.fed_turns.specs.Run.{AreAnswered, AreShipments, Deed, IsDeedAnswer, StandsFor, declines, deed_by, deed_of, does, events_at, events_done, events_from, hears, is_read_in, is_stranger, looks, state_at, taken_as}
+use Rattle.fed_turns.specs.Run.{AreAnswered, AreShipments, Deed, IsDeedAnswer, StandsFor, declines, deed_by, deed_of, does, events_at, events_done, events_from, hears, is_declined, is_read_in, is_stranger, looks, state_at, taken_as}
 use Rattle.fed_turns.proofs.Acts.{IsStepped, acted}
 use Rattle.fed_turns.proofs.OwnLines.{own_line_is}
 use Rattle.fed_turns.proofs.Packets.{found, placed, shipment, shipments_push}
@@ -70,6 +71,15 @@ stranger_still roster s (Ok p) e = go (is_foreign roster p) e
         → (if b then undone s (answer_line (codes "foreign")) Complaint.Foreign else (if is_forgotten s p then undone s (answer_line (codes "forgotten")) Complaint.Forgotten else after_receipt roster s p)).after ≡ s
     go true e = refl
     go false e = cc
+
+-- nor does one that another site hands in
+handing_still : (roster : List (List ℕ × ℕ)) (s : State) (complaint : Option Complaint) (o : Result PacketValue WireFault) → (is_some complaint || is_stranger roster o) ≡ true → (after_handing roster s complaint o).after ≡ s
+handing_still roster s None o e = stranger_still roster s o e
+handing_still roster s (Some complaint) o e = refl
+
+unnamed : (roster : List (List ℕ × ℕ)) (complaint : Option Complaint) (o : Result PacketValue WireFault) → (is_some complaint || is_stranger roster o) ≡ false → (complaint ≡ None) × (is_stranger roster o ≡ false)
+unnamed roster None o e = (refl, e)
+unnamed roster (Some complaint) o e = cc
 
 module _ (n : ℕ) (few : n ≤ 16) (roster next : List (List ℕ × ℕ)) (part : length roster ≤ n) (c : Course) (w : World) (t : Turn) (stands : StandsFor c w) (r : Reached n w) (small : t.site < length roster) where
   abbrev here : State
@@ -135,8 +145,8 @@ module _ (n : ℕ) (few : n ≤ 16) (roster next : List (List ℕ × ℕ)) (part
       }
 
   -- the text of a packet that was shipped, taken or not
-  carried_played : (text : List ℕ) → is_stranger roster (packet_in text) ≡ false → position_or_len (is_read_in text) c.shipped < length c.shipped → t.answer ≡ (after_reading roster here (packet_in text)).text
-      → IsPlayed n roster next c w t (said_of (after_reading roster here (packet_in text))) (does (Some (takes_line t.site (suc (position_or_len (is_read_in text) c.shipped)))))
+  carried_played : (text : List ℕ) → is_stranger roster (packet_in (packet_of text)) ≡ false → position_or_len (is_read_in text) c.shipped < length c.shipped → t.answer ≡ (after_reading roster here (packet_in (packet_of text))).text
+      → IsPlayed n roster next c w t (said_of (after_reading roster here (packet_in (packet_of text)))) (does (Some (takes_line t.site (suc (position_or_len (is_read_in text) c.shipped)))))
   carried_played text known within e =
       let k = position_or_len (is_read_in text) c.shipped in
       let it = found text w.packets c.shipped stands.shipped within in
@@ -145,32 +155,32 @@ module _ (n : ℕ) (few : n ≤ 16) (roster next : List (List ℕ × ℕ)) (part
       let friend = sym (ap (is_stranger roster) (it.reads ∙ is_read n few w r t.site it.packet posted it.shipped it.of)) ∙ known in
       let taken = is_taken n few w r t.site it.packet posted it.shipped it.of roster friend in
       let read = subst (λ o. IsStepped roster t.site w (takes w t.site (Some it.packet)) (after_reading roster here o)) (sym it.reads) taken in
-      let one = subst (λ (s : Step). IsStepped roster t.site w s (after_reading roster here (packet_in text))) (sym does) read in
+      let one = subst (λ (s : Step). IsStepped roster t.site w s (after_reading roster here (packet_in (packet_of text)))) (sym does) read in
       let s : Step = step n w (Take t.site (suc k)) in
       record {
         answered = e ∙ one.text ∙ sym (append-nil (answer_line (text_of_outcome roster s.outcome)));
         stands = record {
-          sites = settled c w s.after t.site (after_reading roster here (packet_in text)).after stands one.after one.others;
+          sites = settled c w s.after t.site (after_reading roster here (packet_in (packet_of text))).after stands one.after one.others;
           shipped = unshipped c w s.after stands one.packets;
         };
         ranged = All-cons IsRangedEvent (Take t.site (suc k)) [] tt (All-nil IsRangedEvent);
       }
 
   -- a text that isn't taken, and is of no packet shipped
-  declined_played : (text : List ℕ) → (after_reading roster here (packet_in text)).after ≡ here → t.answer ≡ (after_reading roster here (packet_in text)).text
-      → IsPlayed n roster next c w t (said_of (after_reading roster here (packet_in text))) (declines text)
+  declined_played : (text : List ℕ) → (after_text roster here text).after ≡ here → t.answer ≡ (after_text roster here text).text
+      → IsPlayed n roster next c w t (said_of (after_text roster here text)) (declines text)
   declined_played text still e = record {
     answered = e;
     stands = record {
-      sites = settled c w w t.site (after_reading roster here (packet_in text)).after stands still (λ j apart. refl);
+      sites = settled c w w t.site (after_text roster here text).after stands still (λ j apart. refl);
       shipped = unshipped c w w stands refl;
     };
     ranged = All-nil IsRangedEvent;
   }
 
   -- a text that was not shipped isn't kept
-  declined : (text : List ℕ) → ((after_reading roster here (packet_in text)).kept ≡ true → WasShipped c.shipped text) → nat_lt (position_or_len (is_read_in text) c.shipped) (length c.shipped) ≡ false
-      → (kept : Bool) → (after_reading roster here (packet_in text)).kept ≡ kept → kept ≡ false
+  declined : (text : List ℕ) → ((after_text roster here text).kept ≡ true → WasShipped c.shipped text) → nat_lt (position_or_len (is_read_in text) c.shipped) (length c.shipped) ≡ false
+      → (kept : Bool) → (after_text roster here text).kept ≡ kept → kept ≡ false
   declined text carried beyond true is =
       let was = carried is in
       let within = placed text w.packets c.shipped was.0 stands.shipped was.1 was.2 in
@@ -180,15 +190,20 @@ module _ (n : ℕ) (few : n ≤ 16) (roster next : List (List ℕ × ℕ)) (part
       true_false e = cc
   declined text carried beyond false is = refl
 
-  take_played : (text : List ℕ) → ((after_reading roster here (packet_in text)).kept ≡ true → WasShipped c.shipped text) → t.answer ≡ (after_reading roster here (packet_in text)).text
-      → (stranger : Bool) → is_stranger roster (packet_in text) ≡ stranger → (within : Bool) → nat_lt (position_or_len (is_read_in text) c.shipped) (length c.shipped) ≡ within
-      → IsPlayed n roster next c w t (said_of (after_reading roster here (packet_in text)))
-      (if stranger then declines text else taken_as t.site text (option_map suc (if within then Some (position_or_len (is_read_in text) c.shipped) else None)))
-  take_played text carried e true far within at = declined_played text (stranger_still roster here (packet_in text) far) e
-  take_played text carried e false far true at = carried_played text far (ltb-true (position_or_len (is_read_in text) c.shipped) (length c.shipped) at) e
+  take_played : (text : List ℕ) → ((after_text roster here text).kept ≡ true → WasShipped c.shipped text) → t.answer ≡ (after_text roster here text).text
+      → (far : Bool) → is_declined roster text ≡ far → (within : Bool) → nat_lt (position_or_len (is_read_in text) c.shipped) (length c.shipped) ≡ within
+      → IsPlayed n roster next c w t (said_of (after_text roster here text))
+      (if far then declines text else taken_as t.site text (option_map suc (if within then Some (position_or_len (is_read_in text) c.shipped) else None)))
+  take_played text carried e true far within at =
+      declined_played text (handing_still roster here (complaint_of_name roster (named_in text) (packet_in (packet_of text))) (packet_in (packet_of text)) far) e
+  take_played text carried e false far true at =
+      let o = packet_in (packet_of text) in
+      let both = unnamed roster (complaint_of_name roster (named_in text) o) o far in
+      let same : after_text roster here text ≡ after_reading roster here o = ap (λ complaint. after_handing roster here complaint o) both.0 in
+      subst (λ (done : Done). IsPlayed n roster next c w t (said_of done) (does (Some (takes_line t.site (suc (position_or_len (is_read_in text) c.shipped)))))) (sym same)
+      (carried_played text both.1 (ltb-true (position_or_len (is_read_in text) c.shipped) (length c.shipped) at) (e ∙ ap (λ (done : Done). done.text) same))
   take_played text carried e false far false at =
-      let done : Done = after_reading roster here (packet_in text) in
-      declined_played text (reading_unkept roster here (packet_in text) (declined text carried at done.kept refl)) e
+      declined_played text (text_unkept roster here text (declined text carried at (after_text roster here text).kept refl)) e
 
   unread_played : IsReply here (after_own roster here (says None)).reply t.answer → IsPlayed n roster next c w t (after_own roster here (says None)) (does None)
   unread_played e = record { answered = e; stands = quiet (answer_line (codes "cannot be read")); ranged = All-nil IsRangedEvent }
@@ -218,7 +233,7 @@ module _ (n : ℕ) (few : n ≤ 16) (roster next : List (List ℕ × ℕ)) (part
       → IsPlayed n roster next c w t (site_says roster here t.line) (deed_by roster c.shipped t.site (own_line_of roster t.site t.line))
   own_played = read_is roster t.site t.line
       (λ o. ((after_own roster here o).kept ≡ true → IsCarried c.shipped t.line) → IsReply here (after_own roster here o).reply t.answer → IsPlayed n roster next c w t (after_own roster here o) (deed_by roster c.shipped t.site o))
-      (λ text is carried reply. take_played text (λ kept. subst (λ o. IfSome o (WasShipped c.shipped)) is (carried kept)) reply (is_stranger roster (packet_in text)) refl
+      (λ text is carried reply. take_played text (λ kept. subst (λ o. IfSome o (WasShipped c.shipped)) is (carried kept)) reply (is_declined roster text) refl
       (nat_lt (position_or_len (is_read_in text) c.shipped) (length c.shipped)) refl)
       (λ words is told names carried reply. told_played told reply)
       (λ words is none look carried reply. look_played look reply)

@@ -1,5 +1,5 @@
 -- The run that turns make, and what is answered in it.
-use Rattle.std.specs.Prelude.{◌≡◌, ◌+◌, ◌-◌, ℕ, suc, Bool, false, List, [], ◌∷◌, ◌++◌, length, map, take, position, codes, Option, Some, None, option_map, Result, Ok, Err, if◌then◌else◌}
+use Rattle.std.specs.Prelude.{◌≡◌, ◌+◌, ◌-◌, ◌||◌, ℕ, suc, Bool, false, List, [], ◌∷◌, ◌++◌, length, map, take, position, codes, Option, Some, None, is_some, option_map, Result, Ok, Err, if◌then◌else◌}
 use Rattle.fed_model.specs.View.{view}
 use Rattle.fed_model.specs.Packet.{Site, Packet, shipped}
 use Rattle.fed_wire.specs.declared.faults.WireFault.{WireFault}
@@ -19,9 +19,10 @@ use Rattle.fed_machine.specs.Planned.{text_of_plan}
 use Rattle.fed_looks.specs.Look.{Look}
 use Rattle.fed_site.specs.LookText.{text_of_look}
 use Rattle.fed_site.specs.OwnLine.{OwnLine, tells, carries, asks, says, own_line_of}
+use Rattle.fed_site.specs.Handed.{complaint_of_name, named_in, packet_of}
 use Rattle.fed_site.specs.Packets.{is_foreign}
 use Rattle.fed_site.specs.Rosters.{next_roster}
-use Rattle.fed_site.specs.Says.{after_next, after_reading}
+use Rattle.fed_site.specs.Says.{after_next, after_text}
 use Rattle.fed_turns.specs.Turn.{Turn, Course, after_turn}
 
 -- ---- what a turn does in a run
@@ -30,8 +31,8 @@ pub data Deed : Type 0 where
   looks : (look : Look) → Deed
   -- what the line of a script does that says the same, if it can be read
   does : (line : Option Line) → Deed
-  -- the site is to take a text that tells of a site which its roster hasn't, or is of no packet shipped before, and takes
-  -- nothing: no line of a script says so
+  -- the site is to take a text that tells of a site which its roster hasn't, that another site hands in than its sender, or
+  -- that is of no packet shipped before, and takes nothing: no line of a script says so
   declines : (text : List ℕ) → Deed
   -- the site is told a roster, or words that name none, which changes nothing that it holds: no line of a script says so
   hears : (told : Option (List (List ℕ × ℕ))) → Deed
@@ -47,7 +48,7 @@ text_of answer = take (length answer - 1) answer
 
 -- the answer to a ship has a text that reads as the same packet
 abbrev pub is_read_in : List ℕ → List ℕ → Bool
-is_read_in text answer = is_same_reading (packet_in text) (packet_in (text_of answer))
+is_read_in text answer = is_same_reading (packet_in (packet_of text)) (packet_in (text_of answer))
 
 -- the number of the first packet shipped that the text is read as: packets are counted from 1
 abbrev pub number_of : List (List ℕ) → List ℕ → Option ℕ
@@ -63,11 +64,16 @@ abbrev pub is_stranger : List (List ℕ × ℕ) → Result PacketValue WireFault
 is_stranger roster (Ok p) = is_foreign roster p
 is_stranger roster (Err fault) = false
 
+-- or another site hands the text in than the packet's sender
+abbrev pub is_declined : List (List ℕ × ℕ) → List ℕ → Bool
+is_declined roster text =
+    is_some (complaint_of_name roster (named_in text) (packet_in (packet_of text))) || is_stranger roster (packet_in (packet_of text))
+
 -- what a line does at the site that says this
 abbrev pub deed_by : List (List ℕ × ℕ) → List (List ℕ) → ℕ → OwnLine → Deed
 deed_by roster answers site (tells told) = hears told
 deed_by roster answers site (carries text) =
-    if is_stranger roster (packet_in text) then declines text else taken_as site text (number_of answers text)
+    if is_declined roster text then declines text else taken_as site text (number_of answers text)
 deed_by roster answers site (asks look) = looks look
 deed_by roster answers site (says line) = does line
 
@@ -147,7 +153,7 @@ abbrev pub IsDeedAnswer : List (List ℕ × ℕ) → World → ℕ → Deed → 
 IsDeedAnswer roster w site (looks look) outcomes bytes = bytes ≡ text_of_look roster (state_at site (w.site site)) look
 IsDeedAnswer roster w site (does line) outcomes bytes = IsToldAnswer roster w line outcomes bytes
 IsDeedAnswer roster w site (declines text) outcomes bytes =
-    bytes ≡ (after_reading roster (state_at site (w.site site)) (packet_in text)).text
+    bytes ≡ (after_text roster (state_at site (w.site site)) text).text
 IsDeedAnswer roster w site (hears told) outcomes bytes =
     bytes ≡ (after_next roster (state_at site (w.site site)) (next_roster roster told)).text
 

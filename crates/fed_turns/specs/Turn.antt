@@ -6,6 +6,7 @@ use Rattle.fed_replica.specs.State.{State, empty_at}
 use Rattle.fed_wire.specs.Reading.{packet_in}
 use Rattle.fed_qstat.specs.Outcome.{answer_line}
 use Rattle.fed_site.specs.Journal.{kept_lines}
+use Rattle.fed_site.specs.Handed.{packet_of}
 use Rattle.fed_site.specs.Line.{packet_text}
 use Rattle.fed_site.specs.Rosters.{begins, roster_after}
 use Rattle.fed_site.specs.Says.{Reply, Text, PacketFor, IsReply, Said, site_says}
@@ -57,7 +58,7 @@ roster_at rosters early t = (after_turns (beginning rosters) early).roster t.sit
 -- ---- texts that are carried
 -- the text is that of an answer to a ship, or reads as the same packet
 abbrev pub WasShipped : List (List ℕ) → List ℕ → Type 0
-WasShipped answers text = (shipped : List ℕ) × Has answers (answer_line shipped) × (packet_in text ≡ packet_in shipped)
+WasShipped answers text = (shipped : List ℕ) × Has answers (answer_line shipped) × (packet_in (packet_of text) ≡ packet_in shipped)
 
 -- where the line is to take a text, that was shipped
 abbrev pub IsCarried : List (List ℕ) → List ℕ → Type 0

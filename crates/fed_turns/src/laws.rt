@@ -12,6 +12,7 @@ ghost use Rattle.fed_script.specs.Values.{identifier, moment};
 ghost use Rattle.fed_qstat.specs.Outcome.{answer_line};
 ghost use Rattle.fed_model.specs.RangedEvents.{AreRanged};
 ghost use Rattle.fed_model.specs.Run.{run, start};
+ghost use Rattle.fed_site.specs.Handed.{packet_of};
 ghost use Rattle.fed_site.specs.Journal.{after_lines, kept_lines};
 ghost use Rattle.fed_site.specs.Known.{known_in, unheard};
 ghost use Rattle.fed_site.specs.Line.{packet_text};
@@ -32,8 +33,8 @@ ghost use Rattle.fed_turns.specs.Turn.{AreBeginnings, AreCarried, MayTurns, Turn
 /// packet that is taken is a text that a ship answered before, or reads as one, do what the same commands, ships and takes in
 /// the same order do in a run of all sites: each site reads as what it holds there, what was shipped are texts of the packets
 /// made there, in order, and each line is answered as there, by the roster that its site knows then. A look, a roster that is
-/// told, a text that tells of a site which the roster hasn't, and one of no packet shipped before, which aren't taken, do
-/// nothing there; what answers them is what a site says that holds what theirs holds there. The values of the commands are in
+/// told, a text that tells of a site which the roster hasn't or that another site hands in than its sender, and one of no
+/// packet shipped before, which aren't taken, do nothing there; what answers them is what a site says that holds what theirs holds there. The values of the commands are in
 /// range.
 pub fn texts_make_a_run()
     ensures states { (whole : List (List ℕ × ℕ)) (rosters : ℕ → List (List ℕ × ℕ)) (turns : List Turn) → IsRoster whole →
@@ -47,7 +48,8 @@ pub fn texts_make_a_run()
 
 /// No false alarms. After such lines a text that was shipped, or reads as one that was, has seen no operation of the site's
 /// own that this one lacks: `unread` and `forgotten` are never answered to it, whatever texts that weren't taken came before.
-/// `foreign` is answered just where it tells of a site that the site's roster hasn't; so never where that has all sites.
+/// `foreign` is answered just where it tells of a site that the site's roster hasn't; so never where that has all sites. A
+/// line that names who hands the text in is told so where that isn't the packet's sender, and else answered as without it.
 pub fn no_false_alarms()
     ensures alarms { (whole : List (List ℕ × ℕ)) (rosters : ℕ → List (List ℕ × ℕ)) (turns : List Turn) (i : ℕ) (line text : List ℕ) → IsRoster whole →
         MayTurns whole (beginning rosters) turns → packet_text line ≡ Some text →
@@ -55,7 +57,7 @@ pub fn no_false_alarms()
         RaisesNoAlarm ((after_turns (beginning rosters) turns).roster i) ((after_turns (beginning rosters) turns).site i) line text }
     ensures known { (whole : List (List ℕ × ℕ)) (rosters : ℕ → List (List ℕ × ℕ)) (turns : List Turn) (i : ℕ) (text : List ℕ) (packet : PacketValue) → IsRoster whole →
         MayTurns whole (beginning rosters) turns → WasShipped (after_turns (beginning rosters) turns).shipped text →
-        packet_in text ≡ Ok packet → length whole ≤ length ((after_turns (beginning rosters) turns).roster i) →
+        packet_in (packet_of text) ≡ Ok packet → length whole ≤ length ((after_turns (beginning rosters) turns).roster i) →
         is_foreign ((after_turns (beginning rosters) turns).roster i) packet ≡ false }
 {}
 

@@ -36,7 +36,7 @@ abbrev pub flag : Text → Rule
 flag name = record (new_rule name) { long = Some name; action = Some SetTrue }
 
 abbrev pub serve : App
-serve = with_rule (with_rule (with_directory (codes "serve")) (flag (codes "words"))) (flag (codes "keep-history"))
+serve = with_rule (with_rule (with_directory (codes "serve")) (flag (codes "frames"))) (flag (codes "keep-history"))
 
 -- the option that names a file
 abbrev pub keep : Rule
@@ -62,7 +62,7 @@ program = with_subcommand (with_subcommand (with_subcommand first serve.top) com
 pub data TaskValue : Type 0 where
   Makes : (site : Text) → (sites : List Text) → TaskValue
   Answers : (words : List Text) → TaskValue
-  Serves : (words keeps_history : Bool) → TaskValue
+  Serves : (frames keeps_history : Bool) → TaskValue
   Compacts : (kept : Option Text) → TaskValue
   Checks : TaskValue
 
@@ -85,7 +85,7 @@ is_set id rows = bytes_eq (value_in id rows) (codes "true")
 abbrev pub task_in : Text → List Row → TaskValue
 task_in name rows = if bytes_eq name (codes "init") then Makes (value_in (codes "SITE") rows) (values_in (codes "NAME:NODES") rows)
     else (if bytes_eq name (codes "at") then Answers (values_in (codes "WORD") rows)
-    else (if bytes_eq name (codes "serve") then Serves (is_set (codes "words") rows) (is_set (codes "keep-history") rows)
+    else (if bytes_eq name (codes "serve") then Serves (is_set (codes "frames") rows) (is_set (codes "keep-history") rows)
     else (if bytes_eq name (codes "compact") then Compacts (first_of (codes "FILE") rows) else Checks)))
 
 -- what the command of this name is asked by its arguments

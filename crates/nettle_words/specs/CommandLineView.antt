@@ -8,7 +8,7 @@ use Rattle.nettle_words.specs.declared.command_line.Task.TheVariants.{Init, At, 
 abbrev pub task_of : Task → TaskValue
 task_of (Init site sites) = Makes site.now (map (λ w. w.now) sites.items)
 task_of (At words) = Answers (map (λ w. w.now) words.items)
-task_of (Serve words keeps_history) = Serves words keeps_history
+task_of (Serve frames keeps_history) = Serves frames keeps_history
 task_of (Compact kept) = Compacts (option_map (λ name. name.now) kept)
 task_of Check = Checks
 

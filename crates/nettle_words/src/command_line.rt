@@ -15,9 +15,9 @@ pub enum Task<'a> {
     Init { site: &'a str, sites: Vec<&'a str> },
     /// `at`: to answer the line of these words.
     At { words: Vec<&'a str> },
-    /// `serve`: to answer the lines of standard input, to tell the words beside an answer where `--words` stands, and never to
-    /// compact the journal where `--keep-history` does.
-    Serve { words: bool, keeps_history: bool },
+    /// `serve`: to answer the lines of standard input, in frames where `--frames` stands, and never to compact the journal
+    /// where `--keep-history` does.
+    Serve { frames: bool, keeps_history: bool },
     /// `compact`: to compact its journal, and to keep the old one in a file of this name.
     Compact { kept: Option<&'a str> },
     /// `check`: to tell what its journal has.
@@ -40,8 +40,8 @@ const AT: &str =
 
 const SERVE: &str = "Answers each line of standard input, and an empty line behind each answer";
 
-const WORDS: &str =
-    "Tells behind an answer, in a line that begins with #, what at tells on standard error";
+const FRAMES: &str =
+    "Answers by a head line, STATUS BYTES BYTES, the answer, and what at tells on standard error";
 
 const KEEP_HISTORY: &str = "Never compacts the journal";
 
@@ -125,7 +125,7 @@ fn serve<'a>(alloc: Global) -> Result<Command<'a>, AllocError>
     ensures { IfOk result (λ command. app_of command ≡ serve_app) }
 {
     with_directory(alloc, "serve", SERVE)?
-        .arg(flag(alloc, "words", WORDS))?
+        .arg(flag(alloc, "frames", FRAMES))?
         .arg(flag(alloc, "keep-history", KEEP_HISTORY))
 }
 
@@ -205,7 +205,7 @@ fn task_by<'a>(alloc: Global, name: &str, found: &ArgMatches<'a>) -> Result<Task
             words: values(alloc, found, "WORD")?,
         }),
         "serve" => Ok(Task::Serve {
-            words: value(found, "words") == "true",
+            frames: value(found, "frames") == "true",
             keeps_history: value(found, "keep-history") == "true",
         }),
         "compact" => Ok(Task::Compact {
@@ -251,8 +251,8 @@ pub fn commands_are_taken()
     ensures at { (name : List ℕ) → Asks name (codes "at" ∷ codes "d" ∷ codes "ann" ∷ codes "qdel" ∷ codes "-h" ∷ codes "--" ∷ codes "-1" ∷ [])
         (record { directory = codes "d"; task = Answers (codes "ann" ∷ codes "qdel" ∷ codes "-h" ∷ codes "--" ∷ codes "-1" ∷ []) }) }
     ensures serve { (name : List ℕ) → Asks name (codes "serve" ∷ codes "d" ∷ []) (record { directory = codes "d"; task = Serves false false }) }
-    ensures words { (name : List ℕ) → Asks name (codes "serve" ∷ codes "--words" ∷ codes "d" ∷ []) (record { directory = codes "d"; task = Serves true false }) }
-    ensures history { (name : List ℕ) → Asks name (codes "serve" ∷ codes "d" ∷ codes "--keep-history" ∷ codes "--words" ∷ []) (record { directory = codes "d"; task = Serves true true }) }
+    ensures frames { (name : List ℕ) → Asks name (codes "serve" ∷ codes "--frames" ∷ codes "d" ∷ []) (record { directory = codes "d"; task = Serves true false }) }
+    ensures history { (name : List ℕ) → Asks name (codes "serve" ∷ codes "d" ∷ codes "--keep-history" ∷ codes "--frames" ∷ []) (record { directory = codes "d"; task = Serves true true }) }
     ensures compact { (name : List ℕ) → Asks name (codes "compact" ∷ codes "d" ∷ []) (record { directory = codes "d"; task = Compacts None }) }
     ensures keep { (name : List ℕ) → Asks name (codes "compact" ∷ codes "--keep" ∷ codes "f" ∷ codes "d" ∷ [])
         (record { directory = codes "d"; task = Compacts (Some (codes "f")) }) }

@@ -3,7 +3,6 @@ ghost use Rattle.std.specs.Prelude.{◌≡◌};
 ghost use Rattle.std.specs.Prelude.{List, ℕ};
 ghost use Rattle.fed_journal.specs.Files.{file_may_leave, file_seen};
 ghost use Rattle.fed_home.specs.Home.{IsOpen, IsReplayed};
-ghost use Rattle.nettlebeam.specs.Status.{answered_status as status_of};
 
 use crate::compacting::{GROWTH, LEAST_BYTES, compact, compact_long, tell_not_compacted};
 use crate::directories::{find_home, keep_tail, open_device, open_home, open_home_again};
@@ -12,9 +11,10 @@ use crate::making::make_home;
 use fed_home::{Format, Header, Home, HomeFault, read_header, replay};
 use fed_journal::{FileDevice, Journal};
 use fed_serve::{
-    MAX_TAKE_BYTES, ServeFault, Served, at_most_longest, line_of_words, serve, take_line,
+    MAX_TAKE_BYTES, ServeFault, Served, answered_status, at_most_longest, line_of_words, serve,
+    take_line,
 };
-use fed_site::{Answered, Complaint, Site, words_beside};
+use fed_site::{Answered, Site, words_beside};
 use fed_stamp::{SITES, SiteId};
 use nettle_words::{Asked, Task};
 use std::alloc::{AllocError, Global};
@@ -38,16 +38,6 @@ fn read_line(streams: &(impl Input + AllocGlobal), words: &[&str]) -> Result<Vec
     match words {
         ["take"] => Ok(take_line(streams.alloc(), &read_input(streams)?)?),
         _ => Ok(line_of_words(streams.alloc(), words)?),
-    }
-}
-
-/// The status where a line is answered: 0, and 1 where it isn't done as it asks.
-fn answered_status(complaint: &Option<Complaint>) -> u8
-    ensures { result ≡ status_of complaint.now }
-{
-    match complaint {
-        None => 0,
-        Some(_) => 1,
     }
 }
 
@@ -85,7 +75,7 @@ fn give_answer(
 ) -> Result<u8, Fault> {
     write_answer(streams, answer).map_err(Fault::Output)?;
     tell_user(streams, site, line, answer);
-    Ok(answered_status(&answer.complaint()))
+    Ok(answered_status(answer.complaint()))
 }
 
 /// Answers one line by a site at rest.
@@ -153,14 +143,14 @@ fn tell_not_kept(streams: &impl Eprint, directory: &str, fault: HomeFault) {
 /// The bytes of answers that are written at once.
 const OUTPUT_BYTES: usize = 65_536;
 
-/// Answers the lines of standard input, with words behind the answers where these are asked for. Where lines can't be kept
+/// Answers the lines of standard input, in frames where these are asked for. Where lines can't be kept
 /// they are answered so, standard error says why, and the site is opened again and goes on. A journal that has become long
 /// is compacted between two groups, unless its history is to be kept.
 fn serve_input<R: Files<File = File> + Clock + AllocGlobal + Clone + Drop>(
     streams: &(impl Input + Print + Eprint + AllocGlobal),
     rt: &R,
     directory: &str,
-    words: bool,
+    frames: bool,
     keeps_history: bool,
 ) -> Result<u8, Fault> {
     let alloc = rt.alloc();
@@ -182,7 +172,7 @@ fn serve_input<R: Files<File = File> + Clock + AllocGlobal + Clone + Drop>(
             &mut begun,
             &mut reader,
             &mut writer,
-            words,
+            frames,
             most_bytes,
         );
         match end {
@@ -284,9 +274,9 @@ pub fn do_task<R: Files<File = File> + Clock + AllocGlobal + Clone + Drop>(
         }
         Task::At { words } => answer_at(streams, rt, directory, words),
         Task::Serve {
-            words,
+            frames,
             keeps_history,
-        } => serve_input(streams, rt, directory, *words, *keeps_history),
+        } => serve_input(streams, rt, directory, *frames, *keeps_history),
         Task::Compact { kept } => compact(streams, rt, directory, *kept),
         Task::Check => check(streams, rt, directory),
     }

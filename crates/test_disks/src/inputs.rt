@@ -22,27 +22,29 @@ const INPUT: &[u8] =
 const OUTPUT: &[u8] =
     b"1.argonne\n\n\n\n1.argonne          STDIN            ann              Q      0        1      3600 -\n\nusage 1\n\ncannot be read\n\nrefused 1\n\ncannot be read\n\n";
 
-/// Each line is answered by what `at` answers, and told what `at` tells, of the site as the line left it.
+/// In frames each line is answered by the status that `at` ends with, what it answers, and what it tells, of the site as the
+/// line left it.
 const ASKED: &[u8] =
     b"ann qsub -l nodes=6\nbob qsub -l nodes=6\nann qalter -p 5 2\nbob qdel 1 9\n# a comment\n\x07\nann qsub -N a -l\n\
     grant 1 argonne\nann qhold 1\nbegin 1 0\nbegin 1 0\ngrant 2 argonne\nbegin 2 0\nfinish 1 5 0\nfinish 1 5 0\nann qhold 9.fermi\ntake {}\n";
 
-const TOLD: &[u8] = b"1.argonne\n\n2.argonne\n\n\
-    refused 2\n# refused 2 (NotPermitted): ann may not alter 2.argonne, whose owner is bob\n\n\
-    refused 2\nrefused 1\n# refused 2 (NotPermitted): bob may not delete 1.argonne, whose owner is ann\n\n\
-    \n\
-    cannot be read\n# cannot be read: the line has no form that this site knows\n\n\
-    usage 3\n# usage 3 (MissingArgument): -l lacks its argument\n\n\
-    granted\n\n\
-    refused 4\n# refused 4 (Granted): 1.argonne is granted to argonne\n\n\
-    done\n\n\
-    refused 10\n# refused 10 (Begun): 1.argonne has begun at argonne\n\n\
-    granted\n\n\
-    done\n# 2.argonne has begun, and argonne is beyond its nodes: running jobs and reservations use 12 of 8\n\n\
-    done\n\n\
-    refused 3\n# refused 3 (Gone): 1.argonne is finished, with status 0\n\n\
-    usage 6\n# usage 6 (UnknownSite): 9.fermi names a site that the roster has not\n\n\
-    unread 3 whole 0\n# unread 3 whole 0: a part of the packet is missing or has a wrong form\n\n";
+const TOLD: &[u8] = b"0 10 0\n1.argonne\n\
+    0 10 0\n2.argonne\n\
+    1 10 73\nrefused 2\nrefused 2 (NotPermitted): ann may not alter 2.argonne, whose owner is bob\
+    1 20 74\nrefused 2\nrefused 1\nrefused 2 (NotPermitted): bob may not delete 1.argonne, whose owner is ann\
+    0 0 0\n\
+    1 15 57\ncannot be read\ncannot be read: the line has no form that this site knows\
+    1 8 48\nusage 3\nusage 3 (MissingArgument): -l lacks its argument\
+    0 8 0\ngranted\n\
+    1 10 52\nrefused 4\nrefused 4 (Granted): 1.argonne is granted to argonne\
+    0 5 0\ndone\n\
+    1 11 50\nrefused 10\nrefused 10 (Begun): 1.argonne has begun at argonne\
+    0 8 0\ngranted\n\
+    0 5 95\ndone\n2.argonne has begun, and argonne is beyond its nodes: running jobs and reservations use 12 of 8\
+    0 5 0\ndone\n\
+    1 10 54\nrefused 3\nrefused 3 (Gone): 1.argonne is finished, with status 0\
+    1 8 67\nusage 6\nusage 6 (UnknownSite): 9.fermi names a site that the roster has not\
+    1 17 69\nunread 3 whole 0\nunread 3 whole 0: a part of the packet is missing or has a wrong form";
 
 /// A file in memory, which does so many calls and stops at the next.
 fn stopping(alloc: Global, file: &[u8], calls: usize) -> Result<Memory, HomeFault>
@@ -128,7 +130,7 @@ fn serve_file<W: Write>(
     (file, calls): (&[u8], usize),
     input: &mut Pieces<'_>,
     output: &mut W,
-    asked: bool,
+    frames: bool,
 ) -> Result<(Option<ServeFault>, Vec<u8>), HomeFault> {
     let mut home = opened(alloc, file, calls)?;
     let ended = serve(
@@ -137,7 +139,7 @@ fn serve_file<W: Write>(
         &mut Vec::new(alloc),
         input,
         output,
-        asked,
+        frames,
         usize::MAX,
     );
     Ok((ended.err(), home.into_device().into_disk()))
@@ -148,11 +150,11 @@ fn served(
     alloc: Global,
     input: &[u8],
     most: usize,
-    asked: bool,
+    frames: bool,
 ) -> Result<(Vec<u8>, Vec<u8>), ServeFault> {
     let mut output = Vec::new(alloc);
     let mut input = in_pieces(input, most);
-    match serve_file(alloc, (MADE, usize::MAX), &mut input, &mut output, asked)? {
+    match serve_file(alloc, (MADE, usize::MAX), &mut input, &mut output, frames)? {
         (None, disk) => Ok((output, disk)),
         (Some(fault), _) => Err(fault),
     }
@@ -234,12 +236,12 @@ fn an_input_goes_on_behind_lines_that_are_not_kept(rt: HostRuntime) -> Result<()
     let mut output = Vec::new(alloc);
     let (fault, disk) = serve_file(alloc, (MADE, 4), &mut input, &mut output, true)?;
     assert!(rt; matches!(fault, Some(ServeFault::NotKept(HomeFault::Failed(_)))));
-    let (none, _) = serve_file(alloc, (&disk, usize::MAX), &mut input, &mut output, false)?;
+    let (none, _) = serve_file(alloc, (&disk, usize::MAX), &mut input, &mut output, true)?;
     assert!(rt; none.is_none());
     assert_eq!(rt;
         output.as_slice(),
-        b"1.argonne\n\nnot kept\n# not kept: the machine has stopped; neither this line is done nor another that came with it\n\n\
-        1.argonne          STDIN            ann              Q      0        1      3600 -\n\n2.argonne\n\n"
+        b"0 10 0\n1.argonne\n3 9 90\nnot kept\nnot kept: the machine has stopped; neither this line is done nor another that came with it\
+        0 83 0\n1.argonne          STDIN            ann              Q      0        1      3600 -\n0 10 0\n2.argonne\n"
             .as_slice()
     );
     Ok(())
@@ -273,9 +275,9 @@ fn words_make_a_line(rt: HostRuntime) -> Result<(), Fail> {
 }
 
 /// Whichever allocation fails, a second attempt answers all.
-fn answers_all(rt: &(impl Abort + AllocGlobal), input: &[u8], asked: bool, wanted: &[u8]) {
+fn answers_all(rt: &(impl Abort + AllocGlobal), input: &[u8], frames: bool, wanted: &[u8]) {
     for _ in 0..2 {
-        match served(rt.alloc(), input, 9, asked) {
+        match served(rt.alloc(), input, 9, frames) {
             Ok((output, _)) => {
                 assert_eq!(rt; output.as_slice(), wanted);
                 return;
@@ -303,6 +305,6 @@ fn failed_allocations_of_an_input(rt: HostRuntime) {
 }
 
 #[test]
-fn failed_allocations_of_words(rt: HostRuntime) {
+fn failed_allocations_of_frames(rt: HostRuntime) {
     answers_all(&rt, ASKED, true, TOLD);
 }

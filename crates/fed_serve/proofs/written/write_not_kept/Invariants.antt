@@ -11,7 +11,7 @@ abbrev pub invariant-loop-after : goal.invariant-loop-after
 invariant-loop-after g l =
     let words = option_map (λ (w : Bor (List ℕ)). w.now) l.fn.words in
     (written : List ℕ) × Appends (g.W.Write.contents l.fn.writer) (g.W.Write.contents l.writer) written
-    × (written ++ not_kept_text words (lines l.rest) ≡ not_kept_text words (lines l.fn.text))
+    × (written ++ not_kept_text l.fn.frames words (lines l.rest) ≡ not_kept_text l.fn.frames words (lines l.fn.text))
     × (option_map (λ (w : Bor (List ℕ)). w.now) l.words ≡ words)
 
 abbrev pub decreases-loop-after : goal.decreases-loop-after

@@ -18,11 +18,11 @@ served : (name : List ℕ) → Asks name (codes "serve" ∷ codes "d" ∷ []) (r
 unfolding clap_on_literals
 served name = (refl, refl)
 
-told : (name : List ℕ) → Asks name (codes "serve" ∷ codes "--words" ∷ codes "d" ∷ []) (record { directory = codes "d"; task = Serves true false })
+framed : (name : List ℕ) → Asks name (codes "serve" ∷ codes "--frames" ∷ codes "d" ∷ []) (record { directory = codes "d"; task = Serves true false })
 unfolding clap_on_literals
-told name = (refl, refl)
+framed name = (refl, refl)
 
-unforgotten : (name : List ℕ) → Asks name (codes "serve" ∷ codes "d" ∷ codes "--keep-history" ∷ codes "--words" ∷ []) (record { directory = codes "d"; task = Serves true true })
+unforgotten : (name : List ℕ) → Asks name (codes "serve" ∷ codes "d" ∷ codes "--keep-history" ∷ codes "--frames" ∷ []) (record { directory = codes "d"; task = Serves true true })
 unfolding clap_on_literals
 unforgotten name = (refl, refl)
 
@@ -39,4 +39,4 @@ unfolding clap_on_literals
 checked name = (refl, refl)
 
 pub returns : goal.returns
-returns c = record { init = made; at = answered; serve = served; words = told; history = unforgotten; compact = compacted; keep = kept; check = checked }
+returns c = record { init = made; at = answered; serve = served; frames = framed; history = unforgotten; compact = compacted; keep = kept; check = checked }
