@@ -7,7 +7,7 @@ import subprocess
 import threading
 import time
 
-from tests.service.keeping import TELLING, read, rewrite, shim
+from tests.service.keeping import PLAIN, read, rewrite, shim
 from tests.service.scenes import OTHER, as_user, is_root
 from tests.service.sites import Unasked, until
 
@@ -174,7 +174,7 @@ def compact_now(tally, federation):
         tally.same("another user can't", site.utility("qask", "compact", before=as_user(OTHER))[:2], (2, ""))
     site.kill(signal.SIGTERM)
     tally.same("it ends in order", site.process.returncode, 0)
-    telling = shim(f"{federation.folder}/telling", federation.program, "--words", TELLING)
+    telling = shim(f"{federation.folder}/telling", federation.program, PLAIN)
     rewrite(site, f"program = {federation.program}", f"program = {telling}")
     rewrite(site, "compact = 0\n", "compact = 0.3\n")
     site.start()

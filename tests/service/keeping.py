@@ -40,53 +40,47 @@ def read(path):
         return file.read()
 
 
-# the program between the service and the real one: it hands lines and answers on, one after the other, and `hook` may
-# change an answer, or give one without asking
+# the program between the service and the real one: it hands lines and frames on, one after the other, and `hook` may change
+# a frame, or give one without asking; it knows no --keep-history
 SHIM = """#!/usr/bin/python3
 import os, subprocess, sys
-real, flag = {program!r}, {flag!r}
+real = {program!r}
 {hook}
 if sys.argv[1:] == ["serve", "--help"]:
-    print("Usage: nettlebeam serve", flag, "DIR")
+    print("Usage: nettlebeam serve --frames DIR")
     sys.exit()
 if sys.argv[1] != "serve":
     os.execv(real, ["nettlebeam", *sys.argv[1:]])
-assert not flag or sys.argv[2] == flag
-serve = subprocess.Popen([real, "serve", sys.argv[-1]], stdin=subprocess.PIPE, stdout=subprocess.PIPE, text=True, bufsize=1)
+assert sys.argv[2] == "--frames"
+serve = subprocess.Popen([real, "serve", "--frames", sys.argv[-1]], stdin=subprocess.PIPE, stdout=subprocess.PIPE)
 def ask(line):
     serve.stdin.write(line)
     serve.stdin.flush()
-    answer = got = ""
-    while got != "\\n":
-        got = serve.stdout.readline()
-        if not got:
-            sys.exit(3)
-        answer += got
-    return answer
-for line in iter(sys.stdin.readline, ""):
-    sys.stdout.write(hook(line, ask))
-    sys.stdout.flush()
+    head = serve.stdout.readline()
+    if not head:
+        sys.exit(3)
+    return head + serve.stdout.read(sum(map(int, head.split()[1:])))
+for line in iter(sys.stdin.buffer.readline, b""):
+    sys.stdout.buffer.write(hook(line, ask))
+    sys.stdout.buffer.flush()
 """
-# what a program that knows --words tells of a job that isn't known
-TELLING = """
+PLAIN = """
 def hook(line, ask):
-    answer = ask(line)
-    words = "# refused 1 (UnknownJob): 900.argonne is unknown\\n"
-    return answer[:-1] + words + "\\n" if answer.startswith("refused 1") else answer
+    return ask(line)
 """
 # what refuses to begin jobs as long as a file is there
 REFUSING = """
 def hook(line, ask):
-    if line.startswith("begin ") and os.path.exists({flag!r}):
-        return "refused 6\\n\\n"
+    if line.startswith(b"begin ") and os.path.exists({flag!r}):
+        return b"1 10 0\\nrefused 6\\n"
     return ask(line)
 """
 
 
-def shim(path, program, flag, hook):
+def shim(path, program, hook):
     """Writes a program that stands between the service and the real one."""
     with open(path, "w", encoding="ascii") as file:
-        file.write(SHIM.format(program=program, flag=flag, hook=hook))
+        file.write(SHIM.format(program=program, hook=hook))
     os.chmod(path, 0o755)
     return path
 
@@ -154,16 +148,16 @@ def senders(tally, federation):
     packet = batavia.said("ship", "argonne")
     kept = read(f"{argonne.home}/site/journal")
     done = argonne.utility("nettlebeam-peer", "lemont", "take", given=packet)
-    tally.same("lemont brings a packet of batavia", done[:2], (2, ""))
-    tally.true("and is told why", "another site sent it" in done[2])
-    tally.same("a packet that was cut", argonne.utility("nettlebeam-peer", "batavia", "take", given=packet[:-9])[:2], (2, ""))
+    tally.same("lemont brings a packet of batavia", done[:2], (0, "not from lemont\n"))
+    tally.true("and is told why", "sender is another site" in done[2])
+    tally.same("a packet that was cut", argonne.utility("nettlebeam-peer", "batavia", "take", given=packet[:-9])[:2], (0, "unread 1\n"))
     tally.same("nothing is kept of them", read(f"{argonne.home}/site/journal"), kept)
     with open(f"{federation.folder}/link", encoding="ascii") as file:
         text = file.read()
     with open(f"{federation.folder}/link", "w", encoding="ascii") as file:
         file.write(text.replace("NETTLEBEAM_SOCKET=", '[ "$from.$to" != argonne.lemont ] || to=batavia\nNETTLEBEAM_SOCKET='))
     federation.join("argonne", "lemont")
-    until(lambda: "another site sent it" in argonne.logged(), 20, "the log tells of a peer that gives another's packet")
+    until(lambda: "its packet is answered not from lemont" in argonne.logged(), 20, "the log tells of a peer that gives another's packet")
     tally.true("which isn't taken", job not in argonne.jobs())
     done = argonne.utility("nettlebeam-peer", "batavia", "take", given=packet)
     tally.same("batavia brings its own", done[:2], (0, "taken\n"))
@@ -430,7 +424,7 @@ def refusals(tally, federation):
     deny, ran = f"{federation.folder}/deny", f"{federation.folder}/ran"
     with open(deny, "w", encoding="ascii"):
         pass
-    federation.program = shim(f"{federation.folder}/refusing", federation.program, "", REFUSING.format(flag=deny))
+    federation.program = shim(f"{federation.folder}/refusing", federation.program, REFUSING.format(flag=deny))
     (site,) = federation.make("argonne:4")
     jobs = [site.submit(f"echo $PBS_JOBID >> {ran}; exit 3\n") for _ in range(3)]
     until(lambda: site.logged().count("begin is answered refused 6") >= 6, 20, "each is refused, again and again")
@@ -446,12 +440,7 @@ def refusals(tally, federation):
 
 
 def words(tally, federation):
-    """A program that tells why behind its answers is asked for that, and users are told."""
-    path = shim(f"{federation.folder}/telling", federation.program, "--words", TELLING)
-    told = subprocess.run([federation.program, "serve", "--help"], capture_output=True, text=True, check=False)
-    if "--words" in told.stdout:
-        path = federation.program
-    federation.program = path
+    """Users are told the words beside an answer, and not twice what the answer says."""
     (site,) = federation.make("argonne:4", jobs="run = no")
     job = site.submit("true\n")
     status, output, errors = site.utility("qdel", "900", job)

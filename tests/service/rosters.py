@@ -15,7 +15,7 @@ UNKNOWN = "is no site of the roster that is known here"
 ENDING = """
 def hook(line, ask):
     answer = ask(line)
-    if line.startswith("roster "):
+    if line.startswith(b"roster "):
         os._exit(9)
     return answer
 """
@@ -122,7 +122,7 @@ def shrinking(tally, federation):
 
 def lost_answers(tally, federation):
     """A roster that the site keeps and whose answer is lost is known to the service as soon as the site answers again."""
-    federation.program = shim(f"{federation.folder}/ending", federation.program, "", ENDING)
+    federation.program = shim(f"{federation.folder}/ending", federation.program, ENDING)
     (site,) = federation.make("argonne:2", jobs="run = no")
     tally.same("no answer comes", site.utility("qask", "roster", "argonne:2", "lemont:1")[:2], (3, ""))
     until(lambda: site.ask("seen").status == 0, 20, "the site answers again")

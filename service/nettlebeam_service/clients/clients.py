@@ -12,7 +12,7 @@ from typing import Any, AsyncIterator, Callable, ContextManager, Counter as Coun
 from ..common.config import ClientKeys
 from ..common.wire import LONGEST_HEAD, Malformed, Reply, Request, read_head
 from ..site.lines import is_costly
-from ..site.packets import LONGEST_LINE
+from ..site.packets import LONGEST_PACKET
 from .requests import Requests
 from .users import Users, uid_of
 
@@ -111,7 +111,7 @@ class Clients:
         self.places = Places(keys.most, keys.most_of_user)
         self.own_places = Meter(keys.most)
         self.bytes = Meter(keys.user_bytes)
-        self.own_bytes = Meter(16 * LONGEST_LINE)
+        self.own_bytes = Meter(4 * LONGEST_PACKET)
         self.gates = Gates()
         self.answers: Counts[int] = Counter()  # by their status
         self.seconds = 0.0  # that they took
@@ -176,7 +176,7 @@ class Clients:
         except asyncio.LimitOverrunError:
             raise Malformed(f"the line of a request has at most {LONGEST_HEAD} bytes") from None
         request = read_head(line)
-        most = LONGEST_LINE if uid == self.own else self.keys.script_bytes
+        most = LONGEST_PACKET if uid == self.own else self.keys.script_bytes
         if request.size is not None and request.size > most:
             raise Malformed(f"a script has at most {most} bytes")
         return request

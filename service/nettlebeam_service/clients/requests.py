@@ -14,7 +14,7 @@ from ..peers.unheard_changes import Unheard
 from ..site.backup import NoBackup
 from ..site.exchange import Exchange
 from ..site.job_queries import now, told_of
-from ..site.lines import CHANGING, FOR_ALL, Client, Denied, asker, check_words, is_complaint, line_of
+from ..site.lines import CHANGING, FOR_ALL, Client, Denied, asker, check_words, line_of
 from ..site.packets import BadPacket
 from ..site.site import Answer, Lost, NotKept, Silent, Site, Stopped
 from ..site.spool import Spool
@@ -160,9 +160,7 @@ class Requests:
         """The reply that hands an answer on."""
         if verb in CHANGING:
             self.changed()
-        # an answer of many lines is a listing, and no complaint
-        text = answer.text if verb not in FOR_ALL and verb != "qstat" else answer.text[:100]
-        return Reply(1 if is_complaint(text) else 0, answer.text.encode("ascii", "replace"), answer.words)
+        return Reply(answer.status, answer.text.encode("ascii", "replace"), answer.words)
 
     async def submit(self, client: Client, request: Request) -> Reply:
         """Submits a job with its script, which the disk has before the site is asked."""

@@ -26,7 +26,7 @@ class Eligibility:
         for name, told in (await told_of(self.site, [job])).items() if peer != self.here else ():
             if not self.fits(told, peer) and not is_granted_to(told, peer):
                 words = f"{name} needs {told['nodes']} nodes, and {peer} has {self.roster[peer]} by the roster that is known here"
-                return Answer(NOT_ELIGIBLE, words)
+                return Answer(NOT_ELIGIBLE, words, 1)
         return await self.site.ask(f"grant {job} {peer}")
 
     def fits(self, job: Job, peer: str) -> bool:

@@ -6,7 +6,7 @@ from typing import List, Protocol
 
 from ..common.commands import TooLong, call
 from ..common.config import PeerKeys
-from ..site.packets import LONGEST_LINE
+from ..site.packets import LONGEST_PACKET
 
 
 class Link(Protocol):
@@ -45,7 +45,7 @@ class CommandLink:
     async def call(self, *words: str, given: bytes = b"") -> bytes:
         """What the peer answers. One call is one process, which is ended when it hangs."""
         try:
-            done = await call([*self.keys.command, *words], self.keys.seconds, given, LONGEST_LINE)
+            done = await call([*self.keys.command, *words], self.keys.seconds, given, LONGEST_PACKET)
         except asyncio.TimeoutError:
             raise PeerFault(f"no answer to {words[0]} within {self.keys.seconds:g} s") from None
         except OSError as fault:

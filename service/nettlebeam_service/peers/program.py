@@ -9,13 +9,11 @@ import os
 import sys
 
 from ..common.ask import Unasked, ask, find_socket
+from ..site.packets import LONGEST_PACKET
 
 TYPE_CHECKING = False
 if TYPE_CHECKING:
     from typing import List
-
-LONGEST_PACKET = 67_108_864
-
 
 def requests(peer: str, words: List[str]) -> List[List[str]]:
     """The words for the service, one request behind the other; none where the peer may not ask these."""
@@ -40,7 +38,7 @@ def main(arguments: List[str]) -> int:
     if not asked:
         print("nettlebeam-peer: ask take, ship, grant ID .. or script ID", file=sys.stderr)
         return 2
-    body = sys.stdin.buffer.read(LONGEST_PACKET) if asked[0][0] == "take" else None
+    body = sys.stdin.buffer.read(LONGEST_PACKET + 1) if asked[0][0] == "take" else None
     for words in asked:
         try:
             told = ask(path, words, body=body)

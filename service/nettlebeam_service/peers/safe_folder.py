@@ -7,9 +7,10 @@ import os
 import stat
 from typing import Iterator, Optional, Tuple
 
+from ..site.packets import LONGEST_PACKET
 from .seal import BadSeal
 
-MOST_BYTES = 67_108_864 + 1024
+MOST_BYTES = LONGEST_PACKET + 1024
 MODE = 0o2770  # the other site's account writes here too
 State = Optional[Tuple[int, int]]
 

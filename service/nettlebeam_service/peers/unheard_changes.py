@@ -80,7 +80,7 @@ class Unheard:
         self.since.update({name: (site, counter) for name, site in others.items()})
         await asyncio.to_thread(self.keep)
         told = [hint(name, site) for name, site in others.items() if self.is_silent(site)]
-        return Answer(answer.text, "\n".join([*filter(None, [answer.words]), *told]))
+        return answer._replace(words="\n".join([*filter(None, [answer.words]), *told]))
 
     async def with_hint(self, job: str, answer: Answer) -> Answer:
         """The site's answer to why a job waits, with hints."""
@@ -89,7 +89,7 @@ class Unheard:
         name = job if "." in job else f"{job}.{self.here}"
         told = (await told_of_many(self.site, [name])).get(name) if answer.text.startswith("deleted") else None
         hints = [*filter(None, [answer.words, running(told) if told else ""]), *(await self.of([name])).values()]
-        return Answer(answer.text, "\n".join(hints))
+        return answer._replace(words="\n".join(hints))
 
     async def of(self, jobs: Sequence[str]) -> Dict[str, str]:
         """What people are told of those of these jobs of which the other site hasn't heard yet."""

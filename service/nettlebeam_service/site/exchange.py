@@ -4,9 +4,11 @@ from __future__ import annotations
 import asyncio
 
 from .backup import Backup
-from .packets import line_of_packet
+from .packets import parts_of_line
 from .site import Answer, Site
 from .spool import Spool
+
+FORGOTTEN = "forgotten\n"
 
 
 class Exchange:
@@ -25,8 +27,8 @@ class Exchange:
 
     async def take_packet(self, packet: bytes, peer: str) -> Answer:
         """The site's answer to the text of a packet, which must be of this peer where one is named."""
-        answer = await self.site.ask(line_of_packet(packet, self.site.names, peer))
-        if answer.text.startswith("forgotten"):
+        answer = await self.site.ask_parts(parts_of_line(packet, peer))
+        if answer.text == FORGOTTEN:
             self.site.lost_state.lose(peer or "a site")
         return answer
 

@@ -13,7 +13,6 @@ UTILITIES = ("qsub", "qalter", "qhold", "qrls", "qdel", "qstat")
 ROLES = ("operator", "admin")
 # read as lines of the scheduler behind any site, whoever asks
 RESERVED = ("grant", "begin", "finish", "handback", "ship", "take", "plan", "retire", "decline", "compact", "roster")
-COMPLAINTS = ("refused ", "usage ", "gap ", "unread ", "foreign", "forgotten", "cannot be read", "no plan", "other roster")
 # their answers tell of a change of the queue or of the machine: behind a user, and by themselves
 CHANGING_OF_USERS = ("qsub", "qalter", "qhold", "qrls", "qdel", "reserve", "cancel")
 CHANGING_OF_SITES = ("grant", "begin", "finish", "handback", "decline", "retire", "take", "roster")
@@ -133,7 +132,3 @@ def is_costly(words: Sequence[str]) -> bool:
     named = sum(FEW + 1 if "[" in word else 1 for word in words[1:] if word[:1].isdigit())
     return named > FEW if named else words[:1] in (["jobs"], ["qstat"], ["details"])
 
-
-def is_complaint(answer: str) -> bool:
-    """Whether an answer tells that something isn't done as it was asked. No line of a listing begins so."""
-    return any(line.startswith(COMPLAINTS) for line in answer.splitlines())

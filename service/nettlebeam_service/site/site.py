@@ -16,11 +16,10 @@ SHORTEST_PAUSE, LONGEST_PAUSE = 0.1, 60.0  # before a child that has ended is st
 CHUNK = 1 << 20
 USAGE_SECONDS = 10
 END_SECONDS = 120
-WORDS_FLAG = "--words"
+FRAMES_FLAG = "--frames"
 # without it the child would compact its journal by itself, at moments that no backup knows of
 HISTORY_FLAG = "--keep-history"
-WORDS_MARK = "# "
-NOT_KEPT = "not kept\n"
+NOT_KEPT = 3
 
 
 class Stopped(Exception):
@@ -40,45 +39,42 @@ class Lost(Stopped):
 
 
 class Answer(NamedTuple):
-    """What the program said to a line, and, where it tells them, the words of its complaint."""
+    """What the program said to a line, the words beside it, and the status: 0, and 1 where the line isn't done as it asks."""
 
     text: str
     words: str = ""
+    status: int = 0
 
 
-class AnswerReader:
-    """Cuts the output of `serve` into answers: each is lines, and an empty line behind them."""
+class FrameReader:
+    """Cuts the output of `serve --frames` into answers: each has a head line, its status and two numbers of bytes, and behind
+    it so many bytes of the answer, and of the words beside it."""
 
     def __init__(self) -> None:
         self.held = bytearray()
-        self.looked = 0
+        self.wanted = 0  # the bytes of the frame whose head has come
 
     def feed(self, data: bytes) -> None:
         """Takes bytes that came."""
         self.held += data
 
-    def next(self) -> Optional[bytes]:
+    def next(self) -> Optional[Answer]:
         """The next answer that is whole."""
-        if self.held[:1] == b"\n":
-            del self.held[:1]
-            return b""
-        end = self.held.find(b"\n\n", self.looked)
-        if end < 0:
-            self.looked = max(0, len(self.held) - 1)
+        if len(self.held) < self.wanted:
             return None
-        answer = bytes(self.held[: end + 1])
-        del self.held[: end + 2]
-        self.looked = 0
-        return answer
-
-
-def read_answer(data: bytes) -> Answer:
-    """An answer of `serve`; where its last line has words for people, these are apart. No line of an answer begins so."""
-    text = data.decode("ascii", "replace")
-    start = text.rfind("\n", 0, len(text) - 1) + 1
-    if not text.startswith(WORDS_MARK, start):
-        return Answer(text)
-    return Answer(text[:start], text[start + len(WORDS_MARK) :].rstrip("\n"))
+        end = self.held.find(b"\n") + 1
+        if not end:
+            return None
+        status, answer, words = map(int, self.held[:end].split())
+        self.wanted = end + answer + words
+        if len(self.held) < self.wanted:
+            return None
+        with memoryview(self.held) as held:
+            text = str(held[end : end + answer], "ascii", "replace")
+            told = str(held[end + answer : self.wanted], "ascii", "replace")
+        del self.held[: self.wanted]
+        self.wanted = 0
+        return Answer(text, told, status)
 
 
 class Interlude:
@@ -91,7 +87,7 @@ class Interlude:
 
 def settle(asked: "asyncio.Future[Answer]", answer: Answer) -> None:
     """Hands an answer to the one who asked: as a fault where the line isn't kept."""
-    if answer.text == NOT_KEPT:
+    if answer.status == NOT_KEPT:
         asked.set_exception(NotKept(answer.words or "nothing of the line is kept"))
     else:
         asked.set_result(answer)
@@ -121,8 +117,12 @@ class Site:
 
     async def ask(self, line: str) -> Answer:
         """The answer to a line. Stopped where none comes."""
+        return await self.ask_parts([line.encode("ascii")], changes(line))
+
+    async def ask_parts(self, parts: Sequence[bytes | memoryview], is_change: bool = True) -> Answer:
+        """The answer to a line of these parts, which may be long: they are not put together here."""
         await self.open.wait()
-        if self.lost_state.loss and changes(line):
+        if self.lost_state.loss and is_change:
             raise Lost(self.lost_state.loss)
         if self.process is None or self.process.stdin is None or self.ending:
             raise Stopped(self.trouble)
@@ -130,7 +130,8 @@ class Site:
             raise self.waiting.fault()
         answer: asyncio.Future[Answer] = self.waiting.add()
         # where the child has ended, this writes nothing, and the end is told to all that wait
-        self.process.stdin.write(line.encode("ascii") + b"\n")
+        for part in (*parts, b"\n"):
+            self.process.stdin.write(part)
         return await answer
 
     def processor_seconds(self) -> float:
@@ -224,9 +225,9 @@ class Site:
         except asyncio.TimeoutError:
             process.kill()
             usage = b""
-        options = [flag for flag in (WORDS_FLAG, HISTORY_FLAG) if flag.encode() in usage]
+        options = [flag for flag in (HISTORY_FLAG,) if flag.encode() in usage]
         self.can_compact = HISTORY_FLAG in options
-        return [self.program, "serve", *options, self.folder]
+        return [self.program, "serve", FRAMES_FLAG, *options, self.folder]
 
     async def probe(self) -> None:
         """Waits until the site answers, so that others are told that it does."""
@@ -244,7 +245,7 @@ class Site:
 
     async def read_answers(self, process: asyncio.subprocess.Process) -> None:
         """Hands out the answers, until the child's output ends."""
-        reader = AnswerReader()
+        reader = FrameReader()
         assert process.stdout
         while True:
             data = await process.stdout.read(CHUNK)
@@ -258,7 +259,7 @@ class Site:
                     process.kill()
                     return
                 if not asked.done():
-                    settle(asked, read_answer(answer))
+                    settle(asked, answer)
 
     async def read_errors(self, process: asyncio.subprocess.Process) -> None:
         """Logs what the child tells on standard error, and keeps the last of it."""

@@ -63,9 +63,9 @@ class Waits:
         if not jobs or not points_of(facts):
             return answer
         if not self.mail.keys.mail:
-            return Answer(answer.text, NO_MAIL)
+            return answer._replace(words=NO_MAIL)
         if self.groups.array(jobs[0]) and "j" not in str(facts.get("mail", "")):
-            return Answer(answer.text, "of an array mail is sent for each member, where -m has a j, and none else")
+            return answer._replace(words="of an array mail is sent for each member, where -m has a j, and none else")
         for job in jobs:
             await asyncio.to_thread(self.mail.know, job)
         return answer
@@ -74,11 +74,11 @@ class Waits:
         """The site's answer to why a job waits, with words for what the service has it wait for, or why it is left alone."""
         name = job if "." in job else f"{job}.{self.here}"
         if name in self.left_alone and answer.text.startswith("starts"):
-            return Answer(answer.text, f"{name} doesn't: {LEFT_ALONE}")
+            return answer._replace(words=f"{name} doesn't: {LEFT_ALONE}")
         group = self.groups.by_job.get(name)
         if group is None or not group.is_waiting or not answer.text.startswith("held"):
             return answer
-        return Answer(answer.text, group.in_words())
+        return answer._replace(words=group.in_words())
 
     def reasons(self, jobs: Sequence[str]) -> Dict[str, str]:
         """What those of these jobs wait for that wait by the service, or are left alone by it."""
