@@ -97,6 +97,9 @@ class Cluster:
 
     def submit(self, site, *words, seconds=0, status=0):
         """Submits a job that tells where it runs."""
+        if isinstance(seconds, int) and seconds >= 60:
+            # where the signal that ends it comes to the first one before it comes to the shell, the shell doesn't end by itself
+            seconds = f"{seconds}; sleep {seconds}"
         return site.submit(SCRIPT.format(ran=self.ran, seconds=seconds, status=status), *words)
 
     def submit_three(self, site):

@@ -42,7 +42,7 @@ def nodes(tally, federation):
     tally.same("a wide job runs at its first host", (site.finished(wide), cluster.where(wide)), (0, ["n1"]))
     starts_cut(tally, cluster, site)
     for ask, how in (("prepare", "before"), ("prepare", "behind")):
-        until(lambda: site.said("nodes").count("- up\n") == 3, 60, "all nodes are up")
+        wait_steady(site)
         cluster.trap("n1", ask, how)
         job = cluster.submit(site)
         tally.same(f"{ask} is cut {how}: it costs no job", (site.finished(job, 60), len(cluster.where(job)), cluster.is_sprung("n1")), (0, 1, True))
@@ -73,9 +73,22 @@ def starts_cut(tally, cluster, site):
     tally.same("until its node tells", (site.finished(job, 60), cluster.where(job)), (6, ["n1"]))
 
 
+def wait_steady(site):
+    """Waits until all nodes are up, and stay so for a second: a link may end once more behind what was cut."""
+
+    def is_steady():
+        for _ in range(5):
+            if site.said("nodes").count("- up\n") != 3:
+                return False
+            time.sleep(0.25)
+        return True
+
+    until(is_steady, 60, "all nodes are up")
+
+
 def ends_cut(tally, cluster, site):
     """A link is cut while a job runs, and a node is switched off."""
-    until(lambda: site.said("nodes").count("- up\n") == 3, 60, "all nodes are up")
+    wait_steady(site)
     job = cluster.submit(site, seconds=2, status=7)
     until(lambda: cluster.where(job) == ["n1"], 20, "it runs")
     cluster.cut("n1")
@@ -83,7 +96,7 @@ def ends_cut(tally, cluster, site):
     tally.same("an end isn't heard", site.jobs(job)[job]["letter"], "R")
     cluster.mend("n1")
     tally.same("until the link is there", site.finished(job, 60), 7)
-    until(lambda: site.said("nodes").count("- up\n") == 3, 60, "all nodes are up")
+    wait_steady(site)
     job = cluster.submit(site, seconds=60)
     until(lambda: cluster.where(job) == ["n1"], 20, "it runs")
     cluster.switch_off("n1")
@@ -96,19 +109,19 @@ def ends_cut(tally, cluster, site):
 
 def others_cut(tally, cluster, site):
     """A link is cut in a drop, in a forget, and before an end."""
-    until(lambda: site.said("nodes").count("- up\n") == 3, 60, "all nodes are up")
+    wait_steady(site)
     cluster.trap("n1", "start", "before")
     job = cluster.submit(site, status=5)
     until(lambda: cluster.is_sprung("n1"), 20, "a start is cut")
     cluster.trap("n1", "drop", "behind")
     status = site.finished(job, 90)
     tally.true("where a drop is cut, too, it ran or is lost", (status, len(cluster.where(job))) in ((5, 1), (255, 0)))
-    until(lambda: site.said("nodes").count("- up\n") == 3, 60, "all nodes are up")
+    wait_steady(site)
     cluster.trap("n1", "forget", "before")
     job = cluster.submit(site, status=6)
     tally.same("a forget is cut", (site.finished(job, 60), cluster.where(job)), (6, ["n1"]))
     until(lambda: not os.path.exists(f"{cluster.folder}/n1/{job}"), 60, "its node forgets it later")
-    until(lambda: site.said("nodes").count("- up\n") == 3, 60, "all nodes are up")
+    wait_steady(site)
     job = cluster.submit(site, seconds=300)
     until(lambda: cluster.where(job) == ["n1"], 20, "it runs")
     cluster.cut("n1")
@@ -120,7 +133,7 @@ def others_cut(tally, cluster, site):
 
 def operators(tally, cluster, site):
     """What operators say, and what is kept of it."""
-    until(lambda: site.said("nodes").count("- up\n") == 3, 60, "all nodes are up")
+    wait_steady(site)
     if not is_root(tally):
         return
     operator = {"before": as_user(OPERATOR), "environment": {"NETTLEBEAM_ROLE": "operator"}}
@@ -172,7 +185,7 @@ def node_kills(tally, federation):
     site.wait_ready()
     tally.same("one ends while no service is there", site.finished(job), 5)
     for ask, statuses, times in (("prepare", (0,), 1), ("start", (255,), 0)):
-        until(lambda: site.said("nodes").count("- up\n") == 3, 60, "all nodes are up")
+        wait_steady(site)
         cluster.trap("n1", ask, "hold")
         job = cluster.submit(site)
         until(lambda: os.path.exists(f"{cluster.folder}/n1.held"), 20, f"{ask} is on its way")
