@@ -1,5 +1,5 @@
 //! What is written to lines. Nothing here takes memory, so that what the disk has is answered where there is none left.
-ghost use Rattle.std.specs.Prelude.{◌≡◌, ◌++◌, ◌∷◌, [], List, ℕ, Bor, OnOk, codes, decimal, length, option_map, unwrap_or};
+ghost use Rattle.std.specs.Prelude.{◌≡◌, ◌++◌, ◌∷◌, [], List, ℕ, OnOk, option_map, unwrap_or};
 ghost use Rattle.std.specs.Io.KnownBytes.{Appends};
 ghost use Rattle.std.specs.Str.Lines.{lines};
 ghost use Rattle.fed_serve.specs.Frame.{frame_bytes, head_line};

@@ -27,9 +27,9 @@ use Rattle.fed_turns.proofs.Takes.{is_known, is_read, is_remembered, reads_recei
 use Rattle.fed_turns.proofs.Turns.{ArePlayed, turns_played}
 
 -- what is read is taken by what is told of its name
-named_so : (roster : List (List ℕ × ℕ)) (text : List ℕ) (s : State) {p : PacketValue} → packet_in (packet_of text) ≡ Ok p → (complaint : Option Complaint) → complaint_of_name roster (named_in text) (Ok p) ≡ complaint
+named_so : (roster : List (List ℕ × ℕ)) (text : List ℕ) (s : State) (p : PacketValue) → packet_in (packet_of text) ≡ Ok p → (complaint : Option Complaint) → complaint_of_name roster (named_in text) (Ok p) ≡ complaint
     → said_of (after_text roster s text) ≡ said_of (after_handing roster s complaint (Ok p))
-named_so roster text s {p} read complaint is =
+named_so roster text s p read complaint is =
     ap (λ o. said_of (after_handing roster s (complaint_of_name roster (named_in text) o) o)) read ∙ ap (λ c. said_of (after_handing roster s c (Ok p))) is
 
 pub start_stands : (rosters : ℕ → List (List ℕ × ℕ)) → StandsFor (beginning rosters) start
@@ -75,14 +75,13 @@ module _ (whole : List (List ℕ × ℕ)) (few : length whole ≤ 16) (rosters :
       let told : (s : State) → site_says roster s line ≡ said_of (after_text roster s text) =
       λ s. ap (λ o. after_own roster s (option_map_or carries o (option_map_or (own_words roster s.site) (words_in line) (says None)))) is in
       let here : State = state_at i (w.site i) in
-      let by_name = named_so roster text in
       subst (λ (s : State). RaisesNoAlarm roster s line text) (sym (played.stands.sites i)) (record {
         packet = it.of.sent;
         read = reads i;
         remembered = is_remembered n few w reached i it.packet posted it.shipped it.of;
-        said = λ none known. told here ∙ by_name here (reads i) None none
+        said = λ none known. told here ∙ named_so roster text here it.of.sent (reads i) None none
             ∙ ap (λ o. said_of (after_reading roster here o)) (sym (is_read n few w reached i it.packet posted it.shipped it.of))
             ∙ ap said_of (reads_receipt n few w reached i it.packet posted it.shipped it.of roster known);
-        named = λ complaint is. told here ∙ by_name here (reads i) (Some complaint) is;
-        foreign = λ none far. told here ∙ by_name here (reads i) None none ∙ ap said_of (cond-true (is_foreign roster it.of.sent) _ _ far);
+        named = λ complaint is. told here ∙ named_so roster text here it.of.sent (reads i) (Some complaint) is;
+        foreign = λ none far. told here ∙ named_so roster text here it.of.sent (reads i) None none ∙ ap said_of (cond-true (is_foreign roster it.of.sent) _ _ far);
       })
