@@ -46,3 +46,4 @@ pub mod EqualVersions
 pub mod Convergence
 pub mod DoneCommands
 pub mod RetiredRuns
+pub mod NewJobs

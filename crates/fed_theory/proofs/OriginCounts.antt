@@ -154,7 +154,7 @@ jobs_kept ops new l other site = count_fewer is_job jobs_beyond (ops ++ new ∷ 
 abbrev is_start : History Body → StampValue → Bool
 is_start ops id = starts (is_retired ops) id
 
-retired_reached : (ops : History Body) → IsCountable ops → (id : StampValue) → is_retired ops id ≡ true → id.counter < counter_of (version_of ops) id.site
+pub retired_reached : (ops : History Body) → IsCountable ops → (id : StampValue) → is_retired ops id ≡ true → id.counter < counter_of (version_of ops) id.site
 retired_reached ops l id t =
     let f = retiring ops id t in
     let r = retirement f.0 id f.2 in

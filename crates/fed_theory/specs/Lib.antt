@@ -6,5 +6,6 @@ pub mod JobSteps
 pub mod ViewSteps
 pub mod Cut
 pub mod MayFollow
+pub mod Retirements
 -- Lemmas that impls and contracts cite.
 pub mod ValueOrderLaws

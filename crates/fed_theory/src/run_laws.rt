@@ -1,6 +1,6 @@
 //! Laws of whole runs, over every list of events in a federation of n sites, of which there are at most 16. Each
 //! function does nothing: its contract is the law.
-ghost use Rattle.std.specs.Prelude.{◌⊎◌, ◌≡◌, ◌≢◌, ◌<◌, ◌≤◌, ℕ, true, [], ◌∷◌, ◌++◌, List, Some, IsTrue};
+ghost use Rattle.std.specs.Prelude.{◌⊎◌, ◌≡◌, ◌≢◌, ◌<◌, ◌≤◌, ℕ, Bool, true, [], ◌∷◌, ◌++◌, List, Some, IsTrue};
 ghost use Rattle.fed_stamp.specs.declared.sites.TheConstants.{SITES};
 ghost use Rattle.fed_stamp.specs.Stamp.{StampValue};
 ghost use Rattle.fed_lattice.specs.Sets.{Has, Includes, IsSameSet};
@@ -10,8 +10,10 @@ ghost use Rattle.fed_model.specs.declared.beginnings.Beginning.{Beginning};
 ghost use Rattle.fed_model.specs.declared.beginnings.Ending.{Ending};
 ghost use Rattle.fed_model.specs.declared.windows.Window.{Window};
 ghost use Rattle.fed_model.specs.declared.replies.Reply.{Reply};
-ghost use Rattle.fed_model.specs.Body.{Body, Body.OfJob, JobBody.Grant, JobBody.Begin, JobBody.Finish, JobBody.Delete, Body.Reserve, Body.Cancel};
+ghost use Rattle.fed_model.specs.declared.values.JobValues.{JobValues};
+ghost use Rattle.fed_model.specs.Body.{Body, Body.Submit, Body.OfJob, JobBody.Grant, JobBody.Begin, JobBody.Finish, JobBody.Delete, Body.Reserve, Body.Cancel};
 ghost use Rattle.fed_model.specs.Lawful.{IsHolder, IsLawful, AreKin};
+ghost use Rattle.fed_model.specs.Letter.{is_submitted};
 ghost use Rattle.fed_model.specs.Retired.{is_within};
 ghost use Rattle.fed_model.specs.View.{view, HasSubmit};
 ghost use Rattle.fed_model.specs.Limits.{IsWithinLimits};
@@ -25,6 +27,7 @@ ghost use Rattle.fed_model.specs.Exchange.{IsExchange};
 ghost use Rattle.fed_model.specs.OpenGrants.{HasOpenGrant};
 ghost use Rattle.fed_model.specs.RangedEvents.{AreRanged};
 ghost use Rattle.fed_model.specs.Run.{outcomes, packet, step, run, all_operations};
+ghost use Rattle.fed_theory.specs.Retirements.{IsRetiredAmong};
 
 /// What a list of events leaves and what is answered to it, once one event more has come.
 pub fn runs_go_on()
@@ -195,6 +198,26 @@ pub fn done_commands_stay()
         (step n (run n sent) (Ship site to)).outcome ≡ Outcome.Packet k →
         (step n (run n (sent ++ Ship site to ∷ late)) (Take taker k)).outcome ≡ Outcome.Taken taken →
         Has ((step n (run n (sent ++ Ship site to ∷ late)) (Take taker k)).after.site taker).set new }
+{}
+
+/// New jobs are there. A `Submit` that is answered gives its job an identifier of its site (`named`), and the `Submit` is
+/// in the site's set ever after, of the user who asked and with the values that were asked (`kept`). The job reads as
+/// submitted at its site in all that follows, until a `Retire` is done there whose range has its counter (`there`).
+pub fn new_jobs_are_there()
+    ensures named { (n : ℕ) (early : List Event) (site : ℕ) (who : Who) (values : JobValues) (held : Bool) (job : StampValue) →
+        (step n (run n early) (Do site who (Command.Submit values held))).outcome ≡ Outcome.Replied (Reply.Submitted job) →
+        job.site ≡ site }
+    ensures kept { (n : ℕ) (early late : List Event) (site : ℕ) (who : Who) (values : JobValues) (held : Bool)
+        (job : StampValue) →
+        (step n (run n early) (Do site who (Command.Submit values held))).outcome ≡ Outcome.Replied (Reply.Submitted job) →
+        Has ((run n (early ++ Do site who (Command.Submit values held) ∷ late)).site site).set
+        (job, Submit who.user values held) }
+    ensures there { (n : ℕ) (early late : List Event) (site : ℕ) (who : Who) (values : JobValues) (held : Bool)
+        (job : StampValue) → n ≤ SITES →
+        (step n (run n early) (Do site who (Command.Submit values held))).outcome ≡ Outcome.Replied (Reply.Submitted job) →
+        let submitted = early ++ Do site who (Command.Submit values held) ∷ [] in
+        IsTrue (is_submitted ((view ((run n (early ++ Do site who (Command.Submit values held) ∷ late)).site site).set).job job))
+        ⊎ IsRetiredAmong n submitted late job }
 {}
 
 /// Once no command is done any more and each site has made a packet for each other, which took it, all sites hold the
