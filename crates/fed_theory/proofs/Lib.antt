@@ -47,3 +47,4 @@ pub mod Convergence
 pub mod DoneCommands
 pub mod RetiredRuns
 pub mod NewJobs
+pub mod JobRoom

@@ -1,14 +1,16 @@
 //! Laws of whole runs, over every list of events in a federation of n sites, of which there are at most 16. Each
 //! function does nothing: its contract is the law.
-ghost use Rattle.std.specs.Prelude.{◌⊎◌, ◌≡◌, ◌≢◌, ◌<◌, ◌≤◌, ℕ, Bool, true, [], ◌∷◌, ◌++◌, List, Some, IsTrue};
+ghost use Rattle.std.specs.Prelude.{◌⊎◌, ◌≡◌, ◌≢◌, ◌<◌, ◌≤◌, ◌+◌, ℕ, Bool, true, [], ◌∷◌, ◌++◌, List, Some, IsTrue};
 ghost use Rattle.fed_stamp.specs.declared.sites.TheConstants.{SITES};
 ghost use Rattle.fed_stamp.specs.Stamp.{StampValue};
 ghost use Rattle.fed_lattice.specs.Sets.{Has, Includes, IsSameSet};
+ghost use Rattle.fed_model.specs.declared.capacities.TheConstants.{MAX_JOBS};
 ghost use Rattle.fed_model.specs.declared.askers.Who.{Who};
 ghost use Rattle.fed_model.specs.declared.commands.Command.{Command};
 ghost use Rattle.fed_model.specs.declared.beginnings.Beginning.{Beginning};
 ghost use Rattle.fed_model.specs.declared.beginnings.Ending.{Ending};
 ghost use Rattle.fed_model.specs.declared.windows.Window.{Window};
+ghost use Rattle.fed_model.specs.declared.refusals.Refusal.{Refusal};
 ghost use Rattle.fed_model.specs.declared.replies.Reply.{Reply};
 ghost use Rattle.fed_model.specs.declared.values.JobValues.{JobValues};
 ghost use Rattle.fed_model.specs.Body.{Body, Body.Submit, Body.OfJob, JobBody.Grant, JobBody.Begin, JobBody.Finish, JobBody.Delete, Body.Reserve, Body.Cancel};
@@ -19,6 +21,7 @@ ghost use Rattle.fed_model.specs.View.{view, HasSubmit};
 ghost use Rattle.fed_model.specs.Limits.{IsWithinLimits};
 ghost use Rattle.fed_model.specs.declared.taken.Taken.{Taken};
 ghost use Rattle.fed_model.specs.Answer.{Answer.Replies, answer};
+ghost use Rattle.fed_model.specs.Origin.{jobs_of};
 ghost use Rattle.fed_model.specs.Packet.{Packet};
 ghost use Rattle.fed_model.specs.declared.events.Event.{Event};
 ghost use Rattle.fed_model.specs.declared.events.Event.TheVariants.{Do, Ship, Take};
@@ -28,6 +31,7 @@ ghost use Rattle.fed_model.specs.OpenGrants.{HasOpenGrant};
 ghost use Rattle.fed_model.specs.RangedEvents.{AreRanged};
 ghost use Rattle.fed_model.specs.Run.{outcomes, packet, step, run, all_operations};
 ghost use Rattle.fed_theory.specs.Retirements.{IsRetiredAmong};
+ghost use Rattle.fed_theory.specs.Submits.{submits_at};
 
 /// What a list of events leaves and what is answered to it, once one event more has come.
 pub fn runs_go_on()
@@ -218,6 +222,18 @@ pub fn new_jobs_are_there()
         let submitted = early ++ Do site who (Command.Submit values held) ∷ [] in
         IsTrue (is_submitted ((view ((run n (early ++ Do site who (Command.Submit values held) ∷ late)).site site).set).job job))
         ⊎ IsRetiredAmong n submitted late job }
+{}
+
+/// New jobs find room until a site has 10,000. It has no more jobs that aren't retired than it had and one for each
+/// `Submit` that it was asked since (`jobs`). As long as these together are fewer than 10,000, no `Submit` is refused since the
+/// site is full (`room`).
+pub fn new_jobs_find_room()
+    ensures jobs { (n : ℕ) (early late : List Event) (site : ℕ) → n ≤ SITES →
+        jobs_of (view ((run n (early ++ late)).site site).set) site
+        ≤ jobs_of (view ((run n early).site site).set) site + submits_at site late }
+    ensures room { (n : ℕ) (early late : List Event) (site : ℕ) (who : Who) (values : JobValues) (held : Bool) → n ≤ SITES →
+        jobs_of (view ((run n early).site site).set) site + submits_at site late < MAX_JOBS →
+        (step n (run n (early ++ late)) (Do site who (Command.Submit values held))).outcome ≢ Outcome.Refused Refusal.SiteFull }
 {}
 
 /// Once no command is done any more and each site has made a packet for each other, which took it, all sites hold the
