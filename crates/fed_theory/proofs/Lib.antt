@@ -48,3 +48,5 @@ pub mod DoneCommands
 pub mod RetiredRuns
 pub mod NewJobs
 pub mod JobRoom
+pub mod Gaps
+pub mod Clearing

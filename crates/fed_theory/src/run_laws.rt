@@ -2,9 +2,11 @@
 //! function does nothing: its contract is the law.
 ghost use Rattle.std.specs.Prelude.{◌⊎◌, ◌≡◌, ◌≢◌, ◌<◌, ◌≤◌, ◌+◌, ℕ, Bool, true, [], ◌∷◌, ◌++◌, List, Some, IsTrue};
 ghost use Rattle.fed_stamp.specs.declared.sites.TheConstants.{SITES};
+ghost use Rattle.fed_stamp.specs.declared.stamps.TheConstants.{MAX_COUNTER};
 ghost use Rattle.fed_stamp.specs.Stamp.{StampValue};
+ghost use Rattle.fed_stamp.specs.Version.{greatest};
 ghost use Rattle.fed_lattice.specs.Sets.{Has, Includes, IsSameSet};
-ghost use Rattle.fed_model.specs.declared.capacities.TheConstants.{MAX_JOBS};
+ghost use Rattle.fed_model.specs.declared.capacities.TheConstants.{MAX_JOBS, MAX_RANGES};
 ghost use Rattle.fed_model.specs.declared.askers.Who.{Who};
 ghost use Rattle.fed_model.specs.declared.commands.Command.{Command};
 ghost use Rattle.fed_model.specs.declared.beginnings.Beginning.{Beginning};
@@ -30,7 +32,7 @@ ghost use Rattle.fed_model.specs.Exchange.{IsExchange};
 ghost use Rattle.fed_model.specs.OpenGrants.{HasOpenGrant};
 ghost use Rattle.fed_model.specs.RangedEvents.{AreRanged};
 ghost use Rattle.fed_model.specs.Run.{outcomes, packet, step, run, all_operations};
-ghost use Rattle.fed_theory.specs.Retirements.{IsRetiredAmong};
+ghost use Rattle.fed_theory.specs.Retirements.{CanRetireSettled, IsRetiredAmong, unsettled_of};
 ghost use Rattle.fed_theory.specs.Submits.{submits_at};
 
 /// What a list of events leaves and what is answered to it, once one event more has come.
@@ -234,6 +236,19 @@ pub fn new_jobs_find_room()
     ensures room { (n : ℕ) (early late : List Event) (site : ℕ) (who : Who) (values : JobValues) (held : Bool) → n ≤ SITES →
         jobs_of (view ((run n early).site site).set) site + submits_at site late < MAX_JOBS →
         (step n (run n (early ++ late)) (Do site who (Command.Submit values held))).outcome ≢ Outcome.Refused Refusal.SiteFull }
+{}
+
+/// A site of which fewer than 1,000 jobs and reservations are unsettled is never full for good, whatever it has retired
+/// before: it can retire all others. There are ranges, at most one more than what is unsettled, whose `Retire`s it does one
+/// after another, as long as its clock has so many stamps left. Behind them it knows of its own jobs and reservations just
+/// those that are unsettled, each as before, and refuses no `Submit` as a full site until they are 10,000 with those that it
+/// was asked for since.
+pub fn settled_identifiers_can_be_retired()
+    ensures { (n : ℕ) (events : List Event) (site : ℕ) (who : Who) → n ≤ SITES → site < n →
+        unsettled_of (view ((run n events).site site).set) site < MAX_RANGES →
+        greatest (view ((run n events).site site).set).version
+        + (unsettled_of (view ((run n events).site site).set) site + 1) ≤ MAX_COUNTER →
+        CanRetireSettled n events site who }
 {}
 
 /// Once no command is done any more and each site has made a packet for each other, which took it, all sites hold the
