@@ -1,13 +1,13 @@
 -- A site can retire all but what is unsettled.
-use Rattle.std.specs.Prelude.{count_by, cond, filter, is_some, if◌then◌else◌, nat_lt, not, ◌&&◌, ◌||◌, ◌==◌, map, All, Some, None, Ok}
-use Rattle.std.specs.List.{range_with_len, list_any}
-use Rattle.std.proofs.Common.{◌≡◌, ◌⊎◌, ℕ, zero, suc, ◌+◌, ◌-◌, ◌≤◌, ◌<◌, List, [], ◌∷◌, ◌++◌, length, Bool, true, false, get_or, refl, sym, ap, subst, ◌∙◌, inl, inr, append_assoc, append-nil, length-append, arith}
-use Rattle.std.proofs.lemmas.Bool.{and_from, and_parts, cases_Bool, cases_eq, cond-true, cond-false, both_ways, eq-eqb, le-leb, lt-ltb, not-false, or_left, or_right, or_cases, or_parts}
+use Rattle.std.specs.Prelude.{count_by, filter, is_some, if◌then◌else◌, nat_lt, not, ◌&&◌, ◌||◌, map, Some, None, Ok}
+use Rattle.std.specs.List.{range_with_len}
+use Rattle.std.proofs.Common.{◌≡◌, ◌⊎◌, ℕ, suc, ◌+◌, ◌-◌, ◌≤◌, ◌<◌, List, [], ◌∷◌, ◌++◌, length, Bool, true, false, refl, sym, ap, subst, ◌∙◌, inl, inr, append_assoc, append-nil, length-append, arith}
+use Rattle.std.proofs.lemmas.Bool.{and_from, and_parts, cases_Bool, cases_eq, cond-true, both_ways, eq-eqb, le-leb, lt-ltb, or_left, or_right, or_cases, or_parts}
 use Rattle.std.proofs.lemmas.List.{map-append}
 use Rattle.std.proofs.lemmas.List.Elements.{All-from_get_or}
 use Rattle.std.proofs.lemmas.List.Folds.{list_any-append}
 use Rattle.fed_stamp.specs.Stamp.{StampValue}
-use Rattle.fed_stamp.specs.Version.{counter_of, covers, greatest, next_stamp, raised}
+use Rattle.fed_stamp.specs.Version.{counter_of, greatest, next_stamp, raised}
 use Rattle.fed_stamp.proofs.VersionLaws.{covered_counter_le_greatest, greatest_bound}
 use Rattle.fed_lattice.specs.Sets.{Has}
 use Rattle.fed_lattice.specs.SetLaws.{Has-left, Has-right, Has-cases}
@@ -17,9 +17,7 @@ use Rattle.fed_lattice.proofs.FilterLaws.{Has-filter, filter-Has}
 use Rattle.fed_lattice.proofs.VersionOfLaws.{raised_cases, version_of-Has, version_of-push}
 use Rattle.fed_model.specs.declared.askers.Who.{Who}
 use Rattle.fed_model.specs.declared.commands.Command.{Command}
-use Rattle.fed_model.specs.declared.refusals.Refusal.{Refusal}
 use Rattle.fed_model.specs.declared.replies.Reply.{Reply}
-use Rattle.fed_model.specs.declared.values.JobValues.{JobValues}
 use Rattle.fed_model.specs.Body.{Body, Body.Submit, Body.Reserve, Body.Retire}
 use Rattle.fed_model.specs.JobView.{JobView, unknown}
 use Rattle.fed_model.specs.Lawful.{IsLawful}
@@ -35,9 +33,7 @@ use Rattle.fed_model.specs.declared.events.Event.TheVariants.{Do}
 use Rattle.fed_model.specs.declared.outcomes.Outcome.TheVariants as Outcome
 use Rattle.fed_model.specs.Run.{World, does, outcomes, run, step, with_operation}
 use Rattle.fed_theory.specs.Retirements.{CanRetireSettled, retires_at, unsettled_of}
-use Rattle.fed_theory.specs.Submits.{submits_at}
 use Rattle.fed_theory.specs.ViewSteps.{add_to_view}
-use Rattle.fed_theory.proofs.Cuts.{cut_lawful}
 use Rattle.fed_theory.proofs.Emptying.{retire_done}
 use Rattle.fed_theory.proofs.FoundLaws.{none_found}
 use Rattle.fed_theory.proofs.Gaps.{IsGap, each_gap, covered, few_gaps, few_starts, gaps, in_range, in_some, in_some_by, in_some_found, parts_length, range_ends, starts_kept, start_in, with_range}

@@ -1,9 +1,8 @@
 -- The ranges between numbers that pass a test: what they leave out, and how many there are.
 use Rattle.std.specs.Prelude.{count_by, cond, filter, not, ◌&&◌, ◌||◌, ◌==◌, nat_le}
 use Rattle.std.specs.List.{range_with_len, list_any}
-use Rattle.std.proofs.Common.{◌≡◌, ◌⊎◌, ℕ, zero, suc, ◌+◌, ◌-◌, ◌≤◌, ◌<◌, List, [], ◌∷◌, ◌++◌, length, Bool, true, false, refl, sym, ap, subst, ◌∙◌, inl, inr, arith}
-use Rattle.std.proofs.lemmas.Bool.{cases_Bool, cases_eq, cases_lt, cond-true, cond-false, ne_eqb, or_parts, both_ways, and_parts, and_from, or_cases, or_left, or_right, leb-true, le-leb, not-false, not-true, not_from_false, eqb-true, eq-eqb}
-use Rattle.std.proofs.lemmas.List.Sums.{length-filter, sum_by-cons}
+use Rattle.std.proofs.Common.{◌≡◌, ◌⊎◌, ℕ, zero, suc, ◌+◌, ◌-◌, ◌≤◌, ◌<◌, List, [], ◌∷◌, length, Bool, true, false, refl, sym, ap, subst, ◌∙◌, inl, inr, arith}
+use Rattle.std.proofs.lemmas.Bool.{cases_Bool, cases_eq, cases_lt, cond-true, cond-false, ne_eqb, or_parts, both_ways, and_parts, and_from, or_cases, or_right, leb-true, le-leb, not-true, eqb-true, eq-eqb}
 use Rattle.fed_lattice.specs.Sets.{Has}
 use Rattle.fed_lattice.specs.SetLaws.{any_from, found}
 use Rattle.fed_model.specs.Retired.{is_within}

@@ -1,12 +1,11 @@
 -- A site has no more jobs than it had, and those that it was asked for since.
-use Rattle.std.specs.Prelude.{◌||◌, ◌==◌, if◌then◌else◌, cond, count_by, nat_le, nat_lt, Option, Some, None, Result, Ok, Err}
+use Rattle.std.specs.Prelude.{if◌then◌else◌, cond, nat_le, nat_lt, Option, Some, None, Result, Ok, Err}
 use Rattle.std.proofs.Common.{◌≡◌, ℕ, ◌+◌, ◌≤◌, ◌<◌, List, [], ◌∷◌, ◌++◌, Bool, true, false, refl, sym, ap, subst, ◌∙◌, inl, inr, append_assoc, append-nil, arith}
 use Rattle.std.proofs.lemmas.Bool.{cases_eq, eq-eqb, leb-true, cases_Bool}
 use Rattle.std.proofs.lemmas.List.Sums.{sum_by-cons}
 use Rattle.fed_stamp.specs.declared.versions.ClockFull.{ClockFull}
 use Rattle.fed_stamp.specs.Stamp.{StampValue}
 use Rattle.fed_stamp.specs.Version.{next_stamp}
-use Rattle.fed_lattice.specs.Sets.{Has}
 use Rattle.fed_lattice.specs.History.{History}
 use Rattle.fed_lattice.specs.VersionOf.{version_of}
 use Rattle.fed_model.specs.declared.askers.Who.{Who}
@@ -25,7 +24,7 @@ use Rattle.fed_model.specs.Exchange.{IsQuiet}
 use Rattle.fed_model.specs.declared.events.Event.{Event}
 use Rattle.fed_model.specs.declared.events.Event.TheVariants.{Do, Ship, Take}
 use Rattle.fed_model.specs.declared.outcomes.Outcome.TheVariants as Outcome
-use Rattle.fed_model.specs.Run.{World, stays, does, step, run, run_from, with_operation}
+use Rattle.fed_model.specs.Run.{World, stays, does, step, run, with_operation}
 use Rattle.fed_theory.specs.Submits.{is_submit_at, submits_at}
 use Rattle.fed_theory.proofs.Cuts.{cut_lawful}
 use Rattle.fed_theory.proofs.OriginCounts.{HasSameOwn, MakesJob, jobs_one_more, jobs_kept, lawful_countable, own_jobs}
