@@ -7,3 +7,5 @@ pub mod Openings
 pub mod Lines
 pub mod LookCases
 pub mod KnownTexts
+pub mod HeardTexts
+pub mod HeardLines

@@ -1,5 +1,6 @@
 -- What a site holds as text: so a journal can begin from that, and not from all that has led to it.
-use Rattle.std.specs.Prelude.{ℕ, Bool, not, ◌&&◌, ◌==◌, ◌++◌, replicate, codes, List, Option, Some, None, Result, Ok, Err, if◌then◌else◌}
+use Rattle.std.specs.Prelude.{◌≡◌, ℕ, zero, suc, ◌≤◌, Bool, true, not, ◌&&◌, ◌==◌, ◌++◌, replicate, length, codes, List, [], ◌∷◌, Option, Some, None, Result, Ok, Err, if◌then◌else◌}
+use Rattle.std.specs.Option.{option_map_or}
 use Rattle.serde_json.specs.Written.{compact_text}
 use Rattle.fed_stamp.specs.declared.sites.TheConstants.{SITES}
 use Rattle.fed_stamp.specs.Version.{is_below}
@@ -41,3 +42,14 @@ known_in roster here text = known_by roster here (packet_in text)
 abbrev pub heard_line : State → ℕ → Option (List ℕ)
 heard_line s from = if is_below (s.heard from) (replicate SITES 0) then None
     else Some (codes "take " ++ compact_text (packet_value Two (hearing s from)))
+
+-- the lines of what was heard of so many sites, from this one on
+abbrev pub heard_lines : State → ℕ → ℕ → List (List ℕ)
+heard_lines s from zero = []
+heard_lines s from (suc n) = option_map_or (λ line. line ∷ heard_lines s (suc from) n) (heard_line s from) (heard_lines s (suc from) n)
+
+-- what was heard of each site is a part of what the site knows, and of a site that isn't of the roster nothing was heard
+pub record IsHeardOf (roster : List (List ℕ × ℕ)) (s : State) : Type 0 where
+  pub counters : (from : ℕ) → length (s.heard from) ≡ SITES
+  pub known : (from : ℕ) → is_below (s.heard from) s.view.version ≡ true
+  pub others : (from : ℕ) → length roster ≤ from → s.heard from ≡ replicate SITES 0

@@ -1,5 +1,5 @@
 //! Laws of what sites say and keep. Each function does nothing: its contract is the law.
-ghost use Rattle.std.specs.Prelude.{◌≡◌, ◌<◌, ℕ, List, Some, drop, false, true, length, nat_lt};
+ghost use Rattle.std.specs.Prelude.{◌≡◌, ◌<◌, ◌≤◌, ℕ, List, Some, drop, false, true, length, nat_lt};
 ghost use Rattle.std.specs.List.{list_any};
 ghost use Rattle.fed_stamp.specs.Roster.{IsRoster, name_at};
 ghost use Rattle.fed_lattice.specs.History.{History};
@@ -9,7 +9,7 @@ ghost use Rattle.fed_model.specs.Limits.{IsWithinLimits};
 ghost use Rattle.fed_model.specs.View.{view};
 ghost use Rattle.fed_replica.specs.State.{State, IsMadeFor};
 ghost use Rattle.fed_site.specs.Journal.{after_lines, kept_lines};
-ghost use Rattle.fed_site.specs.Known.{known_in, unheard};
+ghost use Rattle.fed_site.specs.Known.{IsHeardOf, heard_lines, known_in, unheard};
 ghost use Rattle.fed_site.specs.Packets.{IsPacketText};
 ghost use Rattle.fed_site.specs.Rosters.{begins, roster_after, roster_after_lines};
 ghost use Rattle.fed_site.specs.Says.{site_says};
@@ -51,6 +51,16 @@ pub fn known_texts_are_read_again()
         IsLawful ops → IsWithinLimits ops → s.view ≡ view ops → s.site < length roster →
         list_any (λ counter. nat_lt 0 counter) (drop (length roster) s.view.version) ≡ false →
         IsPacketText (unheard s) 0 text → known_in roster s.site text ≡ Some (unheard s) }
+{}
+
+/// What was heard is restored by its lines. A site of the roster that knows a set of operations within limits, of sites of the
+/// roster alone, and that has heard of each site a part of that, reads as before once it begins from what it knows and takes
+/// the lines of what it has heard. So the lines behind a site's text complete its journal.
+pub fn heard_lines_restore()
+    ensures { (roster : List (List ℕ × ℕ)) (s : State) (ops : History Body) (n : ℕ) → IsRoster roster →
+        IsWithinLimits ops → s.view ≡ view ops →
+        list_any (λ counter. nat_lt 0 counter) (drop (length roster) s.view.version) ≡ false →
+        IsHeardOf roster s → length roster ≤ n → after_lines roster (unheard s) (heard_lines s 0 n) ≡ s }
 {}
 
 /// Two packets that a site makes for another are equal.

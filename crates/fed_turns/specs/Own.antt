@@ -1,9 +1,10 @@
 -- What a line may say at a site by itself.
-use Rattle.std.specs.Prelude.{◌≡◌, ℕ, ◌<◌, List, [], ◌∷◌, length, All, Some}
+use Rattle.std.specs.Prelude.{◌≡◌, ℕ, ◌<◌, true, List, [], ◌∷◌, length, All, Some}
 use Rattle.fed_stamp.specs.Stamp.{StampValue}
 use Rattle.fed_model.specs.declared.askers.Who.{Who}
 use Rattle.fed_model.specs.declared.commands.Command.{Command}
 use Rattle.fed_model.specs.Ranges.{IsRanged}
+use Rattle.fed_model.specs.Retired.{is_within}
 use Rattle.fed_script.specs.Line.{Line, skips, acts, lists, misuses, ships, plans}
 use Rattle.fed_site.specs.OwnLine.{says, own_line_of}
 
@@ -22,3 +23,12 @@ pub record AsksToBegin (roster : List (List ℕ × ℕ)) (here : ℕ) (line : Li
   pub who : Who
   pub moment : ℕ
   pub said : own_line_of roster here line ≡ says (Some (acts here who (Command.Begin job moment ∷ [])))
+
+-- the line asks the job's site to retire a range that has the job's counter
+pub record AsksToRetire (roster : List (List ℕ × ℕ)) (here : ℕ) (line : List ℕ) (job : StampValue) : Type 0 where
+  pub who : Who
+  pub first : ℕ
+  pub last : ℕ
+  pub own : job.site ≡ here
+  pub within : is_within first last job.counter ≡ true
+  pub said : own_line_of roster here line ≡ says (Some (acts here who (Command.Retire first last ∷ [])))

@@ -1,6 +1,6 @@
 //! Laws of turns: each site answers its lines by itself, and the texts of packets are carried between sites by whatever
 //! means. Each function does nothing: its contract is the law.
-ghost use Rattle.std.specs.Prelude.{◌≡◌, ◌≢◌, ◌⊎◌, ℕ, ◌<◌, ◌≤◌, Bool, false, List, [], ◌∷◌, ◌++◌, length, map, codes, All, Some, Ok};
+ghost use Rattle.std.specs.Prelude.{◌≡◌, ◌≢◌, ◌⊎◌, ℕ, ◌<◌, ◌≤◌, Bool, false, true, List, [], ◌∷◌, ◌++◌, length, map, codes, All, Some, Ok};
 ghost use Rattle.fed_stamp.specs.Roster.{IsRoster};
 ghost use Rattle.fed_stamp.specs.Stamp.{StampValue};
 ghost use Rattle.fed_model.specs.declared.beginnings.Beginning.{Beginning};
@@ -8,9 +8,10 @@ ghost use Rattle.fed_replica.specs.State.{empty_at};
 ghost use Rattle.fed_delta.specs.Packet.{PacketValue};
 ghost use Rattle.fed_wire.specs.Reading.{packet_in};
 ghost use Rattle.fed_script.specs.Line.{Line, own_line, words_in};
-ghost use Rattle.fed_script.specs.Values.{identifier, moment};
+ghost use Rattle.fed_script.specs.Values.{identifier, moment, number};
 ghost use Rattle.fed_qstat.specs.Outcome.{answer_line};
 ghost use Rattle.fed_model.specs.RangedEvents.{AreRanged};
+ghost use Rattle.fed_model.specs.Retired.{is_within};
 ghost use Rattle.fed_model.specs.Run.{run, start};
 ghost use Rattle.fed_site.specs.Journal.{after_lines, kept_lines};
 ghost use Rattle.fed_site.specs.Known.{known_in, unheard};
@@ -24,7 +25,7 @@ ghost use Rattle.fed_home.specs.Replay.{AreReplies, Replayed, replay};
 ghost use Rattle.fed_turns.specs.Alarm.{RaisesNoAlarm};
 ghost use Rattle.fed_turns.specs.Crash.{Happening, answered, cut, MayAllHappen, journal_of, lines_all, turns_from};
 ghost use Rattle.fed_turns.specs.Home.{IsHomeOf, course_of, happens_at, turns_at};
-ghost use Rattle.fed_turns.specs.Own.{AsksToBegin, IsOwnLine};
+ghost use Rattle.fed_turns.specs.Own.{AsksToBegin, AsksToRetire, IsOwnLine};
 ghost use Rattle.fed_turns.specs.Run.{AreAnswered, StandsFor, events_from, state_at};
 ghost use Rattle.fed_turns.specs.Turn.{AreBeginnings, AreCarried, MayTurns, Turn, WasShipped, after_turns, beginning, roster_at};
 
@@ -85,6 +86,29 @@ pub fn begins_are_answered_once()
         (job : StampValue) → IsRoster whole → MayAllHappen whole (beginning rosters) happenings →
         turns_from (beginning rosters) happenings ≡ early ++ t ∷ between ++ u ∷ later →
         AsksToBegin (roster_at rosters early t) t.site t.line job →
+        AsksToBegin (roster_at rosters (early ++ t ∷ between) u) u.site u.line job →
+        t.answer ≡ answer_line (codes "done") → u.answer ≢ answer_line (codes "done") }
+{}
+
+/// Retired jobs are begun no more. Behind a line that asks a job's site to retire a range with the job's counter, and that is
+/// answered `done`, no line that asks to begin the job is answered `done`, at whatever site and whether or not that site has
+/// heard of it: among turns, among lines that were answered where sites crash, and also where a crash left a line standing
+/// whose answer nobody saw, which counts by the answer that nobody saw.
+pub fn retired_jobs_are_begun_no_more()
+    ensures turns { (whole : List (List ℕ × ℕ)) (rosters : ℕ → List (List ℕ × ℕ)) (early between later : List Turn) (t u : Turn) (job : StampValue) →
+        IsRoster whole → MayTurns whole (beginning rosters) (early ++ t ∷ between ++ u ∷ later) →
+        AsksToRetire (roster_at rosters early t) t.site t.line job →
+        AsksToBegin (roster_at rosters (early ++ t ∷ between) u) u.site u.line job →
+        t.answer ≡ answer_line (codes "done") → u.answer ≢ answer_line (codes "done") }
+    ensures happenings { (whole : List (List ℕ × ℕ)) (rosters : ℕ → List (List ℕ × ℕ)) (early between later : List Happening) (t u : Turn) (job : StampValue) →
+        IsRoster whole → MayAllHappen whole (beginning rosters) (early ++ answered t ∷ between ++ answered u ∷ later) →
+        AsksToRetire ((course_of rosters early).roster t.site) t.site t.line job →
+        AsksToBegin ((course_of rosters (early ++ answered t ∷ between)).roster u.site) u.site u.line job →
+        t.answer ≡ answer_line (codes "done") → u.answer ≢ answer_line (codes "done") }
+    ensures left { (whole : List (List ℕ × ℕ)) (rosters : ℕ → List (List ℕ × ℕ)) (happenings : List Happening) (early between later : List Turn) (t u : Turn)
+        (job : StampValue) → IsRoster whole → MayAllHappen whole (beginning rosters) happenings →
+        turns_from (beginning rosters) happenings ≡ early ++ t ∷ between ++ u ∷ later →
+        AsksToRetire (roster_at rosters early t) t.site t.line job →
         AsksToBegin (roster_at rosters (early ++ t ∷ between) u) u.site u.line job →
         t.answer ≡ answer_line (codes "done") → u.answer ≢ answer_line (codes "done") }
 {}
@@ -190,4 +214,11 @@ pub fn begin_lines_ask_to_begin()
     ensures { (roster : List (List ℕ × ℕ)) (here : ℕ) (line id when : List ℕ) (job : StampValue) (at : ℕ) →
         words_in line ≡ Some (codes "begin" ∷ id ∷ when ∷ []) → identifier roster here id ≡ Some job →
         moment when ≡ Some at → AsksToBegin roster here line job }
+{}
+
+/// A line of the word `retire` and two numbers asks to retire each job of the site whose counter is in the range.
+pub fn retire_lines_ask_to_retire()
+    ensures { (roster : List (List ℕ × ℕ)) (here : ℕ) (line from to : List ℕ) (job : StampValue) (first last : ℕ) →
+        words_in line ≡ Some (codes "retire" ∷ from ∷ to ∷ []) → number from ≡ Some first → number to ≡ Some last →
+        job.site ≡ here → is_within first last job.counter ≡ true → AsksToRetire roster here line job }
 {}
