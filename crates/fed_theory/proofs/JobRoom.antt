@@ -13,7 +13,7 @@ use Rattle.fed_model.specs.declared.commands.Command.{Command}
 use Rattle.fed_model.specs.declared.refusals.Refusal.{Refusal}
 use Rattle.fed_model.specs.declared.replies.Reply.{Reply}
 use Rattle.fed_model.specs.declared.values.JobValues.{JobValues}
-use Rattle.fed_model.specs.Body.{Body, Body.OfJob, JobBody, Body.Submit}
+use Rattle.fed_model.specs.Body.{Body, Body.OfJob, JobBody}
 use Rattle.fed_model.specs.Lawful.{IsLawful}
 use Rattle.fed_model.specs.Origin.{jobs_of}
 use Rattle.fed_model.specs.View.{View, view}
