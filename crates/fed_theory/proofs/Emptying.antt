@@ -2,7 +2,7 @@
 use Rattle.std.specs.Prelude.{count_by, is_some, cond, if◌then◌else◌, nat_le, nat_lt, not, ◌&&◌, ◌||◌, ◌==◌, Some, None, Result, Ok, Err}
 use Rattle.std.specs.List.{range_with_len}
 use Rattle.std.proofs.Common.{◌≡◌, ℕ, zero, suc, ◌+◌, ◌≤◌, ◌<◌, [], ◌∷◌, ◌++◌, Bool, true, false, refl, ap, inl, inr, arith}
-use Rattle.std.proofs.lemmas.Bool.{and_from, cases_Bool, both_ways, eq-eqb, le-leb, or_right, ltb-true}
+use Rattle.std.proofs.lemmas.Bool.{and_from, cases_Bool, both_ways, eq-eqb, le-leb, leb-true, or_right, ltb-true}
 use Rattle.fed_stamp.specs.Stamp.{StampValue}
 use Rattle.fed_stamp.specs.declared.versions.ClockFull.{ClockFull}
 use Rattle.fed_stamp.specs.Version.{counter_of, greatest, next_stamp}
@@ -60,6 +60,9 @@ module _ (ops : History Body) (l : IsLawful ops) (here : ℕ) where
   not_above : (n m : ℕ) → m ≤ n → nat_lt n m ≡ false
   not_above n m le = elim (cases_Bool (nat_lt n m)) [ inr e ↦ e | inl e ↦ absurd (let h = ltb-true n m e in omega arith) ]
 
+  not_below : (n : ℕ) → 1 ≤ n → nat_le n 0 ≡ false
+  not_below n le = elim (cases_Bool (nat_le n 0)) [ inr e ↦ e | inl e ↦ absurd (let h = leb-true n 0 e in omega arith) ]
+
   or_both : (a b : Bool) → a ≡ false → b ≡ false → (a || b) ≡ false
   or_both a b e f = grind (arith, e, f)
 
@@ -71,17 +74,21 @@ module _ (ops : History Body) (l : IsLawful ops) (here : ℕ) where
       go true f = refl
       go false f = cc
 
+  -- a Retire that isn't refused
+  pub retire_done : (who : Who) (first last : ℕ) (t : StampValue) → next_stamp (version_of ops) here ≡ Ok t → 1 ≤ first → first ≤ last → last ≤ most → ranges_with (view ops) here first last ≤ 1_000 → has_unsettled (view ops) here first last ≡ false
+      → answer ops here who (Command.Retire first last) ≡ Replies Reply.Done (Some (t, Retire first last))
+  unfolding answer_to
+  retire_done who first last t next low some high few settled =
+      let room : nat_lt 1_000 (ranges_with (view ops) here first last) ≡ false = not_above 1_000 (ranges_with (view ops) here first last) few in
+      let good : is_bad_range (view ops) here first last ≡ false = or_both (nat_le first 0) (nat_lt last first || nat_lt most last) (not_below first low) (or_both (nat_lt last first) (nat_lt most last) (not_above last first some) (not_above most last high)) in
+      let clear : first_of (refusals (view ops) here who (Command.Retire first last)) ≡ None =
+      (λ i. if not (good i) && room i then Some Refusal.SiteFull else if clock_left t next i then Some Refusal.ClockFull else if or_both (is_bad_range (view ops) here first last) (has_unsettled (view ops) here first last) good settled i then Some Refusal.NotSettled else None) in
+      (λ i. answer_unless (clear i) (replies (next i) (Command.Retire first last) (effect (view ops) who (Command.Retire first last))))
+
   -- the Retire of all is not refused
   pub emptied : (who : Who) (t : StampValue) → next_stamp (version_of ops) here ≡ Ok t → 1 ≤ most → has_unsettled (view ops) here 1 most ≡ false
       → answer ops here who (Command.Retire 1 most) ≡ Replies Reply.Done (Some (t, Retire 1 most))
-  unfolding answer_to
-  emptied who t next some settled =
-      let few = one_range in
-      let room : nat_lt 1_000 (ranges_with (view ops) here 1 most) ≡ false = not_above 1_000 (ranges_with (view ops) here 1 most) (omega arith) in
-      let good : is_bad_range (view ops) here 1 most ≡ false = or_both (nat_lt most 1) (nat_lt most most) (not_above most 1 some) (not_above most most (omega arith)) in
-      let clear : first_of (refusals (view ops) here who (Command.Retire 1 most)) ≡ None =
-      (λ i. if not (good i) && room i then Some Refusal.SiteFull else if clock_left t next i then Some Refusal.ClockFull else if or_both (is_bad_range (view ops) here 1 most) (has_unsettled (view ops) here 1 most) good settled i then Some Refusal.NotSettled else None) in
-      (λ i. answer_unless (clear i) (replies (next i) (Command.Retire 1 most) (effect (view ops) who (Command.Retire 1 most))))
+  emptied who t next some settled = let few = one_range in retire_done who 1 most t next (omega arith) some (omega arith) (omega arith) settled
 
   -- and then the site has no job
   pub empty_then : (t : StampValue) → t.site ≡ here → here < 16 → ((e : StampValue × Body) → Has ops e → 1 ≤ e.0.counter) → jobs_of (view (ops ++ (t, Retire 1 most) ∷ [])) here ≡ 0

@@ -46,3 +46,7 @@ pub mod EqualVersions
 pub mod Convergence
 pub mod DoneCommands
 pub mod RetiredRuns
+pub mod NewJobs
+pub mod JobRoom
+pub mod Gaps
+pub mod Clearing

@@ -48,7 +48,7 @@ fewer q p (suc n) a more =
     let head = bit_more (q a) (p a) (more a (omega arith)) in omega (arith, first_counted q a n, first_counted p a n)
 
 -- where all that pass are among the first n
-shorter : (p : ℕ → Bool) (m n a : ℕ) → ((k : ℕ) → a + n ≤ k → p k ≡ false) → count_by p (range_with_len a m) ≤ count_by p (range_with_len a n)
+pub shorter : (p : ℕ → Bool) (m n a : ℕ) → ((k : ℕ) → a + n ≤ k → p k ≡ false) → count_by p (range_with_len a m) ≤ count_by p (range_with_len a n)
 shorter p zero n a none = omega arith
 shorter p (suc m) zero a none =
     let rest : count_by p (range_with_len (a + 1) m) ≤ 0 = shorter p m zero (a + 1) (λ k h. none k (omega arith)) in
@@ -56,8 +56,15 @@ shorter p (suc m) zero a none =
 shorter p (suc m) (suc n) a none =
     let rest : count_by p (range_with_len (a + 1) m) ≤ count_by p (range_with_len (a + 1) n) = shorter p m n (a + 1) (λ k h. none k (omega arith)) in omega (arith, first_counted p a m, first_counted p a n)
 
+-- more numbers are counted
+pub longer : (p : ℕ → Bool) (m n a : ℕ) → m ≤ n → count_by p (range_with_len a m) ≤ count_by p (range_with_len a n)
+longer p zero n a le = omega arith
+longer p (suc m) zero a le = absurd (omega arith)
+longer p (suc m) (suc n) a le =
+    let rest : count_by p (range_with_len (a + 1) m) ≤ count_by p (range_with_len (a + 1) n) = longer p m n (a + 1) (omega arith) in omega (arith, first_counted p a m, first_counted p a n)
+
 -- where one number passes that didn't
-one_more : (q p : ℕ → Bool) (c n a : ℕ) → ((k : ℕ) → q k ≡ true → (p k ≡ true) ⊎ (k ≡ c)) → count_by q (range_with_len a n) ≤ count_by p (range_with_len a n) + 1
+pub one_more : (q p : ℕ → Bool) (c n a : ℕ) → ((k : ℕ) → q k ≡ true → (p k ≡ true) ⊎ (k ≡ c)) → count_by q (range_with_len a n) ≤ count_by p (range_with_len a n) + 1
 one_more q p c zero a more = omega arith
 one_more q p c (suc n) a more = elim (cases_eq a c) [
   | inl e ↦ (
@@ -154,7 +161,7 @@ jobs_kept ops new l other site = count_fewer is_job jobs_beyond (ops ++ new ∷ 
 abbrev is_start : History Body → StampValue → Bool
 is_start ops id = starts (is_retired ops) id
 
-retired_reached : (ops : History Body) → IsCountable ops → (id : StampValue) → is_retired ops id ≡ true → id.counter < counter_of (version_of ops) id.site
+pub retired_reached : (ops : History Body) → IsCountable ops → (id : StampValue) → is_retired ops id ≡ true → id.counter < counter_of (version_of ops) id.site
 retired_reached ops l id t =
     let f = retiring ops id t in
     let r = retirement f.0 id f.2 in

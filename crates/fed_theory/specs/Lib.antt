@@ -6,5 +6,7 @@ pub mod JobSteps
 pub mod ViewSteps
 pub mod Cut
 pub mod MayFollow
+pub mod Retirements
+pub mod Submits
 -- Lemmas that impls and contracts cite.
 pub mod ValueOrderLaws

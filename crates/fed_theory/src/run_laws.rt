@@ -1,22 +1,29 @@
 //! Laws of whole runs, over every list of events in a federation of n sites, of which there are at most 16. Each
 //! function does nothing: its contract is the law.
-ghost use Rattle.std.specs.Prelude.{◌⊎◌, ◌≡◌, ◌≢◌, ◌<◌, ◌≤◌, ℕ, true, [], ◌∷◌, ◌++◌, List, Some, IsTrue};
+ghost use Rattle.std.specs.Prelude.{◌⊎◌, ◌≡◌, ◌≢◌, ◌<◌, ◌≤◌, ◌+◌, ℕ, Bool, true, [], ◌∷◌, ◌++◌, List, Some, IsTrue};
 ghost use Rattle.fed_stamp.specs.declared.sites.TheConstants.{SITES};
+ghost use Rattle.fed_stamp.specs.declared.stamps.TheConstants.{MAX_COUNTER};
 ghost use Rattle.fed_stamp.specs.Stamp.{StampValue};
+ghost use Rattle.fed_stamp.specs.Version.{greatest};
 ghost use Rattle.fed_lattice.specs.Sets.{Has, Includes, IsSameSet};
+ghost use Rattle.fed_model.specs.declared.capacities.TheConstants.{MAX_JOBS, MAX_RANGES};
 ghost use Rattle.fed_model.specs.declared.askers.Who.{Who};
 ghost use Rattle.fed_model.specs.declared.commands.Command.{Command};
 ghost use Rattle.fed_model.specs.declared.beginnings.Beginning.{Beginning};
 ghost use Rattle.fed_model.specs.declared.beginnings.Ending.{Ending};
 ghost use Rattle.fed_model.specs.declared.windows.Window.{Window};
+ghost use Rattle.fed_model.specs.declared.refusals.Refusal.{Refusal};
 ghost use Rattle.fed_model.specs.declared.replies.Reply.{Reply};
-ghost use Rattle.fed_model.specs.Body.{Body, Body.OfJob, JobBody.Grant, JobBody.Begin, JobBody.Finish, JobBody.Delete, Body.Reserve, Body.Cancel};
+ghost use Rattle.fed_model.specs.declared.values.JobValues.{JobValues};
+ghost use Rattle.fed_model.specs.Body.{Body, Body.Submit, Body.OfJob, JobBody.Grant, JobBody.Begin, JobBody.Finish, JobBody.Delete, Body.Reserve, Body.Cancel};
 ghost use Rattle.fed_model.specs.Lawful.{IsHolder, IsLawful, AreKin};
+ghost use Rattle.fed_model.specs.Letter.{is_submitted};
 ghost use Rattle.fed_model.specs.Retired.{is_within};
 ghost use Rattle.fed_model.specs.View.{view, HasSubmit};
 ghost use Rattle.fed_model.specs.Limits.{IsWithinLimits};
 ghost use Rattle.fed_model.specs.declared.taken.Taken.{Taken};
 ghost use Rattle.fed_model.specs.Answer.{Answer.Replies, answer};
+ghost use Rattle.fed_model.specs.Origin.{jobs_of};
 ghost use Rattle.fed_model.specs.Packet.{Packet};
 ghost use Rattle.fed_model.specs.declared.events.Event.{Event};
 ghost use Rattle.fed_model.specs.declared.events.Event.TheVariants.{Do, Ship, Take};
@@ -25,6 +32,8 @@ ghost use Rattle.fed_model.specs.Exchange.{IsExchange};
 ghost use Rattle.fed_model.specs.OpenGrants.{HasOpenGrant};
 ghost use Rattle.fed_model.specs.RangedEvents.{AreRanged};
 ghost use Rattle.fed_model.specs.Run.{outcomes, packet, step, run, all_operations};
+ghost use Rattle.fed_theory.specs.Retirements.{CanRetireSettled, IsRetiredAmong, unsettled_of};
+ghost use Rattle.fed_theory.specs.Submits.{submits_at};
 
 /// What a list of events leaves and what is answered to it, once one event more has come.
 pub fn runs_go_on()
@@ -195,6 +204,51 @@ pub fn done_commands_stay()
         (step n (run n sent) (Ship site to)).outcome ≡ Outcome.Packet k →
         (step n (run n (sent ++ Ship site to ∷ late)) (Take taker k)).outcome ≡ Outcome.Taken taken →
         Has ((step n (run n (sent ++ Ship site to ∷ late)) (Take taker k)).after.site taker).set new }
+{}
+
+/// New jobs are there. A `Submit` that is answered gives its job an identifier of its site (`named`), and the `Submit` is
+/// in the site's set ever after, of the user who asked and with the values that were asked (`kept`). The job reads as
+/// submitted at its site in all that follows, until a `Retire` is done there whose range has its counter (`there`).
+pub fn new_jobs_are_there()
+    ensures named { (n : ℕ) (early : List Event) (site : ℕ) (who : Who) (values : JobValues) (held : Bool) (job : StampValue) →
+        (step n (run n early) (Do site who (Command.Submit values held))).outcome ≡ Outcome.Replied (Reply.Submitted job) →
+        job.site ≡ site }
+    ensures kept { (n : ℕ) (early late : List Event) (site : ℕ) (who : Who) (values : JobValues) (held : Bool)
+        (job : StampValue) →
+        (step n (run n early) (Do site who (Command.Submit values held))).outcome ≡ Outcome.Replied (Reply.Submitted job) →
+        Has ((run n (early ++ Do site who (Command.Submit values held) ∷ late)).site site).set
+        (job, Submit who.user values held) }
+    ensures there { (n : ℕ) (early late : List Event) (site : ℕ) (who : Who) (values : JobValues) (held : Bool)
+        (job : StampValue) → n ≤ SITES →
+        (step n (run n early) (Do site who (Command.Submit values held))).outcome ≡ Outcome.Replied (Reply.Submitted job) →
+        let submitted = early ++ Do site who (Command.Submit values held) ∷ [] in
+        IsTrue (is_submitted ((view ((run n (early ++ Do site who (Command.Submit values held) ∷ late)).site site).set).job job))
+        ⊎ IsRetiredAmong n submitted late job }
+{}
+
+/// New jobs find room until a site has 10,000. It has no more jobs that aren't retired than it had and one for each
+/// `Submit` that it was asked since (`jobs`). As long as these together are fewer than 10,000, no `Submit` is refused since the
+/// site is full (`room`).
+pub fn new_jobs_find_room()
+    ensures jobs { (n : ℕ) (early late : List Event) (site : ℕ) → n ≤ SITES →
+        jobs_of (view ((run n (early ++ late)).site site).set) site
+        ≤ jobs_of (view ((run n early).site site).set) site + submits_at site late }
+    ensures room { (n : ℕ) (early late : List Event) (site : ℕ) (who : Who) (values : JobValues) (held : Bool) → n ≤ SITES →
+        jobs_of (view ((run n early).site site).set) site + submits_at site late < MAX_JOBS →
+        (step n (run n (early ++ late)) (Do site who (Command.Submit values held))).outcome ≢ Outcome.Refused Refusal.SiteFull }
+{}
+
+/// A site of which fewer than 1,000 jobs and reservations are unsettled is never full for good, whatever it has retired
+/// before: it can retire all others. There are ranges, at most one more than what is unsettled, whose `Retire`s it does one
+/// after another, as long as its clock has so many stamps left. Behind them it knows of its own jobs and reservations just
+/// those that are unsettled, each as before, and refuses no `Submit` as a full site until they are 10,000 with those that it
+/// was asked for since.
+pub fn settled_identifiers_can_be_retired()
+    ensures { (n : ℕ) (events : List Event) (site : ℕ) (who : Who) → n ≤ SITES → site < n →
+        unsettled_of (view ((run n events).site site).set) site < MAX_RANGES →
+        greatest (view ((run n events).site site).set).version
+        + (unsettled_of (view ((run n events).site site).set) site + 1) ≤ MAX_COUNTER →
+        CanRetireSettled n events site who }
 {}
 
 /// Once no command is done any more and each site has made a packet for each other, which took it, all sites hold the
