@@ -1,5 +1,5 @@
 //! Examples of tables, records, boards, plans, words and packet text, over public calls alone: each call that allocates is
-//! compared with an answer from outside, with ample memory and, by tools/failed_allocations, with each request refused. The
+//! compared with an answer from outside, with ample memory and, by tests/failed_allocations, with each request refused. The
 //! crate has tests and nothing else.
 #![tactic(auto)]
 
