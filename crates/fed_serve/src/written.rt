@@ -51,7 +51,7 @@ fn write_frame<W: Write>(writer: &mut W, status: u8, answer: &[u8], words: &[u8]
 
 /// The bytes of words, if any.
 fn words_bytes<'a>(words: Option<&'a str>) -> &'a [u8]
-    ensures { result.now ≡ unwrap_or (option_map (λ w. w.now) words) [] }
+    ensures { result.now ≡ unwrap_or (option_map (λ w. w.now) words.entry) [] }
 {
     match words {
         Some(words) => words.as_bytes(),
