@@ -1,10 +1,10 @@
--- A site knows of no site that its roster hasn't.
+-- A site knows of no site that its roster hasn't, and has heard nothing of one.
 use Rattle.std.specs.Prelude.{Some, None, Option, Result, Ok, Err, if◌then◌else◌, codes, nat_le, nat_lt, drop}
 use Rattle.std.specs.List.{list_any}
-use Rattle.std.proofs.Common.{◌≡◌, ◌≤◌, ◌<◌, ℕ, ◌+◌, zero, suc, max, Bool, true, false, ◌||◌, List, [], ◌∷◌, length, refl, sym, subst, ap, ◌∙◌, inl, inr, arith}
-use Rattle.std.proofs.lemmas.Bool.{cases_eq, ltb-false}
+use Rattle.std.proofs.Common.{◌≡◌, ◌≤◌, ◌<◌, ℕ, ◌+◌, zero, suc, max, Bool, true, false, ◌||◌, List, [], ◌∷◌, length, replicate, refl, sym, subst, ap, ◌∙◌, inl, inr, arith}
+use Rattle.std.proofs.lemmas.Bool.{cases_eq, leb-false, ltb-false}
 use Rattle.fed_stamp.specs.Stamp.{StampValue}
-use Rattle.fed_stamp.specs.Version.{counter_of, next_stamp, raised}
+use Rattle.fed_stamp.specs.Version.{counter_of, joined, next_stamp, raised}
 use Rattle.fed_stamp.specs.declared.versions.ClockFull.{ClockFull}
 use Rattle.fed_stamp.proofs.VersionLaws.{counter_of_joined}
 use Rattle.fed_lattice.proofs.VersionOfLaws.{raised_cases, version_of-origin}
@@ -46,9 +46,9 @@ neither : (a b : Bool) → (a || b) ≡ false → (a ≡ false) × (b ≡ false)
 neither true b e = cc
 neither false b e = (refl, e)
 
--- from this place on nothing was seen
+-- from this place on nothing was seen, and nothing heard
 abbrev pub NoneFrom : ℕ → State → Type 0
-NoneFrom m s = (j : ℕ) → m ≤ j → counter_of s.view.version j ≡ 0
+NoneFrom m s = (j : ℕ) → m ≤ j → (counter_of s.view.version j ≡ 0) × (s.heard j ≡ replicate 16 0)
 
 -- ---- commands
 -- an answer adds an operation of its site
@@ -81,7 +81,7 @@ module _ (roster : List (List ℕ × ℕ)) where
 
   added_none : (s : State) (reply : Reply) (new : StampValue × Body) → new.0.site < m → NoneFrom m s → NoneFrom m (after_answer s (Replies reply (Some new)))
   unfolding add_to_view
-  added_none s reply new small none j far = raised_none s.view.version new.0 j small far (none j far)
+  added_none s reply new small none j far = let old = none j far in (raised_none s.view.version new.0 j small far old.0, old.1)
 
   answer_none : (s : State) (a : Answer) → ((reply : Reply) (new : StampValue × Body) → a ≡ Replies reply (Some new) → new.0.site < m) → NoneFrom m s → NoneFrom m (after_answer s a)
   answer_none s (Refuses refusal) own none = none
@@ -110,10 +110,13 @@ module _ (roster : List (List ℕ × ℕ)) where
   unfolding join_records
   receipt_none s p (Some site) known none j far = none j far
   receipt_none s p None known none j far =
-      let told = none_heard p.delta.changes.version m (neither (nat_le m p.sender) _ known).1 j far in
-      let held = none j far in
+      let parts = neither (nat_le m p.sender) _ known in
+      let told = none_heard p.delta.changes.version m parts.1 j far in
+      let sender = leb-false m p.sender parts.0 in
+      let old = none j far in
+      let held = old.0 in
       let both = counter_of_joined s.view.version p.delta.changes.version j in
-      both ∙ (λ k. max (held k) (told k))
+      (both ∙ (λ k. max (held k) (told k)), put_other s.heard p.sender (joined (s.heard p.sender) p.delta.changes.version) j (λ same. omega (arith, same, sender, far)) ∙ old.1)
 
   packet_none : (s : State) (p : PacketValue) (foreign : Bool) → is_foreign roster p ≡ foreign → (forgotten : Bool) → NoneFrom m s
       → NoneFrom m (if foreign then undone s (answer_line (codes "foreign")) Complaint.Foreign else (if forgotten then undone s (answer_line (codes "forgotten")) Complaint.Forgotten else after_receipt roster s p)).after
@@ -158,7 +161,7 @@ AreInside c = (i : ℕ) → NoneFrom (length (c.roster i)) (c.site i)
 
 pub start_inside : (rosters : ℕ → List (List ℕ × ℕ)) → AreInside (beginning rosters)
 start_inside rosters i j far = elim (version_of-origin {C = Body} [] j) [
-  | inl z ↦ z
+  | inl z ↦ (z, refl)
   | inr o ↦ absurd o.1
 ]
 

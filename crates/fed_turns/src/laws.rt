@@ -1,6 +1,6 @@
 //! Laws of turns: each site answers its lines by itself, and the texts of packets are carried between sites by whatever
 //! means. Each function does nothing: its contract is the law.
-ghost use Rattle.std.specs.Prelude.{◌≡◌, ◌≢◌, ◌⊎◌, ℕ, ◌<◌, ◌≤◌, Bool, false, true, List, [], ◌∷◌, ◌++◌, length, map, codes, All, Some, Ok};
+ghost use Rattle.std.specs.Prelude.{◌≡◌, ◌≢◌, ◌⊎◌, ℕ, ◌<◌, ◌≤◌, Bool, false, true, List, [], ◌∷◌, ◌++◌, length, map, codes, All, Some, Ok, option_map};
 ghost use Rattle.fed_stamp.specs.Roster.{IsRoster};
 ghost use Rattle.fed_stamp.specs.Stamp.{StampValue};
 ghost use Rattle.fed_model.specs.declared.beginnings.Beginning.{Beginning};
@@ -15,7 +15,7 @@ ghost use Rattle.fed_model.specs.Retired.{is_within};
 ghost use Rattle.fed_model.specs.Run.{run, start};
 ghost use Rattle.fed_site.specs.Handed.{packet_of};
 ghost use Rattle.fed_site.specs.Journal.{after_lines, kept_lines};
-ghost use Rattle.fed_site.specs.Known.{known_in, unheard};
+ghost use Rattle.fed_site.specs.Known.{heard_lines, known_in, unheard};
 ghost use Rattle.fed_site.specs.Line.{packet_text};
 ghost use Rattle.fed_site.specs.Packets.{IsPacketText, is_foreign};
 ghost use Rattle.fed_site.specs.Rosters.{roster_after_lines};
@@ -139,6 +139,20 @@ pub fn known_texts_are_read_again()
         MayTurns whole (beginning rosters) turns → i < length ((after_turns (beginning rosters) turns).roster i) →
         IsPacketText (unheard ((after_turns (beginning rosters) turns).site i)) 0 text →
         known_in ((after_turns (beginning rosters) turns).roster i) i text ≡ Some (unheard ((after_turns (beginning rosters) turns).site i)) }
+{}
+
+/// What a site holds after such lines is restored of its text and the lines of what it has heard: what is known by the text
+/// holds, once it has taken these lines, all that the site held. So the site of such a run can be compacted at any time.
+pub fn compacted_sites_are_restored()
+    ensures { (whole : List (List ℕ × ℕ)) (rosters : ℕ → List (List ℕ × ℕ)) (turns : List Turn) (i : ℕ) (text : List ℕ) (n : ℕ) → IsRoster whole →
+        MayTurns whole (beginning rosters) turns → IsRoster ((after_turns (beginning rosters) turns).roster i) →
+        i < length ((after_turns (beginning rosters) turns).roster i) →
+        IsPacketText (unheard ((after_turns (beginning rosters) turns).site i)) 0 text →
+        length ((after_turns (beginning rosters) turns).roster i) ≤ n →
+        option_map (λ s. after_lines ((after_turns (beginning rosters) turns).roster i) s
+        (heard_lines ((after_turns (beginning rosters) turns).site i) 0 n))
+        (known_in ((after_turns (beginning rosters) turns).roster i) i text)
+        ≡ Some ((after_turns (beginning rosters) turns).site i) }
 {}
 
 /// What happens adds to a site's journal what is kept of its lines there, by the roster that the site knew and what it held
