@@ -191,6 +191,23 @@ def obstacles(tally, sites):
     tally.same("its mode stays", os.stat(f"{sites.folder}/lemont/journal").st_mode & 0o7777, 0o640)
 
 
+def renames_that_fail(tally, sites):
+    """Where the new journal can't get the name, `serve` says so, and answers all. The name is a mount point here."""
+    sites.make(TWO)
+    path = f"{sites.folder}/argonne/journal"
+    if subprocess.run(["mount", "--bind", path, path], stderr=subprocess.DEVNULL, check=False).returncode:
+        tally.fail("this needs root, since a file is mounted")
+        return
+    try:
+        status, output, errors = sites.run("serve", "argonne", text=long_lines())
+        tally.same("all is answered", (status, output.count("\n\n")), (0, LONG))
+        tally.same(f"and told once: {errors!r}", (errors.count("both stand for the same site"), errors.count("\n")), (1, 1))
+    finally:
+        subprocess.run(["umount", path], check=False)
+    tally.same("its entries", len(read_journal(sites.journal("argonne"))[0]), LONG + 1)
+    compacted(tally, sites, "argonne", "once it can")
+
+
 def other_owners(tally, sites):
     """A journal of another user stays that user's."""
     if os.getuid():
@@ -380,4 +397,4 @@ def damage_of(file, whole, status, output, errors):
     return "" if status == 0 and right else (len(entries), output, errors)
 
 
-SCENES = {it.__name__: it for it in (compact, young, keeping, obstacles, other_owners, compact_full, serve_compacts, compact_at_once, unknown_texts, compact_damage)}
+SCENES = {it.__name__: it for it in (compact, young, keeping, obstacles, renames_that_fail, other_owners, compact_full, serve_compacts, compact_at_once, unknown_texts, compact_damage)}

@@ -106,6 +106,19 @@ def tails(tally, sites):
             tally.same(f"tail {number}", file.read(), tail)
 
 
+def tails_of_serve(tally, sites):
+    """What a write that failed in its middle left behind the gate is kept, also by a `serve` that goes on."""
+    sites.make(TWO[:1])
+    line = b"ann qsub -N a-job-of-15-let -A account-of-15-l\n"
+    status, output, errors = sites.run("serve", "argonne", text=line * 100, preexec_fn=limited(FSIZE=2000))
+    tally.same(f"none of a group is kept: {errors!r}", (status, output), (0, "not kept\n\n" * 100))
+    with open(f"{sites.folder}/argonne/journal.cut-1", "rb") as file:
+        cut = file.read()
+    tally.same("what was cut of it", (len(cut) + len(sites.journal("argonne")), cut[18:].startswith(line)), (2000, True))
+    tally.true("and said", f"{len(cut)} bytes that were never answered are cut, and kept in journal.cut-1" in errors)
+    tally.same("the site goes on", sites.run("at", "argonne", "ann", "qsub")[:2], (0, "1.argonne\n"))
+
+
 def rotted_gate(tally, sites):
     """A disk that fails a write and then gives a byte of the journal wrong, without room for a copy: nothing that was
     answered is cut."""
@@ -236,4 +249,4 @@ def many(tally, sites):
     tally.same("check behind 100 kills", sites.run("check", "lemont")[0], 0)
 
 
-SCENES = {it.__name__: it for it in (faults, init, streams, tails, rotted_gate, full_disk, long_lines, large_packet, at_once, many)}
+SCENES = {it.__name__: it for it in (faults, init, streams, tails, tails_of_serve, rotted_gate, full_disk, long_lines, large_packet, at_once, many)}
