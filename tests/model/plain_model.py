@@ -404,11 +404,11 @@ class Site:
 
     def compacted(self):
         """What a compacted journal of this site has behind its header: a packet that needs nothing and has all, and for each
-        site that was heard of the line of a packet that tells nothing but what was heard."""
+        site of the roster the line of a packet that tells nothing but what was heard of it, or an empty one."""
         zeros = [0] * 16
         known = packet_text(self.number, zeros, self.version, self.jobs(), self.reservations(), self.retired_beyond(zeros))
-        heard = [(sender, version) for sender, version in enumerate(self.heard) if any(version)]
-        return [known] + ["take " + packet_text(sender, version, version, [], [], []) for sender, version in heard]
+        heard = enumerate(self.heard[: len(self.roster.names)])
+        return [known] + ["take " + packet_text(sender, version, version, [], [], []) if any(version) else "" for sender, version in heard]
 
     # Listings
 

@@ -16,14 +16,14 @@ OFTEN = "[house]\nevery = 0.3\ncompact = 0.3\ncompact_bytes = 3000\n"
 # copies the journal whole, and fails where a file says so: at any journal, or at one that was compacted
 BACKUP = """#!/bin/sh
 [ ! -e {folder}/broken ] || {{ echo no room >&2; exit 1; }}
-[ ! -e {folder}/broken-then ] || ! head -c 40 "$1" | grep -q 'nettlebeam 2' || {{ echo no room then >&2; exit 1; }}
+[ ! -e {folder}/broken-then ] || ! head -c 40 "$1" | grep -q 'nettlebeam 4' || {{ echo no room then >&2; exit 1; }}
 cp "$1" "$2.new" && mv "$2.new" "$2"
 """
 
 
 def is_compacted(path):
     """Whether a journal was compacted."""
-    return read(path).split(b" ", 4)[3] == b"2"
+    return read(path).split(b" ", 4)[3] == b"4"
 
 
 def done(site):

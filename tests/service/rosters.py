@@ -9,7 +9,7 @@ from tests.service.sites import PYTHON, SERVICE, config, until
 from tests.site.disk_journals import journal_of
 
 LONGER = ("argonne:3", "lemont:1", "batavia:2")
-HEADER = b"nettlebeam 1 argonne argonne:2 lemont:1"
+HEADER = b"nettlebeam 3 argonne argonne:2 lemont:1"
 UNKNOWN = "is no site of the roster that is known here"
 # what ends once the real program has kept a roster
 ENDING = """
@@ -145,7 +145,7 @@ def journals(tally, federation):
 
     first, longer = {"argonne": 2, "lemont": 1}, {"argonne": 3, "lemont": 1, "batavia": 2}
     line = f"roster {' '.join(LONGER)}".encode()
-    compacted = b"nettlebeam 2 argonne " + line[7:]
+    compacted = b"nettlebeam 4 argonne " + line[7:]
     for what, entries, wanted in (
         ("without one", [HEADER], first),
         ("with one", [HEADER, b"ann qsub", line, b"ann qdel 1"], longer),
@@ -160,7 +160,7 @@ def journals(tally, federation):
     whole = journal_of([HEADER, line])
     tally.same("what stands behind the gate doesn't count", told(journal_of([HEADER]) + line + b"\n" + whole[len(journal_of([HEADER])) - 1 :]), ("argonne", first))
     tally.same("nor does a line that isn't whole", told(whole[:-2]), ("argonne", first))
-    for data in (b"", b"-", journal_of([line]), journal_of([b"nettlebeam 3 argonne argonne:2"])):
+    for data in (b"", b"-", journal_of([line]), journal_of([b"nettlebeam 5 argonne argonne:2"])):
         tally.true("a journal that begins otherwise", "doesn't begin with the name of a site" in told(data))
     tally.true("a site without nodes", "in the place of a site and its nodes" in told(journal_of([b"nettlebeam 1 argonne argonne"])))
 

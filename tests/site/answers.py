@@ -52,7 +52,7 @@ def one_site(tally, sites):
     tally.same("init", sites.run("init", "argonne", "argonne", *TWO), (0, "", ""))
     tally.same("qsub", sites.run("at", "argonne", "ann", "qsub"), (0, "1.argonne\n", ""))
     # the digests are by sha256sum, of the digest before and the text, the first of sixteen zeros
-    journal = b"+ f935701589470944 nettlebeam 1 argonne argonne:8 lemont:4\n+ f21d6a690739bf6e ann qsub\n-"
+    journal = b"+ 5a80759d9c1f0435 nettlebeam 3 argonne argonne:8 lemont:4\n+ 0927f5cb1bbaad3b ann qsub\n-"
     tally.same("the journal", sites.journal("argonne"), journal)
     tally.same("the journal's mode", os.stat(f"{sites.folder}/argonne/journal").st_mode & 0o777, 0o600)
     tally.same("qstat", sites.run("at", "argonne", "ann", "qstat"), (0, LISTED, ""))

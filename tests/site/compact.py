@@ -67,13 +67,13 @@ def compact(tally, sites):
     compacted(tally, sites, "argonne", "the first")
     journal = sites.journal("argonne")
     entries, tail = read_journal(journal)
-    tally.same("its first entry", entries[0], b"nettlebeam 2 " + " ".join(["argonne", *THREE]).encode())
-    packet, heard = json.loads(entries[1]), json.loads(entries[2][len("take ") :])
+    tally.same("its first entry", entries[0], b"nettlebeam 4 " + " ".join(["argonne", *THREE]).encode())
+    packet, heard = json.loads(entries[1]), json.loads(entries[3][len("take ") :])
     tally.same("its second is a packet of its own that needs nothing", (packet["sender"], packet["need"]), (0, ZEROS))
     tally.same("and has all jobs and reservations", (len(packet["jobs"]), len(packet["reservations"])), (6, 2))
-    wanted = (3, b"take ", 1, [], [], heard["reached"], b"")
-    tally.same("then what was heard of lemont", (len(entries), entries[2][:5], heard["sender"], heard["jobs"], heard["reservations"], heard["need"], tail), wanted)
-    told = "entries 3 (compacted), seen " + seen.split("seen ")[1] + ", jobs 6, unfinished bytes 0\n"
+    wanted = (5, b"", b"take ", b"", 1, [], [], heard["reached"], b"")
+    tally.same("then what was heard of lemont", (len(entries), entries[2], entries[3][:5], entries[4], heard["sender"], heard["jobs"], heard["reservations"], heard["need"], tail), wanted)
+    told = "entries 5 (compacted), seen " + seen.split("seen ")[1] + ", jobs 6, unfinished bytes 0\n"
     tally.same("check", sites.run("check", "argonne"), (0, told, ""))
     tally.same("what it tells", told_of(sites, "argonne"), held)
     tally.same("which changed nothing", sites.journal("argonne"), journal)
@@ -84,7 +84,7 @@ def compact(tally, sites):
     count = int(seen.split("argonne ")[1].split(" ")[0])
     tally.same("its next job, by serve", sites.run("serve", "argonne", text=b"ann qsub\n"), (0, f"{count + 1}.argonne\n\n", ""))
     tally.same("and by at", sites.at("argonne", ["ann", "qsub"]), f"{count + 2}.argonne\n")
-    tally.same("the entries go on", (read_journal(sites.journal("argonne"))[0][:3], len(read_journal(sites.journal("argonne"))[0])), (entries, 6))
+    tally.same("the entries go on", (read_journal(sites.journal("argonne"))[0][:5], len(read_journal(sites.journal("argonne"))[0])), (entries, 8))
     tally.same("a hold that lemont releases", [sites.at("lemont", ["cy", "qrls", "2"]), sites.at("argonne", ["take"], sites.at("lemont", ["ship", "argonne"]).encode())], ["done\n", "taken\n"])
     tally.same("lemont takes its packet", sites.at("lemont", ["take"], sites.at("argonne", ["ship", "lemont"]).encode()), "taken\n")
     tally.same("both tell the same jobs", sites.at("lemont", ["jobs"]), sites.at("argonne", ["jobs"]))
@@ -191,6 +191,23 @@ def obstacles(tally, sites):
     tally.same("its mode stays", os.stat(f"{sites.folder}/lemont/journal").st_mode & 0o7777, 0o640)
 
 
+def renames_that_fail(tally, sites):
+    """Where the new journal can't get the name, `serve` says so, and answers all. The name is a mount point here."""
+    sites.make(TWO)
+    path = f"{sites.folder}/argonne/journal"
+    if subprocess.run(["mount", "--bind", path, path], stderr=subprocess.DEVNULL, check=False).returncode:
+        tally.fail("this needs root, since a file is mounted")
+        return
+    try:
+        status, output, errors = sites.run("serve", "argonne", text=long_lines())
+        tally.same("all is answered", (status, output.count("\n\n")), (0, LONG))
+        tally.same(f"and told once: {errors!r}", (errors.count("both stand for the same site"), errors.count("\n")), (1, 1))
+    finally:
+        subprocess.run(["umount", path], check=False)
+    tally.same("its entries", len(read_journal(sites.journal("argonne"))[0]), LONG + 1)
+    compacted(tally, sites, "argonne", "once it can")
+
+
 def other_owners(tally, sites):
     """A journal of another user stays that user's."""
     if os.getuid():
@@ -255,12 +272,12 @@ def serve_compacts(tally, sites):
     tally.true("frames have the same answers", found["told"][1] == "".join(frame(int(it.startswith("refused")), it + "\n") for it in answers))
     tally.same("the history", sites.journal("kept").count(b"\n"), LONG + 1)
     entries = read_journal(sites.journal("short"))[0]
-    tally.same("the compacted one", (entries[0].split()[1], 0 < len(sites.journal("short")) < 1_300_000), (b"2", True))
+    tally.same("the compacted one", (entries[0].split()[1], 0 < len(sites.journal("short")) < 1_300_000), (b"4", True))
     tally.same("both hold the same", told_of(sites, "short"), told_of(sites, "kept"))
     sites.run("serve", "short", text=b"ann qsub\n")
     tally.same("a short one is left", read_journal(sites.journal("short"))[0][: len(entries)], entries)
     sites.run("serve", "kept", text=b"ann qsub\n")
-    tally.same("a long one is compacted by the next serve", read_journal(sites.journal("kept"))[0][0].split()[1], b"2")
+    tally.same("a long one is compacted by the next serve", read_journal(sites.journal("kept"))[0][0].split()[1], b"4")
     tally.same("both hold the same again", told_of(sites, "kept"), told_of(sites, "short"))
 
 
@@ -317,7 +334,6 @@ def unknown_texts(tally, sites):
                 tally.true(f"{what}: {words[0]} tells the line: {errors!r}", "other/journal, line 2: damaged: it isn't what the site knew" in errors)
 
     opens("as it was", 0, *entries[1:])
-    opens("without what was heard", 0, entries[1])
     opens("no second entry", 3)
     opens("another site's packet", 3, changed(sender=1))
     opens("a packet that needs something", 3, changed(need=[1] + ZEROS[1:]))
@@ -329,9 +345,50 @@ def unknown_texts(tally, sites):
     opens("an object", 3, b"{}")
     opens("nothing", 3, b"")
     with open(f"{sites.folder}/other/journal", "wb") as file:
-        file.write(journal_of([entries[0].replace(b" 2 ", b" 3 ", 1), *entries[1:]]))
+        file.write(journal_of([entries[0].replace(b" 4 ", b" 5 ", 1), *entries[1:]]))
     status, output, errors = sites.run("check", "other")
     tally.same(f"a later format: {errors!r}", (status, output, "other/journal, line 1: it doesn't name a site" in errors), (3, "", True))
+
+
+def heard_texts(tally, sites):
+    """An entry of a compacted journal that isn't what the site had heard, with its right digest, is damage at its line. A
+    journal of format 2 has what was heard of some sites alone, and is opened and written anew."""
+    busy(sites)
+    sites.at("argonne", ["take"], sites.at("batavia", ["ship", "argonne"]).encode())
+    held = told_of(sites, "argonne")
+    compacted(tally, sites, "argonne", "it")
+    entries = read_journal(sites.journal("argonne"))[0]
+    tally.same("what was heard", [entry[:5] for entry in entries[2:]], [b"", b"take ", b""])
+    heard = json.loads(entries[3][5:])
+    other = b"take " + json.dumps({**heard, "sender": 2}, separators=(",", ":")).encode()
+    more = b"take " + json.dumps({**heard, "reached": [count + (site == 1) for site, count in enumerate(heard["reached"])]}, separators=(",", ":")).encode()
+    os.mkdir(f"{sites.folder}/other")
+
+    def opens(what, line, *lines):
+        with open(f"{sites.folder}/other/journal", "wb") as file:
+            file.write(journal_of([*entries[:2], *lines]))
+        for words in (["check", "other"], ["at", "other", "ann", "qstat"], ["compact", "other"]):
+            status, output, errors = sites.run(*words)
+            tally.same(f"{what}: {words[0]}: {errors!r}", (status, line == 0 or output == ""), (3 if line else 0, True))
+            if line:
+                tally.true(f"{what}: {words[0]} tells the line: {errors!r}", f"other/journal, line {line}: damaged: it isn't what the site had heard" in errors)
+
+    opens("as it was", 0, *entries[2:])
+    opens("an object", 4, entries[2], b"take {}", entries[4])
+    opens("a packet of another sender", 4, entries[2], other, entries[4])
+    opens("in the place of another's", 3, entries[3], entries[2], entries[4])
+    opens("more than was heard", 4, entries[2], more, entries[4])
+    opens("a user's line", 4, entries[2], b"ann qsub", entries[4])
+    opens("nothing behind it", 4, entries[2])
+    opens("at the place behind its own", 5, entries[2], entries[2], entries[3])
+    opens("a line behind what was known", 3, b"ann qsub", *entries[2:])
+    os.mkdir(f"{sites.folder}/older")
+    with open(f"{sites.folder}/older/journal", "wb") as file:
+        file.write(journal_of([entries[0].replace(b" 4 ", b" 2 ", 1), entries[1], entries[3]]))
+    tally.same("in format 2 it tells the same", told_of(sites, "older"), held)
+    sites.run("serve", "--keep-history", "older", text=b"ann qsub\n" + ALTERATIONS)
+    compacted(tally, sites, "older", "a journal of format 2")
+    tally.same("which is of format 4 then", read_journal(sites.journal("older"))[0][0].split()[1], b"4")
 
 
 def places_of(journal, step=29):
@@ -375,11 +432,11 @@ def damage_of(file, whole, status, output, errors):
         return "" if (status, output) == (3, "") and f"journal, line {damage.line}: damaged" in errors else (damage.line, output, errors)
     if entries != whole[: len(entries)]:
         return f"an entry that wasn't there: {entries[-1]!r}"
-    if len(entries) < 2:
-        told = "line 2: damaged: it isn't what the site knew" if entries else ""
+    if len(entries) < 2 + len(TWO):
+        told = ("", "line 2: damaged: it isn't what the site knew", "line 3: damaged: it isn't what the site had heard", "line 4: damaged: it isn't what the site had heard")[len(entries)]
         return "" if (status, output) == (3, "") and told in errors else (len(entries), output, errors)
     right = output.startswith(f"entries {len(entries)} (compacted), ") and output.endswith(f", unfinished bytes {len(tail)}\n")
     return "" if status == 0 and right else (len(entries), output, errors)
 
 
-SCENES = {it.__name__: it for it in (compact, young, keeping, obstacles, other_owners, compact_full, serve_compacts, compact_at_once, unknown_texts, compact_damage)}
+SCENES = {it.__name__: it for it in (compact, young, keeping, obstacles, renames_that_fail, other_owners, compact_full, serve_compacts, compact_at_once, unknown_texts, heard_texts, compact_damage)}

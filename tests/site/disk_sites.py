@@ -137,7 +137,7 @@ class DiskSite:
         self.program = program
         self.model = Site(roster, number)
         self.name = roster.names[number]
-        self.directory = Directory(path, self.name, self.header(1, roster))
+        self.directory = Directory(path, self.name, self.header(3, roster))
         # what the site held when its journal was compacted last, and how many entries say so
         self.base, self.base_entries = Site(roster, number), 1
         self.disk = None
@@ -332,14 +332,14 @@ class DiskSite:
 
     def front_of(self, model):
         """The entries of a journal that is compacted where the site holds this."""
-        return [self.header(2, model.roster), *(text.encode() for text in model.compacted())]
+        return [self.header(4, model.roster), *(text.encode() for text in model.compacted())]
 
     def is_compacted(self, needed):
         """Whether another journal has come into the place of the one that was known, which would have so many entries more
         at least. Both may begin with the same, where the lines between two compactions have changed nothing."""
         entries, known = self.directory.journal()[0], self.directory.entries
         goes_on = entries[: len(known)] == known and len(entries) >= len(known) + needed
-        return bool(entries) and entries[0].startswith(b"nettlebeam 2 ") and not goes_on
+        return bool(entries) and entries[0].startswith(b"nettlebeam 4 ") and not goes_on
 
     def note_compaction(self, front, model):
         """The journal begins with these entries, which say what the site held."""
@@ -458,8 +458,8 @@ class DiskSite:
         if not entries:
             self.expect_status(ended, 3, "a journal without an entry")
             return
-        if entries == [self.header(2, self.base.roster)]:
-            self.expect_status(ended, 3, "a journal without what the site knew")
+        if entries[0] == self.header(4, self.base.roster) and len(entries) < self.base_entries:
+            self.expect_status(ended, 3, "a journal without what the site knew and had heard")
             return
         self.expect_status(ended, 0, "a journal with a closed gate")
         listing = self.replayed(entries, packets).listing(True).encode()

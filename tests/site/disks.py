@@ -5,7 +5,7 @@ import subprocess
 import time
 
 from tests.playing import limited
-from tests.site.disk_journals import SmallDisk
+from tests.site.disk_journals import SmallDisk, journal_of, read_journal
 from tests.site.played import TWO, frame, read_frame
 
 
@@ -104,6 +104,40 @@ def tails(tally, sites):
         tally.same(f"opened behind tail {number}", sites.run("at", "argonne", "ann", "qsub")[:2], (0, f"{number}.argonne\n"))
         with open(f"{sites.folder}/argonne/journal.cut-{number}", "rb") as file:
             tally.same(f"tail {number}", file.read(), tail)
+
+
+def unkept_entries(tally, sites):
+    """An entry that the site wouldn't keep there, with its right digest, is told by its line, and nothing is answered or changed.
+    A journal of format 1 opens and goes on."""
+    sites.make(TWO)
+    sites.run("serve", "argonne", text=b"ann qsub\nann qsub -l nodes=2\n")
+    header, *lines = read_journal(sites.journal("argonne"))[0]
+    os.mkdir(f"{sites.folder}/other")
+    for line in (b"this is no line at all", b"retire qsub -l nodes=2", b"ann qstat", b"ann qdel 9", b"", b"roster argonne:8 lemont:4", b"take {}"):
+        for place in range(3):
+            journal = journal_of([header, *lines[:place], line, *lines[place:]])
+            with open(f"{sites.folder}/other/journal", "wb") as file:
+                file.write(journal)
+            for words in (["check", "other"], ["at", "other", "ann", "qsub"], ["compact", "other"]):
+                status, output, errors = sites.run(*words)
+                told = f"other/journal, line {place + 2}: it isn't done as it was when it was kept" in errors
+                tally.same(f"{line!r} at {place}: {words[0]}: {errors!r}", (status, output, told, sites.journal("other") == journal), (3, "", True, True))
+    with open(f"{sites.folder}/other/journal", "wb") as file:
+        file.write(journal_of([header.replace(b" 3 ", b" 1 ", 1), *lines]))
+    tally.same("a journal of format 1", (sites.seen("other"), sites.at("other", ["ann", "qsub"])), (sites.seen("argonne"), "3.argonne\n"))
+
+
+def tails_of_serve(tally, sites):
+    """What a write that failed in its middle left behind the gate is kept, also by a `serve` that goes on."""
+    sites.make(TWO[:1])
+    line = b"ann qsub -N a-job-of-15-let -A account-of-15-l\n"
+    status, output, errors = sites.run("serve", "argonne", text=line * 100, preexec_fn=limited(FSIZE=2000))
+    tally.same(f"none of a group is kept: {errors!r}", (status, output), (0, "not kept\n\n" * 100))
+    with open(f"{sites.folder}/argonne/journal.cut-1", "rb") as file:
+        cut = file.read()
+    tally.same("what was cut of it", (len(cut) + len(sites.journal("argonne")), cut[18:].startswith(line)), (2000, True))
+    tally.true("and said", f"{len(cut)} bytes that were never answered are cut, and kept in journal.cut-1" in errors)
+    tally.same("the site goes on", sites.run("at", "argonne", "ann", "qsub")[:2], (0, "1.argonne\n"))
 
 
 def rotted_gate(tally, sites):
@@ -236,4 +270,4 @@ def many(tally, sites):
     tally.same("check behind 100 kills", sites.run("check", "lemont")[0], 0)
 
 
-SCENES = {it.__name__: it for it in (faults, init, streams, tails, rotted_gate, full_disk, long_lines, large_packet, at_once, many)}
+SCENES = {it.__name__: it for it in (faults, init, streams, tails, unkept_entries, tails_of_serve, rotted_gate, full_disk, long_lines, large_packet, at_once, many)}

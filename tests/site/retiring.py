@@ -97,6 +97,7 @@ def retiring_declined(tally, sites):
     sites.make(TWO)
     served(sites, "argonne", ["ann qsub", "grant 1 lemont", "oz/operator reserve argonne 5 9 1"])
     tell(sites, "argonne", "lemont")
+    is_unsettled(tally, sites, "retire 1 1", "1.argonne can still begin")
     ask(tally, sites, "argonne", "ann qdel 1", "done")
     is_unsettled(tally, sites, "retire 1 1", "1.argonne is deleted, but lemont still has its grant")
     tell(sites, "argonne", "lemont")

@@ -6,3 +6,4 @@ pub mod Lines
 pub mod Looking
 pub mod Replays
 pub mod Compacting
+pub mod Entries

@@ -1,18 +1,29 @@
--- The first entry of a journal: the format, the site and the roster. In format 1 the site had nothing before the entries
--- behind it; in format 2 the next entry is what it knew.
-use Rattle.std.specs.Prelude.{ℕ, List, ◌∷◌, codes, Option, Some, None, option_map, if◌then◌else◌}
+-- The first entry of a journal: the format, the site and the roster. In formats 1 and 3 the site had nothing before the
+-- entries behind it; in formats 2 and 4 the next entry is what it knew.
+use Rattle.std.specs.Prelude.{ℕ, Bool, true, false, List, ◌∷◌, codes, Option, Some, None, option_map, if◌then◌else◌}
 use Rattle.std.specs.Str.{bytes_eq}
 use Rattle.fed_words.specs.Site.{site_named}
 use Rattle.fed_script.specs.Forms.{◌>>=◌}
 use Rattle.fed_script.specs.Line.{words_in}
 use Rattle.fed_script.specs.Rosters.{roster_of}
 use Rattle.fed_home.specs.declared.headers.Format.{Format}
-use Rattle.fed_home.specs.declared.headers.Format.TheVariants.{One, Two}
+use Rattle.fed_home.specs.declared.headers.Format.TheVariants.{One, Two, Three, Four}
 use Rattle.fed_home.specs.declared.headers.Header.{Header}
 
 -- the format of this version
 abbrev pub format_of : List ℕ → Option Format
-format_of version = if bytes_eq version (codes "1") then Some One else (if bytes_eq version (codes "2") then Some Two else None)
+format_of version =
+    if bytes_eq version (codes "1") then Some One
+    else (if bytes_eq version (codes "2") then Some Two
+    else (if bytes_eq version (codes "3") then Some Three
+    else (if bytes_eq version (codes "4") then Some Four else None)))
+
+-- whether the entry behind the header is what the site knew
+abbrev pub is_compacted : Format → Bool
+is_compacted One = false
+is_compacted Two = true
+is_compacted Three = false
+is_compacted Four = true
 
 -- the site of this name, of the roster that the words name
 abbrev pub site_among : Format → List ℕ → List (List ℕ) → Option Header

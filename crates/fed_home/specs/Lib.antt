@@ -1,5 +1,6 @@
 -- What the contracts of this crate cite.
 pub mod Header
 pub mod Replay
+pub mod Compaction
 pub mod Fault
 pub mod Home

@@ -1,15 +1,15 @@
 //! The entries that a compacted journal has, and what comes of compacting one.
-ghost use Rattle.std.specs.Prelude.{◌≡◌, ◌≤◌, ◌+◌, true, Some, IfOk, IsTrue, length};
-ghost use Rattle.fed_journal.specs.Lines.{texts_of};
+ghost use Rattle.std.specs.Prelude.{◌≡◌, ◌≢◌, ◌≤◌, ◌+◌, true, false, Some, IfOk, length, min};
+ghost use Rattle.fed_journal.specs.Lines.{at_rest, texts_of};
 ghost use Rattle.fed_stamp.specs.declared.sites.TheConstants.{SITES};
+ghost use Rattle.fed_home.specs.Compaction.{AreEntriesOf, AreOfAnother};
 ghost use Rattle.fed_home.specs.Replay.{replay as replay_of, replayed_of};
 
 use crate::faults::HomeFault;
 use crate::headers::write_header;
-use crate::runs::replay;
+use crate::runs::{heard_text, replay};
 use fed_lattice::NoMemory;
 use fed_site::{Site, are_same_rosters};
-use fed_stamp::{SITES, SiteId};
 use std::alloc::Global;
 use std::io;
 
@@ -29,8 +29,10 @@ pub enum Compaction {
 /// How many bytes of a journal's line are not the entry's.
 const FRAME_BYTES: usize = 20;
 
-/// How many bytes a journal of these entries has.
-pub(crate) fn bytes_of(entries: &[Vec<u8>]) -> usize {
+/// How many bytes a journal of these entries has, or the most that can be told.
+pub(crate) fn bytes_of(entries: &[Vec<u8>]) -> usize
+    ensures { result ≡ min (length (at_rest (texts_of entries.now))) usize.MAX }
+{
     let mut bytes = 1usize;
     for entry in entries {
         bytes = bytes
@@ -40,27 +42,25 @@ pub(crate) fn bytes_of(entries: &[Vec<u8>]) -> usize {
     bytes
 }
 
-/// The entries of a journal that begins with what a site has: the header, what it knows, and for each site that it has
-/// heard of the line that tells what it heard.
+/// The entries of a journal that begins with what a site has: the header, what it knows, and for each site of its roster the
+/// line that tells what it has heard of that.
 pub(crate) fn entries_from(alloc: Global, site: &Site) -> Result<Vec<Vec<u8>>, NoMemory>
-    ensures { IfOk result (λ entries. length entries.items ≤ 2 + SITES) }
+    ensures short { IfOk result (λ entries. length entries.items ≤ 2 + SITES) }
+    ensures are { IfOk result (λ entries. AreEntriesOf (replayed_of site.now) (texts_of entries.items)) }
 {
     let mut entries = Vec::new(alloc);
     entries.push(write_header(alloc, site)?)?;
     entries.push(site.known_text(alloc)?)?;
-    for number in 0..SITES as u8 {
-        if let Some(from) = SiteId::new(number)
-            && let Some(line) = site.heard_line(alloc, from)?
-        {
-            entries.push(line)?;
-        }
+    for number in 0..site.roster().len() {
+        entries.push(heard_text(alloc, site, number)?)?;
     }
     Ok(entries)
 }
 
 /// Whether two sites of one roster have the same.
 fn is_same_site(one: &Site, other: &Site) -> bool
-    ensures { IsTrue result → replayed_of one.now ≡ replayed_of other.now }
+    ensures same { result ≡ true → replayed_of one.now ≡ replayed_of other.now }
+    ensures apart { result ≡ false → one.now ≢ other.now }
 {
     if !are_same_rosters(one.roster(), other.roster()) {
         return false;
@@ -70,7 +70,8 @@ fn is_same_site(one: &Site, other: &Site) -> bool
 
 /// Whether entries stand for a site.
 pub(crate) fn stand_for(alloc: Global, entries: &[Vec<u8>], site: &Site) -> Result<bool, NoMemory>
-    ensures { IfOk result (λ same. same ≡ true → replay_of (texts_of entries.now) ≡ Some (replayed_of site.now)) }
+    ensures same { IfOk result (λ same. same ≡ true → replay_of (texts_of entries.now) ≡ Some (replayed_of site.now)) }
+    ensures apart { IfOk result (λ same. same ≡ false → AreOfAnother site.now (texts_of entries.now)) }
 {
     match replay(alloc, entries) {
         Ok(again) => Ok(is_same_site(&again, site)),

@@ -25,8 +25,8 @@ pub enum HomeFault {
     /// 5: the journal has no entry, so that no site is named.
     #[error("the journal has no entry")]
     NoHeader,
-    /// 6: the header doesn't say `nettlebeam 1` or `nettlebeam 2`, the name of a site, and a roster that has it.
-    #[error("the header doesn't name a site and its roster in format 1 or 2")]
+    /// 6: the header doesn't say `nettlebeam` and a format from 1 to 4, the name of a site, and a roster that has it.
+    #[error("the header doesn't name a site and its roster in a format from 1 to 4")]
     UnreadHeader,
     /// 7: the journal has entries, so that no site can be made there.
     #[error("the journal has entries")]
@@ -34,16 +34,24 @@ pub enum HomeFault {
     /// 8: the disk failed with this error as the first gate of a group was opened. The journal may have the group or not.
     #[error("{0}")]
     InDoubt(io::Error),
-    /// 9: the header is of format 2, and the entry behind it isn't what a site of that name and roster knew.
+    /// 9: the header is of format 2 or 4, and the entry behind it isn't what a site of that name and roster knew.
     #[error("line 2 of the journal is damaged: it isn't what the site knew")]
     UnreadKnown,
+    /// 10: the header is of format 4, and this line of the journal, counted from 1, isn't what the site had heard of another.
+    #[error("line {line} of the journal is damaged: it isn't what the site had heard of another")]
+    UnreadHeard { line: u64 },
+    /// 11: this line of the journal, counted from 1, changes nothing of what the site is after the lines before it, so that
+    /// this program wouldn't have kept it.
+    #[error("line {line} of the journal isn't done as it was when it was kept")]
+    UnkeptEntry { line: u64 },
 }
 
 impl HomeFault {
     ghost use Rattle.fed_home.specs.Fault.{is_in_doubt, number_of};
 
     /// The number of the fault: 1 for `NoMemory`, 2 for `Failed`, 3 for `Damaged`, 4 for `Full`, 5 for `NoHeader`, 6 for
-    /// `UnreadHeader`, 7 for `HasEntries`, 8 for `InDoubt` and 9 for `UnreadKnown`.
+    /// `UnreadHeader`, 7 for `HasEntries`, 8 for `InDoubt`, 9 for `UnreadKnown`, 10 for `UnreadHeard` and 11 for
+    /// `UnkeptEntry`.
     pub fn number(self) -> u8
         ensures { result ≡ number_of self }
     {
@@ -57,6 +65,8 @@ impl HomeFault {
             HomeFault::HasEntries => 7,
             HomeFault::InDoubt(_) => 8,
             HomeFault::UnreadKnown => 9,
+            HomeFault::UnreadHeard { .. } => 10,
+            HomeFault::UnkeptEntry { .. } => 11,
         }
     }
 

@@ -1,4 +1,4 @@
-//! The first entry of a site's journal, as `nettlebeam 1 argonne argonne:8 lemont:4`.
+//! The first entry of a site's journal, as `nettlebeam 3 argonne argonne:8 lemont:4`.
 ghost use Rattle.std.specs.Prelude.{◌≡◌, IfOk};
 ghost use Rattle.fed_words.specs.Item.{words_of as texts_of};
 ghost use Rattle.fed_home.specs.Header.{format_of, header_in, header_of, site_among};
@@ -16,6 +16,24 @@ pub enum Format {
     One,
     /// Version 2, of a journal that was compacted: the entry behind the header is what the site knew.
     Two,
+    /// Version 3 is as version 1. A program that doesn't know all the lines of today refuses it.
+    Three,
+    /// Version 4 is as version 2, with an entry for each site of the roster behind what the site knew: what it had heard.
+    Four,
+}
+
+impl Format {
+    ghost use Rattle.fed_home.specs.Header.{is_compacted};
+
+    /// Whether the journal was compacted, so that the entry behind the header is what the site knew.
+    pub fn is_compacted(self) -> bool
+        ensures { result ≡ is_compacted self }
+    {
+        match self {
+            Format::One | Format::Three => false,
+            Format::Two | Format::Four => true,
+        }
+    }
 }
 
 /// What the first entry of a journal names.
@@ -37,6 +55,10 @@ fn read_format(version: &str) -> Option<Format>
         Some(Format::One)
     } else if version == "2" {
         Some(Format::Two)
+    } else if version == "3" {
+        Some(Format::Three)
+    } else if version == "4" {
+        Some(Format::Four)
     } else {
         None
     }
@@ -82,8 +104,8 @@ fn read_words(alloc: Global, words: &[&str]) -> Result<Option<Header>, NoMemory>
     }
 }
 
-/// What a header says: `nettlebeam`, `1` or `2`, the name of a site, and `NAME:NODES` for each site of a roster that has it,
-/// parted by spaces and tabs. `None` where it says anything else.
+/// What a header says: `nettlebeam`, a number from `1` to `4`, the name of a site, and `NAME:NODES` for each site of a roster
+/// that has it, parted by spaces and tabs. `None` where it says anything else.
 pub fn read_header(alloc: Global, line: &[u8]) -> Result<Option<Header>, NoMemory>
     ensures { IfOk result (λ header. header ≡ header_in line.now) }
 {
@@ -93,10 +115,10 @@ pub fn read_header(alloc: Global, line: &[u8]) -> Result<Option<Header>, NoMemor
     }
 }
 
-/// The header of a site's journal in format 2.
+/// The header of a site's journal in format 4.
 pub(crate) fn write_header(alloc: Global, site: &Site) -> Result<Vec<u8>, NoMemory> {
     let roster = site.roster();
-    let mut text = String::from_str(alloc, "nettlebeam 2")?;
+    let mut text = String::from_str(alloc, "nettlebeam 4")?;
     if let Some(name) = roster.name(site.here()) {
         text.push_str(format!(in alloc; " {name}")?.as_str())?;
     }

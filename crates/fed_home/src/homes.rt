@@ -1,20 +1,21 @@
 //! Sites on a disk. Whatever a site says rests on entries that the disk has had before.
-ghost use Rattle.std.specs.Prelude.{◌≡◌, ◌≢◌, ◌≤◌, ◌<◌, ◌+◌, ◌++◌, ◌∷◌, [], List, ℕ, Ok, Some, false, length, map, IfErr, IfOk, IfSome, IsErrOf, MatchOption, MatchResult, OnErr, OnOk};
+ghost use Rattle.std.specs.Prelude.{◌≡◌, ◌≢◌, ◌⊎◌, ◌≤◌, ◌<◌, ◌+◌, ◌++◌, ◌∷◌, [], List, ℕ, Ok, Some, false, length, map, min, IfErr, IfOk, IfSome, IsErrOf, MatchOption, MatchResult, OnErr, OnOk};
 ghost use Rattle.std.specs.List.{All};
 ghost use Rattle.fed_site.specs.Journal.{after_lines, kept_lines};
 ghost use Rattle.fed_site.specs.Rosters.{roster_after_lines};
 ghost use Rattle.fed_site.specs.Told.{IsTold, answers_in};
 ghost use Rattle.fed_journal.specs.Device.{LeavesJust, LeavesOnly};
 ghost use Rattle.fed_journal.specs.Journal.{IsBeforeOrAfter, IsRead, IsSettled, device_of, entries_in};
-ghost use Rattle.fed_journal.specs.Lines.{Stands, at_rest, recovered, texts_of};
+ghost use Rattle.fed_journal.specs.Lines.{IsLine, Stands, at_rest, recovered, texts_of};
 ghost use Rattle.fed_stamp.specs.declared.sites.TheConstants.{SITES};
+ghost use Rattle.fed_home.specs.Compaction.{AreEntriesOf, AreOfAnother};
 ghost use Rattle.fed_home.specs.Fault.{StopsAnswers, StopsCompaction, StopsMaking, StopsOpening, StopsRepair, is_in_doubt};
 ghost use Rattle.fed_home.specs.Home.{IsBeforeOrHeader};
 ghost use Rattle.fed_home.specs.Replay.{AreReplies, replay as replay_of, replayed_of};
 
 use crate::compactions::{Compaction, bytes_of, entries_from, stand_for};
 use crate::faults::HomeFault;
-use crate::headers::{Format, read_header};
+use crate::headers::read_header;
 use crate::runs::{answer_lines, replay, texts};
 use fed_journal::{Device, Journal, Replacement, are_lines};
 use fed_lattice::NoMemory;
@@ -62,9 +63,8 @@ fn begin<D: Device + Drop>(
     let Some(named) = read_header(alloc, header)? else {
         return Err(HomeFault::UnreadHeader);
     };
-    match named.format {
-        Format::One => {}
-        Format::Two => return Err(HomeFault::UnreadHeader),
+    if named.format.is_compacted() {
+        return Err(HomeFault::UnreadHeader);
     }
     journal.repair()?;
     journal.append(&[header])?;
@@ -76,7 +76,7 @@ impl<D: Device + Drop> Home<D> {
 
     /// Makes the home of a new site in a file that has no entry: it is new, or was cut short before the header was
     /// acknowledged. Gives what stood behind the closed gate too, which is cut. Errors: `Damaged` and `HasEntries` of a file
-    /// that isn't so, `UnreadHeader` of a header that `read_header` doesn't read, or that is of format 2, `Full`, `Failed`,
+    /// that isn't so, `UnreadHeader` of a header that `read_header` doesn't read, or that is of format 2 or 4, `Full`, `Failed`,
     /// `InDoubt` and `NoMemory`.
     pub fn make(alloc: Global, device: D, header: &[u8]) -> Result<(Home<D>, Vec<u8>), Unopened<D>>
         requires { LeavesJust (D.seen device) (D.may_leave device) }
@@ -116,7 +116,9 @@ impl<D: Device + Drop> Home<D> {
     /// The home in a file that the disk has, as after a crash, and what stands behind the file's closed gate. Changes
     /// nothing: so that can be kept elsewhere before `repair` cuts it, and nothing is lost by a crash in between. Errors:
     /// `Damaged` of a file that is damaged, `NoHeader` of one that has no entry, `UnreadHeader` of one whose first entry is no
-    /// header, `UnreadKnown` of one whose second entry should be what the site knew, and isn't, `Failed` and `NoMemory`.
+    /// header, `UnreadKnown` of one whose second entry should be what the site knew, and isn't, `UnreadHeard` of one where an
+    /// entry behind that should be what it had heard of another, and isn't, `UnkeptEntry` of one with an entry that the site
+    /// wouldn't keep there, `Failed` and `NoMemory`.
     pub fn open(alloc: Global, device: D) -> Result<(Home<D>, Vec<u8>), Unopened<D>>
         requires { LeavesJust (D.seen device) (D.may_leave device) }
         ensures replayed { IfOk result (λ opened. IsReplayed D.seen D.may_leave opened.0 opened.1.items) }
@@ -233,7 +235,7 @@ impl<D: Device + Drop> Home<D> {
     }
 
     /// Puts in the place of the journal one that begins with what the site has, and has no other entry. It is read again
-    /// first, and stands for the same site. `Long` where its entries have more than this many bytes, `Refused` where the disk
+    /// first, and stands for the same site. `Long` where it would have more than this many bytes, `Refused` where the disk
     /// can't have a second file, and `Unread` where they would not be read as what the site has: then nothing is done. After
     /// an `Err` the home has to be opened again: after `Failed` the file is the one or the other; after `Full` and `NoMemory`
     /// nothing is done.
@@ -242,15 +244,21 @@ impl<D: Device + Drop> Home<D> {
         ensures open { IfOk result (λ came. IsOpen D.seen D.may_leave self.new) }
         ensures site { site_of self.new ≡ site_of self.old }
         ensures short { IfOk result (λ came. came ≡ Compaction.Done → length (entries_in (D.seen (home_device self.new))) ≤ 2 + SITES) }
+        ensures done { IfOk result (λ came. came ≡ Compaction.Done → length (D.seen (home_device self.new)) ≤ most_bytes) }
         ensures undone { IfOk result (λ came. came ≢ Compaction.Done → self.new ≡ self.old) }
-        ensures long { IfOk result (λ came. (bytes : ℕ) → came ≡ Compaction.Long bytes → most_bytes < bytes) }
+        ensures long { IfOk result (λ came. (bytes : ℕ) → came ≡ Compaction.Long bytes → (most_bytes < bytes)
+            × (entries : List (List ℕ)) × AreEntriesOf (replayed_of (site_of self.old)) entries × (bytes ≡ min (length (at_rest entries)) usize.MAX)) }
+        ensures unread { IfOk result (λ came. came ≡ Compaction.Unread →
+            (entries : List (List ℕ)) × AreEntriesOf (replayed_of (site_of self.old)) entries
+            × ((¬ All IsLine entries) ⊎ AreOfAnother (site_of self.old) entries)) }
 
         // A crash at any moment of the call leaves entries that stand for the site.
         ensures any_moment { LeavesOnly D.moment D.left_since (home_device self.old) (home_device self.new)
             (λ c. replay_of (entries_in c) ≡ Some (replayed_of (site_of self.old))) }
         ensures no_error { IfOk result (λ came. D.errors (home_device self.new) ≡ D.errors (home_device self.old)) }
-        ensures fault { IfErr result (StopsCompaction (D.errors (home_device self.old)) (D.errors (home_device self.new))) }
+        ensures fault { IfErr result (StopsCompaction (replayed_of (site_of self.old)) (D.errors (home_device self.old)) (D.errors (home_device self.new))) }
         ensures untouched { IsErrOf result HomeFault.NoMemory → self.new ≡ self.old }
+        ensures full { IsErrOf result HomeFault.Full → self.new ≡ self.old }
     {
         let entries = entries_from(self.alloc, &self.site)?;
         let bytes = bytes_of(&entries);
@@ -262,7 +270,10 @@ impl<D: Device + Drop> Home<D> {
             return Ok(Compaction::Unread);
         }
         match self.journal.replace(&lines)? {
-            Replacement::Done => Ok(Compaction::Done),
+            Replacement::Done => {
+                let _bytes = self.journal.file_len();
+                Ok(Compaction::Done)
+            }
             Replacement::Refused(error) => Ok(Compaction::Refused(error)),
         }
     }

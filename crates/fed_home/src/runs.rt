@@ -1,18 +1,21 @@
 //! What entries and lines come to at a site.
-ghost use Rattle.std.specs.Prelude.{◌≡◌, ◌⊎◌, ◌<◌, Some, None, IfErr, IfOk, length, map};
+ghost use Rattle.std.specs.Prelude.{◌≡◌, ◌<◌, ◌≤◌, ◌+◌, true, Some, Ok, IfErr, IfOk, OnOk, length, map};
+ghost use Rattle.std.specs.Str.{bytes_eq};
 ghost use Rattle.std.specs.List.{All};
 ghost use Rattle.fed_replica.specs.State.{state_of};
 ghost use Rattle.fed_site.specs.Journal.{after_lines, kept_lines};
-ghost use Rattle.fed_site.specs.Rosters.{roster_after_lines};
+ghost use Rattle.fed_site.specs.Rosters.{roster_after, roster_after_lines};
+ghost use Rattle.fed_site.specs.Says.{site_says};
 ghost use Rattle.fed_site.specs.Told.{IsTold, answers_in};
 ghost use Rattle.fed_journal.specs.Lines.{texts_of};
-ghost use Rattle.fed_home.specs.Fault.{StopsReplay};
-ghost use Rattle.fed_home.specs.Replay.{AreReplies, begun, begun_by, replay as replay_of, replayed_of};
+ghost use Rattle.fed_stamp.specs.declared.sites.TheConstants.{SITES};
+ghost use Rattle.fed_home.specs.Fault.{StopsAt, StopsReplay};
+ghost use Rattle.fed_home.specs.Header.{is_compacted};
+ghost use Rattle.fed_home.specs.Replay.{AreReplies, after_heard, after_kept, begun_by, heard_text as heard_text_of, replay as replay_of, replayed_of};
 
 use crate::faults::HomeFault;
 use crate::headers::{Format, Header, read_header};
 use fed_lattice::NoMemory;
-use fed_script::BoxedRoster;
 use fed_site::{Site, Told};
 use fed_stamp::SiteId;
 use std::alloc::{AllocError, Global};
@@ -28,47 +31,111 @@ pub(crate) fn texts(alloc: Global, entries: &[Vec<u8>]) -> Result<Vec<&[u8]>, Al
     Ok(texts)
 }
 
-/// The site of a journal of format 2, by the entries behind the header: the first is what the site knew. Errors:
-/// `UnreadKnown` where it isn't, and `NoMemory`.
-#[tactic(auto, using(crate::proofs::Beginnings::begun_from_known, crate::proofs::Beginnings::begun_nowhere, crate::proofs::Beginnings::begun_unknown))]
-fn open_known(
-    alloc: Global,
-    roster: BoxedRoster,
-    here: SiteId,
-    lines: &[&[u8]],
-) -> Result<Site, HomeFault>
-    requires { here < length roster }
-    ensures begun { IfOk result (λ site. begun Format.Two roster here (map (λ line. line.now) lines.now) ≡ Some (replayed_of site)) }
-    ensures fault { IfErr result (λ fault. (fault ≡ HomeFault.NoMemory)
-        ⊎ ((fault ≡ HomeFault.UnreadKnown) × (begun Format.Two roster here (map (λ line. line.now) lines.now) ≡ None))) }
+/// A site that has begun so and has answered these lines, each of which it keeps. The first of them is this line of the
+/// journal. Errors: `UnkeptEntry` of the first that it doesn't keep, and `NoMemory`.
+fn replay_kept(alloc: Global, begun: Site, lines: &[&[u8]], first: u64) -> Result<Site, HomeFault>
+    requires { first ≤ 3 + SITES }
+    ensures read { IfOk result (λ site. after_kept first begun.roster (state_of begun.replica) (map (λ line. line.now) lines.now) ≡ Ok (replayed_of site)) }
+    ensures fault { IfErr result (StopsAt (after_kept first begun.roster (state_of begun.replica) (map (λ line. line.now) lines.now))) }
+{
+    let mut site = begun;
+    let mut number = first;
+    for line in lines {
+        let answered = site.answer(alloc, line)?;
+        if !answered.is_kept() {
+            return Err(HomeFault::UnkeptEntry { line: number });
+        }
+        number += 1;
+    }
+    Ok(site)
+}
+
+/// The line of what a site has heard of the site of this number, and an empty one where that is nothing.
+pub(crate) fn heard_text(alloc: Global, site: &Site, number: usize) -> Result<Vec<u8>, NoMemory>
+    requires { number < SITES }
+    ensures { IfOk result (λ text. text.items ≡ heard_text_of (state_of site.now.replica) number) }
+{
+    let from = SiteId::new(number as u8).unwrap();
+    match site.heard_line(alloc, from)? {
+        Some(line) => Ok(line),
+        None => Ok(Vec::new(alloc)),
+    }
+}
+
+/// Answers a line. Whether it is what the site writes then of what it has heard of the site of this number.
+fn hears(alloc: Global, site: &mut Site, number: usize, line: &[u8]) -> Result<bool, NoMemory>
+    requires { number < SITES }
+    ensures roster { OnOk result (site.new.roster ≡ roster_after site.old.roster line.now) }
+    ensures after { OnOk result (state_of site.new.replica ≡ (site_says site.old.roster (state_of site.old.replica) line.now).after) }
+    ensures same { IfOk result (λ same. same ≡ bytes_eq (heard_text_of (state_of site.new.replica) number) line.now) }
+{
+    site.answer(alloc, line)?;
+    let heard = heard_text(alloc, site, number)?;
+    Ok(heard.as_slice() == line)
+}
+
+/// The line of the journal that tells what was heard of the first site.
+const FIRST_HEARD: u64 = 3;
+
+/// A site that knows so much and has heard of each site of its roster what the first lines tell, and has then answered the
+/// others. Errors: `UnreadHeard` of the first line that isn't what it has heard, `UnkeptEntry`, and `NoMemory`.
+fn replay_heard(alloc: Global, knowing: Site, lines: &[&[u8]]) -> Result<Site, HomeFault>
+    ensures read { IfOk result (λ site. after_heard (length knowing.roster) 0 knowing.roster (state_of knowing.replica) (map (λ line. line.now) lines.now) ≡ Ok (replayed_of site)) }
+    ensures fault { IfErr result (StopsAt (after_heard (length knowing.roster) 0 knowing.roster (state_of knowing.replica) (map (λ line. line.now) lines.now))) }
+{
+    let count = knowing.roster().len();
+    let mut site = knowing;
+    for number in 0..count {
+        let fault = HomeFault::UnreadHeard {
+            line: FIRST_HEARD + number as u64,
+        };
+        if number >= lines.len() {
+            return Err(fault);
+        }
+        if !hears(alloc, &mut site, number, lines[number])? {
+            return Err(fault);
+        }
+    }
+    replay_kept(alloc, site, &lines[count..], FIRST_HEARD + count as u64)
+}
+
+/// The site of a journal that was compacted, by the entries behind the header: the first is what the site knew. Errors:
+/// `UnreadKnown` where it isn't, `UnreadHeard`, `UnkeptEntry` and `NoMemory`.
+fn open_known(alloc: Global, header: Header, lines: &[&[u8]]) -> Result<Site, HomeFault>
+    requires here { header.site < length header.roster }
+    requires compacted { is_compacted header.format ≡ true }
+    ensures begun { IfOk result (λ site. begun_by (map (λ line. line.now) lines.now) (Some header) ≡ Ok (replayed_of site)) }
+    ensures fault { IfErr result (StopsAt (begun_by (map (λ line. line.now) lines.now) (Some header))) }
 {
     let Some((text, lines)) = lines.split_first() else {
         return Err(HomeFault::UnreadKnown);
     };
-    let Some(mut site) = Site::knowing(alloc, roster, here, text)? else {
+    let Some(site) = Site::knowing(alloc, header.roster, header.site, text)? else {
         return Err(HomeFault::UnreadKnown);
     };
-    site.replay(alloc, lines)?;
-    Ok(site)
-}
-
-/// The site that the entries behind a header stand for. Errors: `UnreadKnown` where the first of them should be what the
-/// site knew, and isn't, and `NoMemory`.
-#[tactic(auto, using(crate::proofs::Beginnings::begun_from_nothing))]
-fn open_site(alloc: Global, header: Header, lines: &[&[u8]]) -> Result<Site, HomeFault>
-    requires { header.site < length header.roster }
-    ensures begun { IfOk result (λ site. begun_by (map (λ line. line.now) lines.now) header ≡ Some (replayed_of site)) }
-    ensures fault { IfErr result (λ fault. (fault ≡ HomeFault.NoMemory)
-        ⊎ ((fault ≡ HomeFault.UnreadKnown) × (begun_by (map (λ line. line.now) lines.now) header ≡ None))) }
-{
     match header.format {
-        Format::One => Ok(Site::open(alloc, header.roster, header.site, lines)?),
-        Format::Two => open_known(alloc, header.roster, header.site, lines),
+        Format::Four => replay_heard(alloc, site, lines),
+        _ => replay_kept(alloc, site, lines, FIRST_HEARD),
     }
 }
 
+/// The site that the entries behind a header stand for. The errors are those of `replay`.
+fn open_site(alloc: Global, header: Header, lines: &[&[u8]]) -> Result<Site, HomeFault>
+    requires { header.site < length header.roster }
+    ensures begun { IfOk result (λ site. begun_by (map (λ line. line.now) lines.now) (Some header) ≡ Ok (replayed_of site)) }
+    ensures fault { IfErr result (StopsAt (begun_by (map (λ line. line.now) lines.now) (Some header))) }
+{
+    if header.format.is_compacted() {
+        return open_known(alloc, header, lines);
+    }
+    let site = Site::new(alloc, header.roster, header.site);
+    replay_kept(alloc, site, lines, 2)
+}
+
 /// The site that entries stand for: the first is the header. Errors: `NoHeader` where there is no entry, `UnreadHeader`
-/// where the first is no header, `UnreadKnown` where the second should be what the site knew, and isn't, and `NoMemory`.
+/// where the first is no header, `UnreadKnown` where the second should be what the site knew, and isn't, `UnreadHeard` of the
+/// first entry behind it that should be what it had heard, and isn't, `UnkeptEntry` of the first of the others that the site
+/// doesn't keep, and `NoMemory`.
 pub fn replay(alloc: Global, entries: &[Vec<u8>]) -> Result<Site, HomeFault>
     ensures replayed { IfOk result (λ site. replay_of (texts_of entries.now) ≡ Some (replayed_of site)) }
     ensures fault { IfErr result (StopsReplay (texts_of entries.now)) }

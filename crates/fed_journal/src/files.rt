@@ -12,7 +12,12 @@
 //!   a sync of the directory returned, it stays. The new file is synced before it is renamed, so it is whole by then.
 //! - What `open` reads is what the disk has. The file and its directory are synced first. A system that forgot, after a
 //!   sync that failed in an earlier process, that its copy is not the disk's may still show that copy.
+//!   Nor does it say which of two files has the name, where a sync of the directory failed in an earlier process: the name
+//!   that `open` found may be the new file's, and a power cut bring the old one back, with all that was added since gone.
 //! - Nobody else changes the file, or what has its name. The lock keeps out other processes that take it, and no others.
+//!
+//! A file that takes the place of another has its owner, group and permissions. It isn't given an access list (ACL) or
+//! another attribute that the old one had.
 ghost use Rattle.std.specs.Prelude.{◌≡◌, ℕ, true, [], ◌∷◌, ◌++◌, length, reverse, Vec, Some, None, is_some, IfOk};
 ghost use Rattle.std.specs.declared.alloc.Global.{Global};
 ghost use Rattle.fed_journal.specs.Calls.{counts_now, errors_by, left_by, left_since, only_now, seen_by};

@@ -1,12 +1,12 @@
 -- Homes go on as what happens does.
 use Rattle.std.specs.Prelude.{Some, None, Option, Ok, map}
+use Rattle.std.specs.Result.{result_ok}
 use Rattle.std.proofs.Common.{◌≡◌, ◌≢◌, ◌<◌, ◌==◌, ℕ, List, [], ◌∷◌, ◌++◌, All, Bool, true, false, length, refl, sym, subst, ap, ◌∙◌, inl, inr, arith}
 use Rattle.std.proofs.lemmas.Bool.{cases_Bool, eqb-true}
 use Rattle.std.proofs.lemmas.List.Elements.{All-cons, All-head, All-nil, All-tail, All-weaker}
 use Rattle.std.proofs.lemmas.Option.{same_Some}
 use Rattle.fed_stamp.specs.Roster.{IsRoster}
 use Rattle.fed_replica.specs.State.{State, empty_at}
-use Rattle.fed_script.specs.Forms.{◌>>=◌}
 use Rattle.fed_theory.proofs.Runs.{put_same}
 use Rattle.fed_site.specs.Answered.{bytes_of}
 use Rattle.fed_site.specs.declared.site.Answered.{Answered}
@@ -17,7 +17,7 @@ use Rattle.fed_site.proofs.RosterLines.{begins_length, lines_begin, lines_lawful
 use Rattle.fed_journal.specs.Journal.{IsBeforeOrAfter, entries_in, entries_of}
 use Rattle.fed_journal.specs.Lines.{recovered}
 use Rattle.fed_home.specs.declared.headers.Format.{Format}
-use Rattle.fed_home.specs.declared.headers.Format.TheVariants.{One, Two}
+use Rattle.fed_home.specs.declared.headers.Format.TheVariants.{One, Two, Three, Four}
 use Rattle.fed_home.specs.declared.headers.Header.{Header}
 use Rattle.fed_home.specs.Header.{header_in}
 use Rattle.fed_home.specs.Replay.{AreReplies, Replayed, begun, begun_by, replay}
@@ -176,26 +176,32 @@ module _ (i : ℕ) where
 abbrev IsNewHome : List ℕ → Replayed → Type 0
 IsNewHome file now = (i : ℕ) × ((rosters : ℕ → List (List ℕ × ℕ)) → rosters i ≡ now.roster → IsHomeOf rosters i [] file)
 
-new_home : (header : List ℕ) (file : List ℕ) (h : Header) (now : Replayed) → header_in header ≡ Some h → begun h.format h.roster h.site [] ≡ Some now → replay (entries_in file) ≡ Some now → IsNewHome file now
-new_home header file h now is begins e = go h.format refl begins
+-- the site of a header alone
+abbrev made_by : Header → Replayed
+made_by h = record { roster = h.roster; state = empty_at h.site }
+
+new_home : (header : List ℕ) (file : List ℕ) (h : Header) (now : Replayed) → header_in header ≡ Some h → result_ok (begun h.format h.roster h.site []) ≡ Some now → replay (entries_in file) ≡ Some now → IsNewHome file now
+new_home header file h now is begins e = go h.format begins
   where
-    go : (format : Format) → h.format ≡ format → begun format h.roster h.site [] ≡ Some now → IsNewHome file now
-    go Two f b = cc
-    go One f b =
-        let made : Replayed = record { roster = h.roster; state = empty_at h.site } in
-        let same : made ≡ now = same_Some made now b in
-        subst (IsNewHome file) same (
-          h.site,
-          λ rosters at. (
-            subst IsRoster (sym at) (header_roster header h is),
-            subst (λ (r : List (List ℕ × ℕ)). h.site < length r) (sym at) (header_site header h is),
-            e ∙ ap Some (sym same) ∙ ap Some (λ k. record { roster = sym at k; state = empty_at h.site }),
-          ),
-        )
+    from_nothing : made_by h ≡ now → IsNewHome file now
+    from_nothing same = subst (IsNewHome file) same (
+      h.site,
+      λ rosters at. (
+        subst IsRoster (sym at) (header_roster header h is),
+        subst (λ (r : List (List ℕ × ℕ)). h.site < length r) (sym at) (header_site header h is),
+        e ∙ ap Some (sym same) ∙ ap Some (λ k. record { roster = sym at k; state = empty_at h.site }),
+      ),
+    )
+
+    go : (format : Format) → result_ok (begun format h.roster h.site []) ≡ Some now → IsNewHome file now
+    go One b = from_nothing (same_Some (made_by h) now b)
+    go Two b = cc
+    go Three b = from_nothing (same_Some (made_by h) now b)
+    go Four b = cc
 
 pub home_made : (header file : List ℕ) (now : Replayed) → replay (entries_in file) ≡ Some now → recovered file ≡ Ok (header ∷ []) → IsNewHome file now
 home_made header file now e r = go (header_in header) refl (sym (ap (λ x. replay (entries_of x)) r) ∙ e)
   where
-    go : (o : Option Header) → header_in header ≡ o → (o >>= begun_by []) ≡ Some now → IsNewHome file now
+    go : (o : Option Header) → header_in header ≡ o → result_ok (begun_by [] o) ≡ Some now → IsNewHome file now
     go None is f = cc
     go (Some h) is f = new_home header file h now is f e

@@ -175,12 +175,20 @@ fn write_home_fault<W: fmt::Write>(
         ),
         HomeFault::UnreadHeader => write!(
             f,
-            "{directory}/journal, line 1: it doesn't name a site and its roster, as nettlebeam 1 and nettlebeam 2 do"
+            "{directory}/journal, line 1: it doesn't name a site and its roster in a format that this program reads, which are 1 to 4"
         ),
         HomeFault::HasEntries => write!(f, "{directory}: a site is there already"),
         HomeFault::UnreadKnown => write!(
             f,
             "{directory}/journal, line 2: damaged: it isn't what the site knew; nothing is changed: mend the line from a copy of the journal"
+        ),
+        HomeFault::UnreadHeard { line } => write!(
+            f,
+            "{directory}/journal, line {line}: damaged: it isn't what the site had heard of another; nothing is changed: mend the line from a copy of the journal"
+        ),
+        HomeFault::UnkeptEntry { line } => write!(
+            f,
+            "{directory}/journal, line {line}: it isn't done as it was when it was kept; nothing is changed: use the version of the program that kept it"
         ),
     }
 }

@@ -22,7 +22,7 @@ const LONGEST_HEADER: u64 = 412;
 
 /// The first entry of the journal.
 fn header<'x>(alloc: Global, site: &'x str, sites: &[&'x str]) -> Result<Vec<u8>, AllocError> {
-    let mut words = vec![in alloc; "nettlebeam", "1", site]?;
+    let mut words = vec![in alloc; "nettlebeam", "3", site]?;
     words.extend_from_slice(sites)?;
     line_of_words(alloc, &words)
 }

@@ -8,7 +8,7 @@ use crate::compacting::{GROWTH, LEAST_BYTES, compact, compact_long, tell_not_com
 use crate::directories::{find_home, keep_tail, open_device, open_home, open_home_again};
 use crate::faults::{Fault, FaultAt};
 use crate::making::make_home;
-use fed_home::{Format, Header, Home, HomeFault, read_header, replay};
+use fed_home::{Home, HomeFault, read_header, replay};
 use fed_journal::{FileDevice, Journal};
 use fed_serve::{
     MAX_TAKE_BYTES, ServeFault, Served, answered_status, at_most_longest, line_of_words, serve,
@@ -200,14 +200,11 @@ fn serve_input<R: Files<File = File> + Clock + AllocGlobal + Clone + Drop>(
 
 /// Whether a journal of these entries was compacted.
 fn is_compacted(alloc: Global, entries: &[Vec<u8>]) -> Result<bool, Fault> {
-    match entries.first() {
-        Some(first) => Ok(matches!(
-            read_header(alloc, first)?,
-            Some(Header {
-                format: Format::Two,
-                ..
-            })
-        )),
+    let Some(first) = entries.first() else {
+        return Ok(false);
+    };
+    match read_header(alloc, first)? {
+        Some(header) => Ok(header.format.is_compacted()),
         None => Ok(false),
     }
 }

@@ -141,8 +141,8 @@ fn entries_of(alloc: Global, file: &[u8]) -> Result<Vec<Vec<u8>>, HomeFault> {
     }
 }
 
-/// The header of a journal of format 2.
-const COMPACTED: &[u8] = b"nettlebeam 2 argonne argonne:8 lemont:4";
+/// The header of a journal of format 4.
+const COMPACTED: &[u8] = b"nettlebeam 4 argonne argonne:8 lemont:4";
 
 /// The home of a file lists one job.
 fn lists_one(alloc: Global, file: &[u8]) -> Result<bool, HomeFault> {
@@ -155,9 +155,9 @@ fn a_compacted_journal_stands_for_the_same(rt: HostRuntime) -> Result<(), Fail> 
     let alloc = rt.alloc();
     let (done, disk) = compacted(alloc, ONE_JOB, usize::MAX)?;
     assert!(rt; matches!(done, Compaction::Done) && lists_one(alloc, &disk)?);
-    // the header, and what is known
+    // the header, what is known, and that nothing was heard of two sites
     let entries = entries_of(alloc, &disk)?;
-    assert!(rt; entries.len() == 2 && entries.first().is_some_and(|it| it.as_slice() == COMPACTED));
+    assert!(rt; entries.len() == 4 && entries.first().is_some_and(|it| it.as_slice() == COMPACTED));
     // the bytes are those of the file that would be written
     let (long, same) = compacted(alloc, ONE_JOB, disk.len().saturating_sub(1))?;
     assert!(rt; matches!(long, Compaction::Long { bytes } if bytes == disk.len()));

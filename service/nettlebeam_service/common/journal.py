@@ -10,7 +10,7 @@ from typing import BinaryIO, Dict, Iterator, Sequence, Tuple
 
 CHUNK = 1 << 20
 ENTRY_PLACE = 19  # a gate, a blank, the digest and another blank stand before an entry
-FORMATS = ("1", "2")
+FORMATS = ("1", "2", "3", "4")
 # no utility's name has a colon, so that a user may be called `roster`
 ROSTER_LINE = re.compile(rb"[ \t]*roster[ \t]+[^ \t:]*:")
 SITE = re.compile(r"([^:]+):0*([0-9]{1,20})\Z")

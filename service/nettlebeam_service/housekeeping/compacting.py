@@ -120,7 +120,7 @@ class Compacting:
 def bytes_known(path: str) -> int:
     """How many bytes of a compacted journal tell what the site knew then; 0 of one that wasn't compacted."""
     with open(path, "rb") as file:
-        if file.readline(4096).split()[2:4] != [b"nettlebeam", b"2"]:
+        if file.readline(4096).split()[2:4] not in ([b"nettlebeam", b"2"], [b"nettlebeam", b"4"]):
             return 0
         count = 0
         while True:
