@@ -33,9 +33,8 @@ for line in sys.stdin.buffer:
         break
     site.stdin.write(line)
     site.stdin.flush()
-    answer = b""
-    while not (answer.endswith(b"\\n\\n") or answer == b"\\n"):
-        answer += site.stdout.readline()
+    answer = site.stdout.readline()
+    answer += site.stdout.read(sum(map(int, answer.split()[1:])))
     if is_it:
         os.kill(os.getppid(), signal.SIGKILL)
         break
