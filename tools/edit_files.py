@@ -8,6 +8,7 @@ from typing import NamedTuple
 
 TOP = pathlib.Path(__file__).resolve().parent.parent
 FUNCTION = re.compile(r"( *)(?:pub(?:\([^)]*\))? )?(?:const )?fn (\w+)")
+OF_ANOTHER = re.compile(r"\.\./(\w+)/specs/\w+\.antt$")
 IMPL = re.compile(r"impl\b.*\{$")
 
 
@@ -73,8 +74,8 @@ def changes_of(edit: pathlib.Path) -> list[Change]:
     for line in edit.read_text(encoding="utf-8").split("\n"):
         if line.startswith("file: "):
             path = line[len("file: ") :].strip()
-            if os.path.normpath(path) != path or not path.startswith(("src/", "specs/", "proofs/")):
-                raise Flawed(f"{path} is no file below src/, specs/ or proofs/")
+            if os.path.normpath(path) != path or not (path.startswith(("src/", "specs/", "proofs/")) or OF_ANOTHER.match(path)):
+                raise Flawed(f"{path} is no file below src/, specs/ or proofs/, and none of another crate's specs/")
             if not (edit.parent.parent / path).is_file():
                 raise Flawed(f"there is no file {path}")
         elif line.startswith("old: "):

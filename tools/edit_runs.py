@@ -50,11 +50,16 @@ def library(name: str) -> pathlib.Path:
 def words_of(name: str) -> list[str]:
     """The words of a check of a crate, without the functions."""
     root = "src/main.rt" if (TOP / "crates" / name / "src" / "main.rt").is_file() else "src/lib.rt"
+    return check_words(name, root, edit_files.listed(name), edit_files.below([name]))
+
+
+def check_words(name: str, root: str, cited: list[str], below: list[str]) -> list[str]:
+    """The words of a check of a crate that cites these libraries, over these of the repository."""
     words = [str(KIT / "bin" / "rattle"), "check", "--crate-name", name, root]
-    for given in dict.fromkeys(["std", *edit_files.listed(name)]):
+    for given in dict.fromkeys(["std", *cited]):
         words += ["--extern", f"{given}={library(given)}"]
     words += ["-L", f"dependency={KIT}/rlibs"]
-    for given in edit_files.below([name]):
+    for given in below:
         words += ["-L", f"dependency={library(given).parent}"]
     words += ["--antt-project", str(KIT / "rattle" / "logic" / "antt-project.json")]
     return [*words, "--logic-built", str(KIT / "logic_built"), "--jobs", "1"]
@@ -192,6 +197,6 @@ def over_crate(edit: pathlib.Path) -> Found:
     return Found(False, f"{label}: REFUSED BY NO CLAUSE or let through, status {ran.status}: {(ran.lines or [''])[-1][:160]}")
 
 
-def lacking(names: list[str]) -> list[str]:
-    """The libraries below these crates that are not built."""
-    return [name for name in edit_files.below(names) if not os.path.isdir(library(name))]
+def lacking(libraries: list[str]) -> list[str]:
+    """Those of these libraries that are not built."""
+    return [name for name in libraries if not os.path.isdir(library(name))]

@@ -1,0 +1,4 @@
+-- Worked scenes.
+pub mod SettledScenes
+pub mod DeclineScenes
+pub mod ClockScenes
