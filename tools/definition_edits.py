@@ -8,6 +8,7 @@ from __future__ import annotations
 
 import pathlib
 import re
+import shutil
 import subprocess
 import tempfile
 from typing import NamedTuple
@@ -17,10 +18,29 @@ import edit_runs
 from edit_files import TOP
 
 # The crates whose scenes are of a crate's definitions; other crates' definitions have none.
-SCENES = {"fed_model": ["fed_theory", "test_scenes"], "fed_easy": ["fed_easy"]}
-NAME = "definitions"
-ROOT = "//! Definitions that an edit makes wrong, and worked scenes of them.\n#![tactic(auto)]\n\n/// Does nothing.\npub fn nothing() {}\n"
-OTHERWISE = re.compile(r"\./proofs/(\w+)\.antt:[0-9:]+ error: `(\w+)`")
+SCENES = {"fed_model": ["fed_theory", "test_scenes"], "fed_easy": ["fed_easy", "test_scenes"]}
+# A function beside those of the crate, by whose proof the scenes are read. It claims nothing.
+FUNCTION = "worked::scenes_are_computed"
+MODULE = """//! Worked scenes.
+ghost use Rattle.std.specs.Prelude.{◌≡◌, ℕ};
+
+/// Does nothing.
+pub fn scenes_are_computed()
+    ensures { (n : ℕ) → n ≡ n }
+{}
+"""
+PROOF = """use Rattle.std.proofs.Common.{{refl}}
+{imports}
+use Rattle.{crate}.proofs.worked.scenes_are_computed.Goals as goal
+
+both : {{A B : Type 0}} → A → B → A
+both a b = a
+
+pub returns : goal.returns
+returns c = λ n. {term}
+"""
+SCENE = re.compile(r"(?m)^([a-z]\w*) = refl$")
+ERROR = re.compile(r"\./proofs/(\w+)\.antt:[0-9:]+ error: `(\w+)`")
 COMPUTED = "computed as far as they go, the two types differ"
 
 
@@ -42,43 +62,55 @@ def owner_of(edit: pathlib.Path) -> str:
     return found[1] if found else edit_files.crate_of(edit)
 
 
-def libraries_of(name: str) -> list[str]:
-    """The libraries of the repository that the scenes of a crate's definitions stand on, that crate's own with them."""
-    owners = SCENES.get(name, [])
-    return [it for it in edit_files.crate_names() if it in {name, *edit_files.below([name, *owners])}]
-
-
-def renamed(text: str, crate: str, part: str) -> str:
-    """A file's text, in which a crate's modules are the changed ones. Those of its types stay."""
-    return re.sub(rf"\bRattle\.{crate}\.{part}\.(?!declared\b)", f"Rattle.{NAME}.{part}.", text)
-
-
-def written(edit: pathlib.Path, folder: pathlib.Path) -> None:
-    """Writes a crate with the changed definitions and the scenes of them."""
-    name, scenes = owner_of(edit), list[str]()
-    texts = {pathlib.Path(path).name: text for path, text in edit_files.applied(edit, {}).items()}
-    for part in ("src", "specs", "proofs"):
-        (folder / part).mkdir()
-    (folder / "src" / "lib.rt").write_text(ROOT, encoding="utf-8")
-    for file in sorted((TOP / "crates" / name / "specs").glob("*.antt")):
-        text = texts.get(file.name) or file.read_text(encoding="utf-8")
-        (folder / "specs" / file.name).write_text(renamed(text, name, "specs"), encoding="utf-8")
-    for owner in SCENES[name]:
+def scenes_of(crate: str) -> dict[str, str]:
+    """The files of scenes of a crate's definitions, as if they were that crate's own. A file that cites another crate, which
+    isn't below this one, is of other definitions."""
+    known = {crate, *SCENES[crate], *edit_files.listed(crate)}
+    found = dict[str, str]()
+    for owner in SCENES[crate]:
         for file in sorted((TOP / "crates" / owner / "proofs").glob("*Scenes.antt")):
-            text = renamed(file.read_text(encoding="utf-8"), name, "specs")
-            for other in SCENES[name]:
-                text = renamed(text, other, "proofs")
-            (folder / "proofs" / file.name).write_text(text, encoding="utf-8")
-            scenes.append(file.stem)
-    (folder / "proofs" / "Lib.antt").write_text("".join(f"pub mod {it}\n" for it in scenes), encoding="utf-8")
+            text = file.read_text(encoding="utf-8")
+            if known.issuperset(set(re.findall(r"Rattle\.(\w+)\.", text)) & set(edit_files.crate_names())):
+                found[file.stem] = text
+    for stem, text in found.items():
+        for owner in SCENES[crate]:
+            text = text.replace(f"Rattle.{owner}.proofs.", f"Rattle.{crate}.proofs.")
+        for name in SCENE.findall(text):
+            text = re.sub(rf"(?m)^{name} :", f"pub {name} :", text)
+        found[stem] = text
+    return found
+
+
+def write(edit: pathlib.Path, folder: pathlib.Path) -> None:
+    """Writes the crate with the changed definitions, and the scenes of them."""
+    crate = owner_of(edit)
+    for part in ("src", "specs", "proofs"):
+        shutil.copytree(TOP / "crates" / crate / part, folder / part)
+    for path, text in edit_files.applied(edit, {}).items():
+        (folder / "specs" / pathlib.Path(path).name).write_text(text, encoding="utf-8")
+    scenes, imports, term = scenes_of(crate), list[str](), "refl"
+    listed = (folder / "proofs" / "Lib.antt").read_text(encoding="utf-8")
+    for stem, text in scenes.items():
+        (folder / "proofs" / f"{stem}.antt").write_text(text, encoding="utf-8")
+        listed += "" if re.search(rf"(?m)^(pub )?mod {stem}$", listed) else f"pub mod {stem}\n"
+        names = SCENE.findall(text)
+        if names:
+            imports.append(f"use Rattle.{crate}.proofs.{stem}.{{{', '.join(names)}}}")
+        for name in names:
+            term = f"both ({term}) {name}"
+    (folder / "proofs" / "Lib.antt").write_text(listed, encoding="utf-8")
+    root, proof = folder / "src" / "lib.rt", folder / "proofs" / FUNCTION.replace("::", "/")
+    root.write_text(root.read_text(encoding="utf-8") + "\n/// Worked scenes.\npub mod worked;\n", encoding="utf-8")
+    (folder / "src" / "worked.rt").write_text(MODULE, encoding="utf-8")
+    proof.mkdir(parents=True)
+    (proof / "Answers.antt").write_text(PROOF.format(crate=crate, imports="\n".join(imports), term=term), encoding="utf-8")
 
 
 def run(edit: pathlib.Path) -> Ran:
     """Computes the scenes by the changed definitions."""
-    libraries = libraries_of(owner_of(edit))
-    words = edit_runs.check_words(NAME, "src/lib.rt", libraries, libraries)
+    words = edit_runs.words_of(owner_of(edit)) + ["--only", FUNCTION]
     with tempfile.TemporaryDirectory(prefix="edit-") as folder:
-        written(edit, pathlib.Path(folder))
+        write(edit, pathlib.Path(folder))
         try:
             ran = subprocess.run(words, cwd=folder, stdin=subprocess.DEVNULL, stdout=subprocess.PIPE, stderr=subprocess.STDOUT,
                                  text=True, errors="replace", timeout=edit_runs.SECONDS, check=False)
@@ -89,16 +121,20 @@ def run(edit: pathlib.Path) -> Ran:
 
 def tried(edit: pathlib.Path) -> edit_runs.Found:
     """What came of an edit of definitions."""
-    name = owner_of(edit)
     label = f"{edit_files.crate_of(edit)}/{edit.stem}"
-    if name not in SCENES:
-        return edit_runs.Found(False, f"{label}: NOT TRIED: no scenes are of the definitions of {name}")
+    if owner_of(edit) not in SCENES:
+        return edit_runs.Found(False, f"{label}: NOT TRIED: no scenes are of the definitions of {owner_of(edit)}")
     ran = run(edit)
-    errors = re.split(r"(?m)^(?=\./|src/)", ran.text)
-    scenes = [found for error in errors if COMPUTED in error and (found := OTHERWISE.match(error))]
-    strange = [error for error in errors if ": error" in error and not error.startswith("./proofs/")]
+    errors = [it for it in re.split(r"(?m)^(?=\S+\.(?:antt|rt):)", ran.text) if ": error" in it.split("\n")[0]]
+    scenes = sorted({f"{found[2]} of {found[1]}" for it in errors if COMPUTED in it and (found := ERROR.match(it))})
+    strange = [it for it in errors if not it.startswith("./proofs/")]
     if strange or ran.status not in (0, 1):
-        return edit_runs.Found(False, f"{label}: NOT TRIED: status {ran.status}: {(strange or [ran.text])[0][:200]}")
+        return edit_runs.Found(False, f"{label}: NOT TRIED: status {ran.status}: {(strange or [ran.text])[0][:200].strip()}")
     if scenes:
-        return edit_runs.Found(True, f"{label}: refused: {', '.join(sorted({f'{it[2]} ({it[1]})' for it in scenes})[:3])}")
-    return edit_runs.Found(False, f"{label}: {'LET THROUGH: all scenes come out the same' if ran.status == 0 else 'REFUSED BY NO SCENE'}")
+        return edit_runs.Found(True, f"{label}: refused: {', '.join(scenes[:3])}")
+    return edit_runs.Found(False, f"{label}: {'LET THROUGH: all scenes come out the same' if not errors else 'REFUSED BY NO VALUE'}")
+
+
+def libraries_of(name: str) -> list[str]:
+    """The libraries of the repository that a run over a crate's definitions stands on."""
+    return edit_files.below([name])

@@ -2,3 +2,4 @@
 pub mod SettledScenes
 pub mod DeclineScenes
 pub mod ClockScenes
+pub mod PlanScenes
