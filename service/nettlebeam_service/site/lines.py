@@ -13,32 +13,38 @@ UTILITIES = ("qsub", "qalter", "qhold", "qrls", "qdel", "qstat")
 ROLES = ("operator", "admin")
 # read as lines of the scheduler behind any site, whoever asks
 RESERVED = ("grant", "begin", "finish", "handback", "ship", "take", "plan", "retire", "decline", "compact", "roster")
-# their answers tell of a change of the queue or of the machine: behind a user, and by themselves
-CHANGING_OF_USERS = ("qsub", "qalter", "qhold", "qrls", "qdel", "reserve", "cancel")
-CHANGING_OF_SITES = ("grant", "begin", "finish", "handback", "decline", "retire", "take", "roster")
-CHANGING = CHANGING_OF_USERS + CHANGING_OF_SITES
+CHANGING = (
+    *("qsub", "qalter", "qhold", "qrls", "qdel", "reserve", "cancel"),
+    *("grant", "begin", "finish", "handback", "decline", "retire", "take", "roster"),
+)
 
 USER = re.compile(r"[A-Za-z][A-Za-z0-9_.-]{0,14}\Z")
 PRINTABLE = re.compile(r"[!-~]+\Z")
 JOB = r"[0-9]{1,10}(?:\.[A-Za-z][A-Za-z0-9-]{0,14})?"
 NUMBER = r"[0-9]{1,20}"
 NAME = r"[A-Za-z][A-Za-z0-9-]{0,14}"
+OF_BOARD = ("plan", "plan-json", "why", "chart", "machine", "machine-json", "usage")  # what goes through all jobs
 FEW = 100  # jobs that a line may name without being costly
 
 
 def forms(**texts: str) -> Mapping[str, Pattern[str]]:
     """Patterns of whole lines, by their first words."""
-    return {word: re.compile(f"{word}{text}\\Z") for word, text in texts.items()}
+    return {word: re.compile(f"{word}{text}\\Z") for word, text in ((it.replace("_", "-"), text) for it, text in texts.items())}
 
 
 FOR_ALL = forms(
     why=f" {JOB} {NUMBER}",
     machine=f" {NUMBER}",
+    machine_json=f" {NUMBER}",
     reservations="",
+    reservations_json="",
     jobs=f"(?: {JOB})*",
+    roster="",
     seen="",
+    seen_json="",
     chart=f" {NUMBER}",
     plan=f" {NUMBER}(?: but(?: {JOB})+)?",
+    plan_json=f" {NUMBER}(?: but(?: {JOB})+)?",
 )
 FOR_OPERATORS = ("reserve", "cancel")
 FOR_THE_SITE = forms(
@@ -108,25 +114,24 @@ def line_of(client: Client, words: Sequence[str], role: Optional[str]) -> str:
         if role is None:
             raise Denied(f"{verb} is asked as operator or admin")
         return f"{asker(client, role)} {line}"
-    if verb in FOR_THE_SITE and not client.is_site:
+    look, form = FOR_ALL.get(verb), FOR_THE_SITE.get(verb)
+    if look and look.match(line):
+        return line
+    if form and not client.is_site:
         raise Denied(f"{verb} is asked by the site's own account alone")
-    form = FOR_ALL.get(verb) or FOR_THE_SITE.get(verb)
-    if form is None:
-        raise Denied(f"{verb[:40]!r} is nothing that can be asked here")
-    if not form.match(line):
-        raise Denied(f"the words of {verb} are wrong")
-    return line
+    if form and form.match(line):
+        return line
+    raise Denied(f"the words of {verb} are wrong" if look or form else f"{verb[:40]!r} is nothing that can be asked here")
 
 
-def changes(line: str) -> bool:
-    """Whether a line may change the site, or what others know of it: a packet that leaves tells what it will stand by."""
-    first, _, rest = line.partition(" ")
-    return first in CHANGING_OF_SITES or first == "ship" or rest.partition(" ")[0] in CHANGING_OF_USERS
+def changes(words: Sequence[str]) -> bool:
+    """Whether the answer to words of a client may tell of a change of the queue or of the machine."""
+    return words[0] in CHANGING and words != ["roster"]
 
 
 def is_costly(words: Sequence[str]) -> bool:
     """Whether a line goes through all jobs of the board, or through many: it costs by what it names."""
-    if words[:1] in (["plan"], ["why"], ["chart"], ["machine"], ["usage"]):
+    if words[:1] and words[0] in OF_BOARD:
         return True
     # brackets may mean all members of an array
     named = sum(FEW + 1 if "[" in word else 1 for word in words[1:] if word[:1].isdigit())

@@ -95,7 +95,7 @@ def alter(path: str, words: List[str], role: Optional[str]) -> Told:
     told = Told(0, b"", "")
     if plain or not facts:
         told = ask(path, ["qalter", *plain, "--", *operands], role)
-    if facts and told.status < 2 and not told.answer.startswith(b"usage "):
+    if facts and (not plain or told.has_line("done")):
         by_service = ask(path, ["alter", *operands], role, facts, variables)
         if not plain or (is_needed and (not told.status or by_service.status > 1)):
             told = by_service

@@ -2,7 +2,6 @@
 from __future__ import annotations
 
 from ..common.ask import Told, ask
-from ..common.small_json import loads
 from ..words.options import Fault, parse_anywhere
 
 TYPE_CHECKING = False
@@ -16,7 +15,7 @@ STATE_OF_ARRAY = "B"
 QUEUE = "batch"
 FINISHED = "F"
 UNKNOWN_STATUS, FINISHED_STATUS, NO_QUEUE_STATUS = 153, 35, 170
-OF_NO_ARRAY = ("is no array that is known here", "the array has no such member")
+NOT_ASKED = 2  # of words that the service takes for none, such as those of an array that isn't known
 
 
 class View:
@@ -152,7 +151,7 @@ def jobs_for(path: str, view: View, operands: List[str], role: Optional[str]) ->
     told = ask(path, ["details", kind, *operands], role)
     if told.status:
         return told, []
-    jobs = [loads(line) for line in told.answer.decode().splitlines()]
+    jobs = told.json_lines()
     for job in jobs:
         job["shown"], job["state"] = shown_id(job), state_of(job)
     return None, jobs
@@ -160,13 +159,11 @@ def jobs_for(path: str, view: View, operands: List[str], role: Optional[str]) ->
 
 def jobs_of(path: str, view: View, operands: List[str], role: Optional[str]) -> Tuple[Optional[Told], List[Job], List[str]]:
     """The same of operands, some of which may be arrays that aren't known; and the operands without these."""
-    left = operands
-    while True:
-        fault, jobs = jobs_for(path, view, left, role) if left else (None, [])
-        unknown = fault.words.partition(" ")[0].rstrip(":") if fault and fault.words.endswith(OF_NO_ARRAY) else ""
-        if unknown not in left:
-            return fault, jobs, left
-        left = [operand for operand in left if operand != unknown]
+    fault, jobs = jobs_for(path, view, operands, role) if operands else (None, [])
+    if not fault or fault.status != NOT_ASKED:
+        return fault, jobs, operands
+    left = [operand for operand in operands if "[" not in operand or not ask(path, ["details", "now", operand], role).status]
+    return (fault, [], left) if left == operands else (*(jobs_for(path, view, left, role) if left else (None, [])), left)
 
 
 def view_now(view: View) -> View:
@@ -176,7 +173,7 @@ def view_now(view: View) -> View:
 
 def here_of(path: str) -> str:
     """The name of the site."""
-    return ask(path, ["site"]).answer.decode().strip()
+    return ask(path, ["site"]).name()
 
 
 def qstat(path: str, words: List[str], role: Optional[str]) -> Told:
@@ -226,10 +223,7 @@ def planned(path: str) -> Dict[str, int]:
 
     moment = int(time.time())
     found: Dict[str, int] = {}
-    for line in ask(path, ["plan", str(moment)]).answer.decode().splitlines():
-        words = line.split()
-        if words[:1] == ["start"]:
-            found[words[1]] = moment
-        elif words[:1] == ["head"] and len(words) > 2 and words[2].isdigit():
-            found[words[1]] = int(words[2])
+    for plan in filter(None, ask(path, ["plan-json", str(moment)]).json_lines()):
+        found.update((job["id"], moment) for job in plan["starts"])
+        found.update({plan["head"]["job"]: plan["head"]["second"]} if plan["head"] else {})
     return found

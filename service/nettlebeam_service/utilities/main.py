@@ -17,20 +17,9 @@ if TYPE_CHECKING:
 
 MORE = ("qselect", "qsig", "qmsg", "qmove", "qrerun", "pbsnodes")
 OF_SLURM = ("sbatch", "squeue", "scancel", "sinfo")
-# the number of a refusal is in the answer already
-KINDS = ("refused ", "usage ")
-PROGRAM = "nettlebeam: "
 QUEUE = "batch"
-LINES_IN_FULL = 12
 VERSION = "pbs_version = nettlebeam"
 NO_SITE = "NETTLEBEAM_SOCKET isn't set, and this machine hasn't one service of a site"
-
-
-def words_of(line: str) -> str:
-    """A line of complaints without the number of the refusal."""
-    text = line[len(PROGRAM) :] if line.startswith(PROGRAM) else line
-    number, mark, words = text.partition("): ")
-    return words if mark and text.startswith(KINDS) and number.split(" ")[1].isdigit() else line
 
 
 def alter(path: str, words: List[str], role: Optional[str]) -> Told:
@@ -50,12 +39,16 @@ def list_jobs(path: str, words: List[str], role: Optional[str]) -> Told:
         return qstat(path, words, role)
     is_array = any("[" in operand for operand in operands)
     told = Told(0, b"", "") if is_array else ask(path, ["qstat", *in_order("qstat", words)], role)
-    lines = LINES_IN_FULL if options else 1
-    if told.status or not operands or (not is_array and told.answer.count(b"\n") >= lines * len(operands)):
+    if told.status or not operands or (not is_array and are_living(path, operands)):
         return told
     from .listing import known
 
     return known(path, [f"-{letter}" for letter, _ in options], operands, role)
+
+
+def are_living(path: str, operands: List[str]) -> bool:
+    """Whether none of these jobs is gone, or unknown."""
+    return len([job for job in ask(path, ["jobs", *operands]).json_lines() if job["letter"]]) == len(operands)
 
 
 def change(path: str, utility: str, words: List[str], role: Optional[str]) -> Told:
@@ -123,5 +116,5 @@ def main(utility: str, words: List[str]) -> int:
     except KeyboardInterrupt:
         return 130
     for line in told.words.splitlines():
-        print(f"{utility}: {words_of(line)}", file=sys.stderr)
+        print(f"{utility}: {line}", file=sys.stderr)
     return told.status

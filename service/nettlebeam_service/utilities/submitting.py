@@ -174,8 +174,8 @@ def send(path: str, submission: Submission, options: Options, script: bytes, rol
     if told.status in (1, 2):
         from .complaints import explained
 
-        return explained("qsub", options, told, submission.option_names)
-    name = told.answer.decode("ascii", "replace").strip()
+        return explained("qsub", options, told)
+    name = told.name()
     told.answer = submission.answer(name) if not told.status else told.answer
     if submission.is_blocking and not told.status:
         from .blocking import wait_for
