@@ -46,6 +46,10 @@ class Told:
         """The answer, where it is a name."""
         return self.answer.decode("ascii", "replace").strip()
 
+    def words_of(self, utility: str) -> str:
+        """The words, with the name of the utility that tells them in front of each line."""
+        return "".join(f"{utility}: {line}\n" for line in self.words.splitlines())
+
     def json_lines(self) -> List[Any]:
         """The values of an answer with one of JSON a line; none where it isn't done as asked."""
         return [] if self.status else [loads(line) for line in self.answer.decode().splitlines()]

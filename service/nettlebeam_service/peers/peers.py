@@ -157,7 +157,7 @@ class Peers:
             except BadPacket as fault:
                 raise PeerFault(str(fault)) from None
             if not answer.is_just("taken", "known"):
-                raise PeerFault(f"its packet is answered {answer.shown()[:100]}")
+                raise PeerFault(f"its packet is answered {answer.shown()}")
             peer.taken = digest
             if answer.is_just("taken"):
                 self.wake()

@@ -10,7 +10,7 @@ from .site import Site
 
 Job = Dict[str, Any]  # as the look `jobs` tells it
 Reservation = Dict[str, Any]  # `id`, `site`, `start`, `end`, `nodes`
-Seen = Dict[str, Dict[str, int]]
+Seen = Dict[str, Dict[str, Any]]
 NAMES_OF_LINE = 500
 STARTS = "starts"  # the answer to why a job waits that starts now
 
@@ -85,7 +85,7 @@ def told_in(answer: Answer) -> Any:
     """The value of an answer about the machine."""
     value = answer.json()
     if value is None:
-        raise NoPlan(answer.shown())
+        raise NoPlan(f"the site has no plan: {answer.shown()}")
     return value
 
 
@@ -104,8 +104,7 @@ async def plan_of(site: Site, moment: int, but: Sequence[str] = ()) -> Plan:
 
 async def seen_by(site: Site) -> Seen:
     """Of each site the greatest counter that is `known` here, and up to which one of this site it has `told` that it knows."""
-    seen: Seen = (await site.look("seen-json")).json()
-    return seen
+    return {it["site"]: it for it in (await site.look("seen-json")).json()}
 
 
 async def counter_of(site: Site, here: str) -> int:

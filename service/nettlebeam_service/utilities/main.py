@@ -115,6 +115,5 @@ def main(utility: str, words: List[str]) -> int:
         return 0
     except KeyboardInterrupt:
         return 130
-    for line in told.words.splitlines():
-        print(f"{utility}: {line}", file=sys.stderr)
+    sys.stderr.write(told.words_of(utility))
     return told.status
