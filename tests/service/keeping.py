@@ -61,10 +61,6 @@ for line in iter(sys.stdin.buffer.readline, b""):
     sys.stdout.buffer.write(hook(line, ask))
     sys.stdout.buffer.flush()
 """
-PLAIN = """
-def hook(line, ask):
-    return ask(line)
-"""
 # what refuses to begin jobs as long as a file is there
 REFUSING = """
 def hook(line, ask):
@@ -437,12 +433,12 @@ def refusals(tally, federation):
 
 
 def words(tally, federation):
-    """Users are told the words beside an answer, and not twice what the answer says."""
+    """Users are told the words beside an answer as the site says them."""
     (site,) = federation.make("argonne:4", jobs="run = no")
     job = site.submit("true\n")
     status, output, errors = site.utility("qdel", "900", job)
     tally.same("the answer is as ever", (status, output), (1, "refused 1\ndone\n"))
-    tally.true(f"and the words are told: {errors!r}", errors.startswith("qdel: ") and "900" in errors and "(UnknownJob)" not in errors)
+    tally.true(f"and the words are told: {errors!r}", errors == "qdel: refused 1 (UnknownJob): 900.argonne is no job that argonne knows\n")
     tally.same("an answer without words has none", site.utility("qstat")[2], "")
     counts = collections.Counter(line.split()[0] for line in site.said("seen").splitlines())
     tally.same("looks are whole", counts, {"argonne": 1})

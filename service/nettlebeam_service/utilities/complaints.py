@@ -6,7 +6,7 @@ from ..words.options import OPTIONS, parse_anywhere
 
 TYPE_CHECKING = False
 if TYPE_CHECKING:
-    from typing import List, Optional, Tuple
+    from typing import Dict, List, Optional, Tuple
 
     Options = List[Tuple[str, Optional[str]]]
 
@@ -15,6 +15,8 @@ OF_SITE = {"qsub": "AhlNpC", "qalter": "AlNp", "qhold": "h", "qrls": "h"}
 WITHOUT_ARGUMENTS = "IVXz"
 PBS_LISTS = (":", "select", "ncpus", "mem")
 USAGES = tuple(f"usage {number}" for number in range(1, 9))
+UNKNOWN_SITE = "usage 6"
+NOT_ASKED = 2  # the status of words that the service takes for none
 
 
 def is_plain(utility: str, options: Options) -> bool:
@@ -24,13 +26,21 @@ def is_plain(utility: str, options: Options) -> bool:
     return not is_list and more.isdisjoint(letter for letter, _ in options)
 
 
-def explained(utility: str, options: Options, told: Told) -> Told:
-    """What the site answered. What PBS has besides is complained of on standard error alone, so that nothing takes a complaint for
+def explained(utility: str, options: Options, told: Told, names: Dict[str, str]) -> Told:
+    """What the site answered, and where it is about the options which these are, those of the script among them; some have other
+    names than those of qsub. What PBS has besides is complained of on standard error alone, so that nothing takes a complaint for
     an identifier."""
+    given = [(names.get(letter, f"-{letter}"), argument) for letter, argument in options if argument is not None]
+    queue = dict(options).get("q")
+    if queue and told.is_just(UNKNOWN_SITE):  # a queue is a site here
+        return Told(told.status, b"", f"{names.get('q', '-q')} {queue}: there is no queue and no site of this name")
+    words = told.words
+    if given and (told.is_just(*USAGES) or told.status == NOT_ASKED):
+        words += f"\nthe options are {' '.join(f'{name} {argument}' for name, argument in given)}"
     is_complaint = told.is_just(*USAGES) or utility == "qsub"
-    return Told(told.status, b"", told.words) if is_complaint and not is_plain(utility, options) else told
+    return Told(told.status, b"" if is_complaint and not is_plain(utility, options) else told.answer, words)
 
 
 def explained_words(utility: str, words: List[str], told: Told) -> Told:
     """The same by the words of a utility."""
-    return explained(utility, parse_anywhere(utility, words)[0], told)
+    return explained(utility, parse_anywhere(utility, words)[0], told, {})

@@ -174,7 +174,7 @@ def send(path: str, submission: Submission, options: Options, script: bytes, rol
     if told.status in (1, 2):
         from .complaints import explained
 
-        return explained("qsub", options, told)
+        return explained("qsub", options, told, submission.option_names)
     name = told.name()
     told.answer = submission.answer(name) if not told.status else told.answer
     if submission.is_blocking and not told.status:
