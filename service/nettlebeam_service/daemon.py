@@ -124,7 +124,7 @@ class Service:
         eligibility = Eligibility(config.name, self.site)
         parts = (self.site, self.spool, exchange, signals, compacting, told, self.waits)
         self.requests = Requests(*parts, self.unheard, self.user_limits, eligibility, self.changed)
-        self.users = Users(config.site)
+        self.users = Users(config.site, self.site.known)
         self.clients = Clients(config.clients, self.users, self.requests, os.getuid(), log)
         self.peers = Peers(config.name, config.peers, self.site, exchange, eligibility, log, self.changed)
         self.unheard.is_silent = self.peers.is_silent

@@ -14,7 +14,7 @@ from ..peers.unheard_changes import Unheard
 from ..site.backup import NoBackup
 from ..site.exchange import Exchange
 from ..site.answers import Answer
-from ..site.lines import Client, Denied, asker, changes, check_words, line_of
+from ..site.lines import Client, Denied, asker, check_words, line_of
 from ..site.looks import now, told_of
 from ..site.packets import BadPacket
 from ..site.site import Lost, NotKept, Silent, Site, Stopped
@@ -109,6 +109,8 @@ class Requests:
     async def do(self, client: Client, request: Request) -> Reply:
         """Does what is asked, as far as the client has room for it."""
         check_words(request.words)
+        if not self.site.known.utilities:
+            raise Stopped(self.site.trouble)  # the program hasn't told yet what may be asked
         request.words = await self.waits.arrays.expanded(request.words)
         async with self.user_limits.hold(client, request):
             return await self.do_words(client, request)
@@ -116,7 +118,7 @@ class Requests:
     async def do_words(self, client: Client, request: Request) -> Reply:
         """Does what the words ask."""
         verb = request.words[0]
-        if (verb == "alter" or changes(request.words)) and not self.site.has_room():
+        if (verb == "alter" or self.site.known.changes(request.words)) and not self.site.has_room():
             return Reply(3, words="the disk of the site is full")
         if verb in TO_RUNNING:
             return await self.signals.answer(client, request)
@@ -138,7 +140,7 @@ class Requests:
             return Reply(0, await self.waits.usage.answer(client, request.words, request.role))
         if verb == "alter":
             return await self.waits.altering.answer(client, request)
-        line = line_of(client, request.words, request.role)
+        line = line_of(self.site.known, client, request.words, request.role)
         if verb == "ship":
             self.check_known(request.words[1])
             return (await self.exchange.packet(request.words[1])).reply()
@@ -146,7 +148,7 @@ class Requests:
             return (await self.why(request.words[1], line)).reply()
         if verb == "grant":
             return self.changed_by(await self.eligibility.grant(*request.words[1:3]))
-        if not changes(request.words):
+        if not self.site.known.changes(request.words):
             return (await self.site.look(line)).reply()
         answer = await self.unheard.with_words(request.words, await self.site.ask(line))
         if verb == "roster":
@@ -172,7 +174,7 @@ class Requests:
 
     async def submit(self, client: Client, request: Request) -> Reply:
         """Submits a job with its script, which the disk has before the site is asked."""
-        line = line_of(client, request.words, request.role)
+        line = line_of(self.site.known, client, request.words, request.role)
         variables, script = split_body(request)
         facts: Dict[str, Any] = {**request.facts, "owner": asker(client, None), "ctime": str(now())}
         facts.pop("variables", None)

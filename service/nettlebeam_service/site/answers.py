@@ -6,7 +6,7 @@ handed on as it is. No other module sees the bytes of an answer (tools/texts).
 from __future__ import annotations
 
 import json
-from typing import Any, Dict, List, Optional, Sequence
+from typing import Any, Dict, List, Optional, Sequence, Set
 
 from ..common.identifiers import IDENTIFIER
 from ..common.wire import Reply
@@ -52,6 +52,13 @@ class Answer:
         """The sites and their nodes, of an answer that names them as a roster does."""
         pairs = [word.split(":") for word in self._said.decode("ascii").split()] if not self.status else []
         return {name: int(nodes) for name, nodes in pairs}
+
+    def by_kinds(self) -> Dict[str, Set[str]]:
+        """The words that the program tells of its lines: a kind and a word in each line."""
+        found: Dict[str, Set[str]] = {}
+        for kind, word in (line.split() for line in self._said.decode("ascii").splitlines()):
+            found.setdefault(kind, set()).add(word)
+        return found
 
     # What is handed on
 

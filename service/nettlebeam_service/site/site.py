@@ -7,14 +7,17 @@ import os
 import time
 from typing import AsyncIterator, Callable, Dict, Optional, Sequence
 
+from ..common.commands import call
 from ..common.processes import processor_seconds
 from .answers import NOT_KEPT, Answer, FrameReader
+from .lines import Known
 from .lost_state import LostState
 from .unanswered import IS_FOR_SOMEBODY, Unanswered
 
 SHORTEST_PAUSE, LONGEST_PAUSE = 0.1, 60.0  # before a child that has ended is started again, each time twice as long
 CHUNK = 1 << 20
 END_SECONDS = 120
+WORDS_SECONDS = 20.0
 # in frames; and without the second the child would compact its journal by itself, at moments that no backup knows of
 OPTIONS = ("--frames", "--keep-history")
 
@@ -57,6 +60,7 @@ class Site:
     def __init__(self, program: str, folder: str, free_bytes: int, lost_state: LostState, log: Callable[[str], None]):
         self.program = program
         self.folder = folder
+        self.known = Known()
         self.roster: Dict[str, int] = {}  # the nodes of all sites, as this site knows them; none before it has answered
         self.free_bytes = free_bytes
         self.lost_state = lost_state
@@ -131,6 +135,7 @@ class Site:
 
     async def run_once(self) -> None:
         """One life of the child."""
+        await self.learn_words()
         pipe, command = asyncio.subprocess.PIPE, (self.program, "serve", *OPTIONS, self.folder)
         process = await asyncio.create_subprocess_exec(
             *command, stdin=pipe, stdout=pipe, stderr=pipe, start_new_session=True, limit=CHUNK
@@ -174,6 +179,14 @@ class Site:
         finally:
             self.interlude = None
             interlude.over.set()
+
+    async def learn_words(self) -> None:
+        """Has the program tell which words it knows. OSError where it doesn't. Each child may be of another program."""
+        try:
+            done = await call((self.program, "words"), WORDS_SECONDS, most=CHUNK)
+            self.known.learn(Answer(done.out).by_kinds())
+        except (asyncio.TimeoutError, KeyError):
+            raise OSError(0, "it doesn't tell its words") from None
 
     async def probe(self) -> None:
         """Waits until the site answers, so that others are told that it does."""
