@@ -2,7 +2,7 @@
 from __future__ import annotations
 
 from ..common.ask import Told
-from ..words.options import OPTIONS, parse_anywhere
+from ..words.options import OPTIONS
 
 TYPE_CHECKING = False
 if TYPE_CHECKING:
@@ -15,7 +15,7 @@ OF_SITE = {"qsub": "AhlNpC", "qalter": "AlNp", "qhold": "h", "qrls": "h"}
 WITHOUT_ARGUMENTS = "IVXz"
 PBS_LISTS = (":", "select", "ncpus", "mem")
 USAGES = tuple(f"usage {number}" for number in range(1, 9))
-UNKNOWN_SITE = "usage 6"
+BAD_VALUE, UNKNOWN_SITE = "usage 4", "usage 6"
 NOT_ASKED = 2  # the status of words that the service takes for none
 
 
@@ -35,12 +35,7 @@ def explained(utility: str, options: Options, told: Told, names: Dict[str, str])
     if queue and told.is_just(UNKNOWN_SITE):  # a queue is a site here
         return Told(told.status, b"", f"{names.get('q', '-q')} {queue}: there is no queue and no site of this name")
     words = told.words
-    if given and (told.is_just(*USAGES) or told.status == NOT_ASKED):
+    if given and (told.is_just(BAD_VALUE, UNKNOWN_SITE) or told.status == NOT_ASKED):
         words += f"\nthe options are {' '.join(f'{name} {argument}' for name, argument in given)}"
     is_complaint = told.is_just(*USAGES) or utility == "qsub"
     return Told(told.status, b"" if is_complaint and not is_plain(utility, options) else told.answer, words)
-
-
-def explained_words(utility: str, words: List[str], told: Told) -> Told:
-    """The same by the words of a utility."""
-    return explained(utility, parse_anywhere(utility, words)[0], told, {})

@@ -2,7 +2,7 @@
 from __future__ import annotations
 
 from ..common.ask import Told, ask
-from ..words.options import Fault, parse_anywhere
+from ..words.options import Fault, Words
 
 TYPE_CHECKING = False
 if TYPE_CHECKING:
@@ -129,10 +129,9 @@ def named(operands: List[str], jobs: List[Job], view: View) -> Tuple[List[Job], 
     return [job for job in jobs if is_shown(job, view)], said, status
 
 
-def read_options(words: List[str]) -> Tuple[Dict[str, Optional[str]], List[str]]:
-    """The options, and the operands. Fault where an option isn't known, or two can't be together."""
-    options, operands = parse_anywhere("qstat", words)
-    found = dict(options)
+def known_options(words: Words) -> Dict[str, Optional[str]]:
+    """The options by their letters. Fault where one isn't known, or lacks its argument."""
+    found = dict(words.options)
     for letter in found:
         if letter not in KNOWN:
             raise Fault(f"there is no option -{letter} here")
@@ -141,7 +140,7 @@ def read_options(words: List[str]) -> Tuple[Dict[str, Optional[str]], List[str]]
             raise Fault(f"-{letter} needs an argument")
     if found.get("F", "json") not in ("json", "dsv"):
         raise Fault(f"-F {found['F']}: there are json and dsv")
-    return found, operands
+    return found
 
 
 def jobs_for(path: str, view: View, operands: List[str], role: Optional[str]) -> Tuple[Optional[Told], List[Job]]:
@@ -176,10 +175,9 @@ def here_of(path: str) -> str:
     return ask(path, ["site"]).name()
 
 
-def qstat(path: str, words: List[str], role: Optional[str]) -> Told:
+def qstat(path: str, words: Words, role: Optional[str]) -> Told:
     """Lists what is asked for."""
-    options, operands = read_options(words)
-    view = View(options, here_of(path))
+    view, operands = View(known_options(words), here_of(path)), words.operands
     if any(operand in (QUEUE, f"@{view.here}", f"{QUEUE}@{view.here}") for operand in operands):
         operands = []  # all that are in the queue
     if view.has("QqB"):
