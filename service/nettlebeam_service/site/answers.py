@@ -12,6 +12,7 @@ from ..common.identifiers import IDENTIFIER
 from ..common.wire import Reply
 
 NOT_KEPT = 3
+LONG = 1 << 20  # bytes from which on an answer isn't copied out of what came, since a packet may have a gibibyte
 
 
 class Answer:
@@ -19,7 +20,7 @@ class Answer:
 
     __slots__ = ("_said", "_words", "status")
 
-    def __init__(self, said: bytes, words: str = "", status: int = 0):
+    def __init__(self, said: bytes | bytearray, words: str = "", status: int = 0):
         self._said = said
         self._words = words
         self.status = status
@@ -70,7 +71,7 @@ class Answer:
         """The words beside it, for people to read."""
         return self._words
 
-    def whole(self) -> bytes:
+    def whole(self) -> bytes | bytearray:
         """All bytes, for who asked for them, or as a packet for another site."""
         return self._said
 
@@ -106,8 +107,12 @@ class FrameReader:
         self.wanted = end + answer + words
         if len(self.held) < self.wanted:
             return None
-        with memoryview(self.held) as held:
-            said, told = bytes(held[end : end + answer]), str(held[end + answer : self.wanted], "ascii", "replace")
-        del self.held[: self.wanted]
-        self.wanted = 0
+        words_place, behind, self.wanted = end + answer, self.wanted, 0
+        told = self.held[words_place:behind].decode("ascii", "replace")
+        if answer < LONG:
+            said: bytes | bytearray = bytes(memoryview(self.held)[end:words_place])
+            del self.held[:behind]
+        else:
+            said, self.held = self.held, self.held[behind:]
+            del said[words_place:], said[:end]
         return Answer(said, told, status)
