@@ -5,10 +5,15 @@ import grp
 import os
 import re
 import shutil
+import subprocess
 from typing import Dict, List, Sequence, Set
 
+from .common.ask import Unasked, ask
 from .common.config import Config
 from .peers.seal import BadSeal, read_key
+from .site.answers import Answer
+
+ROSTER_SECONDS = 10
 
 MARK = re.compile(r"\{[^{}]*\}")
 MARKS: Dict[str, Set[str]] = {"start": {"{user}", "{id}"}, "stop": {"{user}", "{id}", "{pid}", "{signal}"}, "link": {"{host}"}}
@@ -54,7 +59,29 @@ def key_faults(config: Config) -> List[str]:
     return found
 
 
-def faults(config: Config) -> List[str]:
+def roster_of(config: Config) -> Dict[str, int]:
+    """The roster that the site knows: by the service, where one has the site now, and else by the program. None where neither
+    tells it."""
+    try:
+        told = ask(config.site.socket, ["roster"])
+        return Answer(told.answer, told.words, told.status).roster()
+    except Unasked:
+        pass
+    words = [config.site.program, "at", config.site.directory, "roster"]
+    try:
+        done = subprocess.run(words, stdin=subprocess.DEVNULL, capture_output=True, timeout=ROSTER_SECONDS, check=False)
+    except (OSError, subprocess.TimeoutExpired):
+        return {}
+    return Answer(done.stdout, "", done.returncode).roster()
+
+
+def peer_faults(config: Config, roster: Dict[str, int]) -> List[str]:
+    """Sections of sites that the roster hasn't."""
+    unknown = [name for name in config.peers if roster and name not in roster]
+    return [f"[peer {name}]: {name} is no other site of the roster: {' '.join(roster)}" for name in unknown]
+
+
+def faults(config: Config, roster: Dict[str, int]) -> List[str]:
     """All that is wrong."""
     site, jobs = config.site, config.jobs
     found = command_faults("[site] program", [site.program]) + command_faults("[site] backup", site.backup)
@@ -65,7 +92,7 @@ def faults(config: Config) -> List[str]:
         found.append(f"[site] directory = {site.directory}: this account may not write there")
     if os.path.exists(site.spool) and not os.access(site.spool, os.R_OK | os.W_OK | os.X_OK):
         found.append(f"[site] spool = {site.spool}: this account may not write there")
-    return found + group_faults(config) + key_faults(config)
+    return found + group_faults(config) + key_faults(config) + peer_faults(config, roster)
 
 
 def notes(config: Config) -> List[str]:

@@ -19,7 +19,7 @@ from .clients.user_limits import UserLimits
 from .clients.users import Users
 from .common.config import Config, ConfigFault, read_config
 from .common.processes import allow_many_files
-from .config_check import faults, notes
+from .config_check import faults, notes, roster_of
 from .housekeeping.capacity import Capacity
 from .housekeeping.compacting import Compacting
 from .housekeeping.daily import Housekeeping
@@ -108,7 +108,7 @@ class Service:
         keys = config.site
         self.spool = Spool(keys.spool, keys.free_bytes)
         self.lost_state = LostState(keys.spool, log)
-        self.site = Site(keys.program, keys.directory, list(config.roster), keys.free_bytes, self.lost_state, log)
+        self.site = Site(keys.program, keys.directory, keys.free_bytes, self.lost_state, log)
         self.backup = Backup(keys.backup, keys.backup_seconds, os.path.join(keys.spool, "backup.lock"), keys.program, log)
         self.nodes = Nodes(config.jobs, keys.spool, log, self.changed)
         self.runs = Runs(config.jobs, self.site, self.spool, self.nodes, log, self.changed)
@@ -116,15 +116,15 @@ class Service:
         starts = Starts(self.spool, self.backup, self.runs, node_reports, log)
         signals = Signals(config.name, self.site, self.runs)
         told = NodeRequests(self.nodes, self.runs, log)
-        compacting = Compacting(config.house, self.site, self.backup, log)
+        compacting = Compacting(config.house, self.site, self.backup, keys.spool, log)
         self.waits = Waits(config, self.site, self.spool, self.runs, log, self.changed)
         self.unheard = Unheard(config.name, self.site, keys.spool, log)
         self.user_limits = UserLimits(config.name, config.clients, self.site, self.spool)
         exchange = Exchange(self.site, self.spool, self.backup)
-        eligibility = Eligibility(config.name, config.roster, self.site)
+        eligibility = Eligibility(config.name, self.site)
         parts = (self.site, self.spool, exchange, signals, compacting, told, self.waits)
         self.requests = Requests(*parts, self.unheard, self.user_limits, eligibility, self.changed)
-        self.users = Users(config.site)
+        self.users = Users(config.site, self.site.known)
         self.clients = Clients(config.clients, self.users, self.requests, os.getuid(), log)
         self.peers = Peers(config.name, config.peers, self.site, exchange, eligibility, log, self.changed)
         self.unheard.is_silent = self.peers.is_silent
@@ -236,13 +236,7 @@ def main(words: List[str]) -> int:
         print(f"nettlebeamd: {path}: {fault}", file=sys.stderr)
         return 2
     if is_check:
-        found = faults(config)
-        for line in [*found, *notes(config)]:
-            print(f"nettlebeamd: {path}: {line}", file=sys.stderr)
-        if found:
-            return 2
-        print(f"{path}: the configuration of {config.name}, with {len(config.peers)} of {len(config.roster) - 1} other sites")
-        return 0
+        return check(path, config)
     os.umask(0o077)
     allow_many_files()
     try:
@@ -250,6 +244,19 @@ def main(words: List[str]) -> int:
     except OSError as fault:
         log(f"the service can't run: {fault}")
         return 3
+
+
+def check(path: str, config: Config) -> int:
+    """Tells what is wrong with a configuration, and what has to be made first."""
+    roster = roster_of(config)
+    found = faults(config, roster)
+    for line in [*found, *notes(config)]:
+        print(f"nettlebeamd: {path}: {line}", file=sys.stderr)
+    if found:
+        return 2
+    others = f"{len(roster) - 1} other sites" if roster else "the other sites, which the program doesn't tell now"
+    print(f"{path}: the configuration of {config.name}, with {len(config.peers)} of {others}")
+    return 0
 
 
 async def run(path: str, config: Config) -> int:

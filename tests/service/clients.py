@@ -6,9 +6,10 @@ import shutil
 import subprocess
 import time
 
-from tests.playing import TOP
+from tests.playing import TOP, call
+from tests.service.keeping import write
 from tests.service.pbs import work_in
-from tests.service.scenes import read
+from tests.service.scenes import ME, read
 from tests.service.sites import until
 
 NAMES = ("qsub", "qstat", "qdel", "qhold", "qrls", "qalter")
@@ -37,6 +38,12 @@ if state and state.group(1) == "F":
     print("success" if ended and ended.group(1) == "0" else "failed")
 else:
     print("running")
+"""
+# the program, whose journal may have so many blocks
+LIMITED = """#!/bin/bash
+trap '' XFSZ
+ulimit -f 4
+exec {program} "$@"
 """
 CLUSTER = "qsub -q batch -l nodes=1:ppn={threads},walltime={resources.time} -j oe -o logs/{rule}.{jobid}.log"
 
@@ -102,4 +109,39 @@ def snakemake(tally, federation):
     print(f"tests/service/rows: snakemake: 30 jobs in {time.monotonic() - began:.1f} s")
 
 
-SCENES = {it.__name__: it for it in (pbs_examples, snakemake)}
+def statuses(tally, federation):
+    """Each status of an answer, with its words: by `at` in a directory, and by the service, which asks `serve --frames`."""
+    limited, alone = f"{federation.folder}/limited", f"{federation.folder}/alone"
+    write(limited, LIMITED.format(program=federation.program).encode())
+    os.chmod(limited, 0o755)
+    federation.program = limited
+    (site,) = federation.make("argonne:4", "lemont:4", jobs="run = no")[:1]
+    call([limited, "init", alone, "argonne", "argonne:4", "lemont:4"])
+    own = ME
+    lines = (
+        ("qsub -h -N render", 0, "1.argonne\n", ""),
+        ("qalter -p 3 1", 0, "done\n", ""),
+        ("qstat 1", 0, f"{'1.argonne':18} {'render':16} {own:16} H      3        1      3600 -\n", ""),
+        ("qdel 900", 1, "refused 1\n", "refused 1 (UnknownJob): 900.argonne is no job that argonne knows"),
+        ("qhold -h s 1", 1, "refused 2\n", f"refused 2 (NotPermitted): {own} may not hold 1.argonne (kinds s), whose owner is {own}"),
+        ("qsub -p 5000", 1, "usage 4\n", "usage 4 (BadValue): 5000 is no priority from -1024 to 1023"),
+        ("qdel", 1, "usage 7\n", "usage 7 (MissingOperand): qdel names no job"),
+    )
+    for line, *wanted in lines:
+        status, output, errors = call([limited, "at", alone, own, *line.split()])
+        tally.same(f"{line} by at", [status, output, errors.partition("nettlebeam: ")[2].strip()], wanted)
+        told = site.ask(*line.split())
+        tally.same(f"{line} by the service", [told.status, told.answer.decode(), told.words], wanted)
+    call([limited, "serve", alone], "".join(f"{own} qalter -p {number} 1\n" for number in range(200)).encode())
+    for number in range(200):
+        site.ask("qalter", "-p", str(number), "1")
+    status, output, errors = call([limited, "at", alone, own, "qdel", "1"])
+    tally.same("without room by at", (status, output, "File too large" in errors), (3, "", True))
+    told = site.ask("qdel", "1")
+    tally.same("without room by the service", (told.status, told.answer, "File too large" in told.words), (3, b"", True))
+    kept = call([limited, "at", alone, "jobs"])[1]
+    tally.same("nothing of it is kept", ('"deleted":false' in kept, site.jobs()["1.argonne"]["deleted"]), (True, False))
+    tally.same("a look is answered all the same", site.ask("qstat").status, 0)
+
+
+SCENES = {it.__name__: it for it in (pbs_examples, snakemake, statuses)}

@@ -7,7 +7,7 @@ import subprocess
 import threading
 import time
 
-from tests.service.keeping import PLAIN, read, rewrite, shim
+from tests.service.keeping import read, rewrite
 from tests.service.scenes import OTHER, as_user, is_root
 from tests.service.sites import Unasked, until
 
@@ -174,15 +174,13 @@ def compact_now(tally, federation):
         tally.same("another user can't", site.utility("qask", "compact", before=as_user(OTHER))[:2], (2, ""))
     site.kill(signal.SIGTERM)
     tally.same("it ends in order", site.process.returncode, 0)
-    telling = shim(f"{federation.folder}/telling", federation.program, PLAIN)
-    rewrite(site, f"program = {federation.program}", f"program = {telling}")
     rewrite(site, "compact = 0\n", "compact = 0.3\n")
     site.start()
     site.wait_ready()
-    grow(site, job)
     time.sleep(1)
-    tally.same("it isn't asked to", site.utility("qask", "compact")[:2], (3, ""))
-    tally.same("a program that doesn't know how isn't asked", ("compacted: " in site.logged().split("ready")[-1], site.ask("qstat").status), (False, 0))
+    tally.same("a service that is started anew knows how long the journal was then", done(site), 0)
+    grow(site, job)
+    until(lambda: done(site), 10, "once it is twice as long it is compacted")
 
 
 def slow_compactions(tally, federation):

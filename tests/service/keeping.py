@@ -41,18 +41,15 @@ def read(path):
 
 
 # the program between the service and the real one: it hands lines and frames on, one after the other, and `hook` may change
-# a frame, or give one without asking; it knows no --keep-history
+# a frame, or give one without asking
 SHIM = """#!/usr/bin/python3
 import os, subprocess, sys
 real = {program!r}
 {hook}
-if sys.argv[1:] == ["serve", "--help"]:
-    print("Usage: nettlebeam serve --frames DIR")
-    sys.exit()
 if sys.argv[1] != "serve":
     os.execv(real, ["nettlebeam", *sys.argv[1:]])
 assert sys.argv[2] == "--frames"
-serve = subprocess.Popen([real, "serve", "--frames", sys.argv[-1]], stdin=subprocess.PIPE, stdout=subprocess.PIPE)
+serve = subprocess.Popen([real, *sys.argv[1:]], stdin=subprocess.PIPE, stdout=subprocess.PIPE)
 def ask(line):
     serve.stdin.write(line)
     serve.stdin.flush()
@@ -63,10 +60,6 @@ def ask(line):
 for line in iter(sys.stdin.buffer.readline, b""):
     sys.stdout.buffer.write(hook(line, ask))
     sys.stdout.buffer.flush()
-"""
-PLAIN = """
-def hook(line, ask):
-    return ask(line)
 """
 # what refuses to begin jobs as long as a file is there
 REFUSING = """
@@ -218,11 +211,11 @@ def cut_accounts(tally, federation):
     folder = f"{federation.folder}/books"
     jobs = [{"id": f"{number}.argonne", "begun": None, "deleted": True, "finished": None, "grant": None} for number in range(1, 4)]
     jobs[1]["finished"] = {"moment": 5, "status": 0}
-    lines = [json.dumps(job) for job in jobs]
-    accounting.Accounting(folder, "argonne").record(lines[:1])
+    lines = [json.dumps(job, separators=(",", ":")) for job in jobs]
+    accounting.Accounting(folder, "argonne").record(jobs[:1])
     (month,) = glob.glob(f"{folder}/*.jsonl")
     before, before_index = read(month), read(f"{folder}/recorded")
-    accounting.Accounting(folder, "argonne").record(lines)
+    accounting.Accounting(folder, "argonne").record(jobs)
     whole, index = read(month), read(f"{folder}/recorded")
     tally.same("all three are recorded", whole.decode().splitlines(), lines)
     cuts = [(size, len(before_index)) for size in range(len(before), len(whole) + 1)]
@@ -232,24 +225,24 @@ def cut_accounts(tally, federation):
         write(month, whole[:size])
         write(f"{folder}/recorded", index[:index_size])
         again = accounting.Accounting(folder, "argonne")
-        again.record(lines)
-        again.record(lines)
+        again.record(jobs)
+        again.record(jobs)
         wrong += sorted(read(month).decode().splitlines()) != sorted(lines)
         wrong += names_in(read(f"{folder}/recorded")) != names_in(index)
     tally.same(f"after each of {len(cuts)} cuts each is there once", wrong, 0)
     begun, old = int(time.time()), b"1.argonne\n2.argonne\n"
     write(f"{folder}/recorded", old)
     again = accounting.Accounting(folder, "argonne")
-    tally.same("a list without moments is known", again.record(lines), 0)
+    tally.same("a list without moments is known", again.record(jobs), 0)
     tally.same("and is of this moment", min(it.moment for it in again.known.values()) >= begun, True)
     tally.same("so all were recorded by now", again.recorded_before(jobs, time.time()), {job["id"] for job in jobs})
     tally.same("and none before", again.recorded_before(jobs, begun - 1), set())
-    tally.same("each moment is kept", accounting.Accounting(folder, "argonne").record(lines), 0)
+    tally.same("each moment is kept", accounting.Accounting(folder, "argonne").record(jobs), 0)
     tally.same("which takes no further line", names_in(read(f"{folder}/recorded")[len(old) :]), [f"{number}.argonne" for number in range(1, 4)])
     other = [dict(jobs[0], id="9.lemont"), dict(jobs[0], id="8.argonne", grant={"site": "lemont", "term": 1}), dict(jobs[0], deleted=False)]
-    tally.same("what may still change isn't recorded", accounting.Accounting(folder, "argonne").record([json.dumps(it) for it in other]), 0)
+    tally.same("what may still change isn't recorded", accounting.Accounting(folder, "argonne").record(other), 0)
     mine = dict(jobs[0], id="9.lemont", grant={"site": "argonne", "term": 1})
-    tally.same("what this site alone could begin is", accounting.Accounting(folder, "argonne").record([json.dumps(mine)]), 1)
+    tally.same("what this site alone could begin is", accounting.Accounting(folder, "argonne").record([mine]), 1)
 
 
 def declines(tally, federation):
@@ -440,12 +433,12 @@ def refusals(tally, federation):
 
 
 def words(tally, federation):
-    """Users are told the words beside an answer, and not twice what the answer says."""
+    """Users are told the words beside an answer as the site says them."""
     (site,) = federation.make("argonne:4", jobs="run = no")
     job = site.submit("true\n")
     status, output, errors = site.utility("qdel", "900", job)
     tally.same("the answer is as ever", (status, output), (1, "refused 1\ndone\n"))
-    tally.true(f"and the words are told: {errors!r}", errors.startswith("qdel: ") and "900" in errors and "(UnknownJob)" not in errors)
+    tally.true(f"and the words are told: {errors!r}", errors == "qdel: refused 1 (UnknownJob): 900.argonne is no job that argonne knows\n")
     tally.same("an answer without words has none", site.utility("qstat")[2], "")
     counts = collections.Counter(line.split()[0] for line in site.said("seen").splitlines())
     tally.same("looks are whole", counts, {"argonne": 1})

@@ -144,7 +144,7 @@ def words_anywhere(tally, federation):
     done = subprocess.run(["sh", "-c", loop], capture_output=True, text=True, check=False, timeout=60, env=environment)
     tally.same("a loop until it has ended ends", (done.stdout, done.stderr.count("has finished")), ("35\n", 2))
     altered = (held, "-N", "later", "-l", "nodes=3", "-o", "there.out", "-l", "walltime=2:00", "-h")
-    tally.same("qalter has no -h", site.utility("qalter", *altered, cwd=folder), (1, "", "qalter: qalter has no option -h\n"))
+    tally.same("qalter has no -h", site.utility("qalter", *altered, cwd=folder), (1, "", "qalter: usage 2 (UnknownOption): qalter has no option -h\n"))
     tally.same("qalter", site.utility("qalter", *altered[:-1], cwd=folder), (0, "done\n", ""))
     told = site.jobs(held)[held]
     tally.same("with both lists", [told[key] for key in ("name", "nodes", "limit")], ["later", 3, 120])
@@ -160,22 +160,22 @@ def words_anywhere(tally, federation):
     tally.same("qsub's lists are joined", (status, [told[key] for key in ("name", "nodes", "limit")]), (0, ["late.sh", 3, 300]))
     tally.same("what stands behind a script is said to be passed over", errors, "qsub: -N is passed over, since a script is given no words\n")
     for utility, words, option in (
-        ("qsub", ("-p", "x"), "-p x: "),
-        ("qsub", ("-N", "5x"), "-N 5x: "),
-        ("qsub", ("-A", "a b"), "-A a b: "),
-        ("qsub", ("-l", "color=red"), "-l color=red: "),
+        ("qsub", ("-p", "x"), "the options are -p x\n"),
+        ("qsub", ("-N", "5x"), "the options are -N 5x\n"),
+        ("qsub", ("-A", "a b"), "the options are -A a b\n"),
+        ("qsub", ("-l", "color=red"), "the options are -l color=red\n"),
         ("qsub", ("-j", "x"), "-j x: "),
         ("qsub", ("-J", "5-1"), "-J 5-1: "),
         ("qsub", ("-W", "depend=on:3"), "-W depend=on:3: "),
-        ("qsub", ("-W", "depend=afterok:900"), "-W depend: 900.argonne isn't known here"),
+        ("qsub", ("-W", "depend=afterok:900"), "the options are -W depend=afterok:900\n"),
         ("qselect", ("-s", "Z"), "-s Z "),
         ("qsub", ("-l", "nodes=2:ppn=x"), "-l nodes: ppn=x "),
-        ("qalter", ("-p", "x", output.strip()), "-p x: "),
-        ("qhold", ("-h", "z", output.strip()), "-h z: "),
+        ("qalter", ("-p", "x", output.strip()), "the options are -p x\n"),
+        ("qhold", ("-h", "z", output.strip()), "the options are -h z\n"),
         ("qstat", ("-Y",), "there is no option -Y "),
     ):
         told = site.utility(utility, *words, given="true\n", cwd=folder)
-        tally.same(f"{utility} {words} is named: {told[2]!r}", (bool(told[0]), told[2].startswith(f"{utility}: {option}")), (True, True))
+        tally.same(f"{utility} {words} is named: {told[2]!r}", (bool(told[0]), f"{utility}: {option}" in told[2]), (True, True))
 
 
 def full_listings(tally, federation):

@@ -95,7 +95,7 @@ def page(tally, federation):
     tally.same("its own page", read_page("/jobs/2")[0], 200)
     tally.same("each job shown has its row", text.count('href="/jobs/'), 20)
     tally.true("and its reason", "held: user" in text and "starts" in text)
-    tally.true("the chart tells times of the day", re.search(r"from [0-9]{2}:[0-9]{2} on", text) and "viewBox" in text)
+    tally.true("the chart tells times of the day", re.search(r"from [0-9]{2}:[0-9]{2} to", text) and "viewBox" in text)
     told = json.loads(read_page("/jobs.json")[1])
     tally.same("all jobs as JSON", [job["id"] for job in told], list(site.jobs()))
     for path in ("/nothing", "/jobs/900.argonne", "/jobs/1.nowhere", "/jobs/<b>", "/?from=x", "/..%2f"):
@@ -158,7 +158,7 @@ def keys(tally, federation):
     tally.same("with its defaults", settings.read_node_keys(path), settings.NodeKeys())
     for wrong, told in (("[jobs]\nhots = a\n", "hots"), ("[job]\n", "job"), ("[page]\nport = x\n", "port"), ("[jobs]\nrun = 1\n", "drain"),
                         ("[peer lemont]\nfolder = /x\n", "key"), ("[house]\nevery = -1\n", "below 0"),
-                        ("[peer rome]\ncommand = x\n", "rome"), ("[peer lemont]\n", "command or folder"), ("[jobs]\nhosts = a b a\n", "twice"), ("[jobs]\nlink = x {host}\n", "hosts"), ("[jobs]\nhosts = a\nlink = x\n", "{host}"), ("[jobs]\ncount = 1\n", "count"), ("x\n", "line")):
+                        ("[peer argonne]\ncommand = x\n", "no other site"), ("[peer lemont]\n", "command or folder"), ("[jobs]\nhosts = a b a\n", "twice"), ("[jobs]\nlink = x {host}\n", "hosts"), ("[jobs]\nhosts = a\nlink = x\n", "{host}"), ("[jobs]\ncount = 1\n", "count"), ("x\n", "line")):
         try:
             config_of(path, f"[site]\ndirectory = {site.home}/site\n{wrong}")
             tally.fail(f"{wrong!r} is taken")

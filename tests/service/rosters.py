@@ -69,7 +69,8 @@ def told_wrong(tally, site):
     for wrong in (("lemont:1", "argonne:2"), ("argonne:0", "lemont:1"), ("argonne:3", "lemont:1", "lemont:2"), ("argonne:3", "lemont:1", "equal:1")):
         told = site.ask("roster", *wrong)
         tally.same(f"another roster: {wrong}", (told.status, told.answer), (1, b"other roster\n"))
-    for words in ((), ("qsub",), ("argonne",), ("argonne:3", "lemont"), ("argonne:x", "lemont:1"), ("qsub", "-N", "a:1"), [f"s{it}:1" for it in range(17)]):
+    tally.same("alone it tells the one that is known", site.utility("qask", "roster"), (0, "argonne:2 lemont:1\n", ""))
+    for words in (("qsub",), ("argonne",), ("argonne:3", "lemont"), ("argonne:x", "lemont:1"), ("qsub", "-N", "a:1"), [f"s{it}:1" for it in range(17)]):
         told = site.ask("roster", *words)
         tally.same(f"no roster: {words}", (told.status, told.answer), (2, b""))
     tally.same("nothing is kept of them", kept(site), 0)
@@ -131,7 +132,7 @@ def lost_answers(tally, federation):
 
 
 def journals(tally, federation):
-    """The roster that a journal tells is that of its last line of one."""
+    """A journal's first entry tells whose it is, and a section of a site that the roster hasn't is told."""
     folder = f"{federation.folder}/site"
     os.mkdir(folder)
 
@@ -139,30 +140,25 @@ def journals(tally, federation):
         with open(f"{folder}/journal", "wb") as file:
             file.write(data)
         try:
-            return config.identity_in(folder)
+            return config.name_in(folder)
         except config.ConfigFault as fault:
             return str(fault)
 
-    first, longer = {"argonne": 2, "lemont": 1}, {"argonne": 3, "lemont": 1, "batavia": 2}
-    line = f"roster {' '.join(LONGER)}".encode()
-    compacted = b"nettlebeam 4 argonne " + line[7:]
-    for what, entries, wanted in (
-        ("without one", [HEADER], first),
-        ("with one", [HEADER, b"ann qsub", line, b"ann qdel 1"], longer),
-        ("with two", [HEADER, b"roster argonne:9 lemont:9", line], longer),
-        ("with blanks", [HEADER, b" \troster  argonne:0003\tlemont:1 batavia:2 "], longer),
-        ("of a user who is called so", [HEADER, line, b"roster qsub -N a:1", b"roster qdel 1", b"rosters a:1"], longer),
-        ("with long lines", [HEADER, b"take " + line * 200_000, line, b"roster qsub -A " + b"a:1" * 900_000], longer),
-        ("compacted", [compacted, b'{"jobs":[]}' + line], longer),
-        ("compacted, and told later", [compacted, b"{}", b"roster argonne:4 lemont:1 batavia:2"], {**longer, "argonne": 4}),
-    ):
-        tally.same(f"a journal {what}", told(journal_of(entries)), ("argonne", wanted))
-    whole = journal_of([HEADER, line])
-    tally.same("what stands behind the gate doesn't count", told(journal_of([HEADER]) + line + b"\n" + whole[len(journal_of([HEADER])) - 1 :]), ("argonne", first))
-    tally.same("nor does a line that isn't whole", told(whole[:-2]), ("argonne", first))
-    for data in (b"", b"-", journal_of([line]), journal_of([b"nettlebeam 5 argonne argonne:2"])):
+    for what, entries in (("of one entry", [HEADER]), ("of two", [HEADER, b"ann qsub"]), ("compacted", [b"nettlebeam 4 argonne argonne:3", b"{}"])):
+        tally.same(f"a journal {what}", told(journal_of(entries)), "argonne")
+    for data in (b"", b"-", journal_of([b"ann qsub"]), journal_of([b"nettlebeam 3"])):
         tally.true("a journal that begins otherwise", "doesn't begin with the name of a site" in told(data))
-    tally.true("a site without nodes", "in the place of a site and its nodes" in told(journal_of([b"nettlebeam 1 argonne argonne"])))
+    (site,) = federation.make("argonne:2", "lemont:1", jobs="run = no")[:1]
+    with open(site.config, "a", encoding="ascii") as file:
+        file.write("[peer rome]\ncommand = true\n")
+    for what in ("while the service runs", "and without it"):
+        checked = subprocess.run([*PYTHON, f"{SERVICE}/nettlebeamd", "--check", site.config], capture_output=True, text=True, check=False)
+        unknown = "[peer rome]: rome is no other site of the roster: argonne lemont\n"
+        tally.same(f"--check tells it {what}", (checked.returncode, checked.stderr.partition(".conf: ")[2]), (2, unknown))
+        site.kill(signal.SIGTERM)
+    site.start()
+    site.wait_ready()
+    until(lambda: "rome: it is no other site of the roster: argonne lemont" in site.logged(), 10, "so does the log of a service")
 
 
 SCENES = {it.__name__: it for it in (joining, shrinking, lost_answers, journals)}

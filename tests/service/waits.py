@@ -286,7 +286,8 @@ def arrays_refused(tally, federation):
     (site,) = federation.make("argonne:4", jobs="run = no")
     folder = work_in(federation)
     told = site.utility("qsub", "-J", "1-5", "-p", "5000", given="true\n", cwd=folder)
-    tally.same("a wrong word", told, (1, "", "qsub: -p 5000: 5000 is no priority from -1024 to 1023\n"))
+    said = "qsub: usage 4 (BadValue): 5000 is no priority from -1024 to 1023\nqsub: the options are -J 1-5 -p 5000\n"
+    tally.same("a wrong word", told, (1, "", said))
     tally.same("leaves nothing", site.jobs(), {})
     for _ in range(19):
         qsub(site, folder, "-J", "1-500")

@@ -9,6 +9,7 @@ import time
 from collections import Counter
 from typing import Any, AsyncIterator, Callable, ContextManager, Counter as Counts, Dict, Iterator, Sequence, Tuple
 
+from ..common.commands import write_all
 from ..common.config import ClientKeys
 from ..common.wire import LONGEST_HEAD, Malformed, Reply, Request, read_head
 from ..site.lines import is_costly
@@ -184,8 +185,7 @@ class Clients:
     async def send(self, writer: asyncio.StreamWriter, reply: Reply) -> None:
         """Sends a reply, unless the client reads it too slowly."""
         writer.write(reply.head())
-        writer.write(reply.answer)
-        await asyncio.wait_for(writer.drain(), self.keys.seconds)
+        await asyncio.wait_for(write_all(writer, reply.answer), self.keys.seconds)
 
 
 async def listen(listener: socket.socket, clients: Clients) -> asyncio.AbstractServer:

@@ -1,6 +1,7 @@
 """What people ask of the nodes: `nodes`, and of operators `drain HOST WHY ..`, `resume HOST` and `lost ID`."""
 from __future__ import annotations
 
+import json
 import re
 from typing import Callable
 
@@ -9,7 +10,7 @@ from ..jobs.active_runs import Runs
 from ..nodes.nodes import Nodes
 from ..site.lines import JOB, Client, Denied, asker, name_of
 
-OF_NODES = ("nodes", "drain", "resume", "lost")
+OF_NODES = ("nodes", "nodes-json", "drain", "resume", "lost")
 ONE_JOB = re.compile(f"{JOB}\\Z")
 
 
@@ -25,7 +26,9 @@ class NodeRequests:
         """The reply to a request."""
         words = request.words
         if words == ["nodes"]:
-            return Reply(0, "".join(f"{line}\n" for line in self.nodes.states()).encode("ascii", "replace"))
+            return Reply(0, "".join(host.line() for host in self.nodes.states()).encode("ascii", "replace"))
+        if words == ["nodes-json"]:
+            return Reply(0, "".join(f"{json.dumps(host.told())}\n" for host in self.nodes.states()).encode("ascii"))
         asker(client, request.role)
         if request.role is None:
             raise Denied(f"{words[0]} is asked as operator or admin")

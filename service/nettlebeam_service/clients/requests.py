@@ -13,10 +13,11 @@ from ..peers.eligibility import Eligibility
 from ..peers.unheard_changes import Unheard
 from ..site.backup import NoBackup
 from ..site.exchange import Exchange
-from ..site.job_queries import now, told_of
-from ..site.lines import CHANGING, FOR_ALL, Client, Denied, asker, check_words, line_of
+from ..site.answers import Answer
+from ..site.lines import Client, Denied, asker, check_words, line_of
+from ..site.looks import now, told_of
 from ..site.packets import BadPacket
-from ..site.site import Answer, Lost, NotKept, Silent, Site, Stopped
+from ..site.site import Lost, NotKept, Silent, Site, Stopped
 from ..site.spool import Spool
 from ..waits.group_submission import WAITING_FACTS, NotEntered
 from ..waits.waits import Waits
@@ -108,6 +109,8 @@ class Requests:
     async def do(self, client: Client, request: Request) -> Reply:
         """Does what is asked, as far as the client has room for it."""
         check_words(request.words)
+        if not self.site.known.utilities:
+            raise Stopped(self.site.trouble)  # the program hasn't told yet what may be asked
         request.words = await self.waits.arrays.expanded(request.words)
         async with self.user_limits.hold(client, request):
             return await self.do_words(client, request)
@@ -115,7 +118,7 @@ class Requests:
     async def do_words(self, client: Client, request: Request) -> Reply:
         """Does what the words ask."""
         verb = request.words[0]
-        if verb in (*CHANGING, "alter") and not self.site.has_room():
+        if (verb == "alter" or self.site.known.changes(request.words)) and not self.site.has_room():
             return Reply(3, words="the disk of the site is full")
         if verb in TO_RUNNING:
             return await self.signals.answer(client, request)
@@ -137,45 +140,53 @@ class Requests:
             return Reply(0, await self.waits.usage.answer(client, request.words, request.role))
         if verb == "alter":
             return await self.waits.altering.answer(client, request)
-        line = line_of(client, request.words, request.role)
+        line = line_of(self.site.known, client, request.words, request.role)
         if verb == "ship":
             self.check_known(request.words[1])
-            return self.reply(verb, Answer(await self.exchange.packet(request.words[1])))
-        answer = await (self.eligibility.grant(*request.words[1:3]) if verb == "grant" else self.site.ask(line))
+            return (await self.exchange.packet(request.words[1])).reply()
         if verb == "why":
-            answer = await self.unheard.with_hint(request.words[1], self.waits.with_reason(answer, request.words[1]))
-        answer = await self.unheard.with_words(request.words, answer)
+            return (await self.why(request.words[1], line)).reply()
+        if verb == "grant":
+            return self.changed_by(await self.eligibility.grant(*request.words[1:3]))
+        if not self.site.known.changes(request.words):
+            return (await self.site.look(line)).reply()
+        answer = await self.unheard.with_words(request.words, await self.site.ask(line))
         if verb == "roster":
-            self.eligibility.learn(request.words[1:] if answer.text == "done\n" else [])
-            with contextlib.suppress(Stopped):  # the answer is there, and the next child is asked for the names anyhow
-                await self.site.learn_names()
-        return self.reply(verb, answer)
+            with contextlib.suppress(Stopped):  # the answer is there, and the next child is asked for the roster anyhow
+                await self.site.learn_roster()
+        return self.changed_by(answer)
+
+    async def why(self, job: str, line: str) -> Answer:
+        """The site's answer to why a job waits, with what the service knows of that."""
+        answer, told = await asyncio.gather(self.site.look(line), told_of(self.site, [job]))
+        known = next(iter(told.values()), None)
+        return await self.unheard.with_hint(known, self.waits.with_reason(answer, known))
 
     def check_known(self, peer: str) -> None:
         """Denied where the roster hasn't this peer, which may have been told a longer one: it reads why in its log."""
-        if peer not in self.site.names:
+        if self.site.roster and peer not in self.site.roster:
             raise Denied(f"{peer[:40]!r} is no site of the roster that is known here")
 
-    def reply(self, verb: str, answer: Answer) -> Reply:
-        """The reply that hands an answer on."""
-        if verb in CHANGING:
-            self.changed()
-        return Reply(answer.status, answer.text.encode("ascii", "replace"), answer.words)
+    def changed_by(self, answer: Answer) -> Reply:
+        """The reply that hands an answer on which may tell of a change."""
+        self.changed()
+        return answer.reply()
 
     async def submit(self, client: Client, request: Request) -> Reply:
         """Submits a job with its script, which the disk has before the site is asked."""
-        line = line_of(client, request.words, request.role)
+        line = line_of(self.site.known, client, request.words, request.role)
         variables, script = split_body(request)
         facts: Dict[str, Any] = {**request.facts, "owner": asker(client, None), "ctime": str(now())}
         facts.pop("variables", None)
         if variables:
             facts["variables"] = variables
         if any(key in facts for key in WAITING_FACTS):
-            answer = await self.waits.group_submission.submit(asker(client, request.role), request.words, facts, script)
+            answer, jobs = await self.waits.group_submission.submit(asker(client, request.role), request.words, facts, script)
         else:
             answer = await self.submit_one(line, facts, script)
+            jobs = [*filter(None, [answer.identifier()])]
         self.waits.releasing.wake()
-        return self.reply("qsub", await self.waits.with_mail(answer, facts))
+        return self.changed_by(await self.waits.with_mail(answer, jobs, facts))
 
     async def submit_one(self, line: str, facts: Dict[str, Any], script: bytes) -> Answer:
         """Submits one job that waits for nothing."""
@@ -184,8 +195,8 @@ class Requests:
             draft = await asyncio.to_thread(self.spool.draft, facts, script)
             try:
                 answer = await self.site.ask(line)
-                job = answer.text.strip()
-                if IDENTIFIER.match(job):
+                job = answer.identifier()
+                if job:
                     self.waits.groups.disown(job)
                     self.spool.name(draft, job)
             finally:
@@ -204,7 +215,7 @@ class Requests:
         peer = request.words[1] if len(request.words) == 2 else ""
         if peer:
             self.check_known(peer)
-        return self.reply("take", await self.exchange.take_packet(request.body, peer))
+        return self.changed_by(await self.exchange.take_packet(request.body, peer))
 
     async def compact(self, client: Client, request: Request) -> Reply:
         """Has the journal compacted now, and tells what the program says."""

@@ -12,7 +12,7 @@ from typing import Any, Dict, NamedTuple, Optional, Sequence
 from ..common.wire import Reply, Request
 from ..jobs.active_runs import Runs
 from ..nodes.link import Answer, NodeFault
-from ..site.job_queries import Job, told_of
+from ..site.looks import Job, told_of
 from ..site.lines import JOB, Client, Denied, asker, name_of
 from ..site.site import Site
 

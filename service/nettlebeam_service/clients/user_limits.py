@@ -14,8 +14,8 @@ from typing import AsyncIterator, Awaitable, Callable, Counter as Counts, Option
 
 from ..common.config import ClientKeys
 from ..common.wire import Request
-from ..site.job_queries import listed, origin_of
 from ..site.lines import Client, Denied
+from ..site.looks import living, origin_of
 from ..site.site import Site
 from ..site.spool import Spool
 from ..words.options import Fault, parse
@@ -101,7 +101,7 @@ class UserLimits:
 
     async def count_jobs(self) -> Counts[str]:
         """How many jobs of this site each user has that aren't gone."""
-        return Counter(words[2] for words in await listed(self.site) if origin_of(words[0]) == self.here)
+        return Counter(job["owner"] for job in await living(self.site) if origin_of(job["id"]) == self.here)
 
     @contextlib.asynccontextmanager
     async def hold(self, client: Client, request: Request) -> AsyncIterator[None]:

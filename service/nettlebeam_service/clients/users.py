@@ -11,7 +11,7 @@ import time
 from typing import Dict, Tuple
 
 from ..common.config import SiteKeys
-from ..site.lines import Client
+from ..site.lines import Client, Known
 
 KEPT_SECONDS = 30
 CREDENTIALS = struct.Struct("iII")
@@ -46,8 +46,9 @@ def look_up(uid: int, keys: SiteKeys) -> Client:
 class Users:
     """Users by their numbers, looked up in a thread, and kept for half a minute."""
 
-    def __init__(self, keys: SiteKeys):
+    def __init__(self, keys: SiteKeys, words: Known):
         self.keys = keys
+        self.words = words
         self.known: Dict[int, Tuple[float, Client]] = {}
 
     async def client(self, uid: int) -> Client:
@@ -59,4 +60,5 @@ class Users:
             if len(self.known) > 10_000:
                 self.known.clear()
             self.known[uid] = (now + KEPT_SECONDS, client)
-        return client
+        is_reserved = client.user in self.words.of_sites
+        return client._replace(trouble=f"the login name {client.user} is a word of the scheduler's lines") if is_reserved else client

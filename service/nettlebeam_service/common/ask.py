@@ -27,12 +27,32 @@ class Unasked(Exception):
 
 
 class Told:
-    """What the service told."""
+    """What the service told. The answer and the words are handed on as they are; what a program reads of them, these methods give."""
 
     def __init__(self, status: int, answer: bytes, words: str):
         self.status = status
         self.answer = answer
         self.words = words
+
+    def is_just(self, *texts: str) -> bool:
+        """Whether the answer is one of these fixed ones, to the last byte."""
+        return self.answer in [f"{text}\n".encode() for text in texts]
+
+    def has_line(self, text: str) -> bool:
+        """Whether one of the answer's lines is this fixed one: of each job that is named there is a line."""
+        return text.encode() in self.answer.splitlines()
+
+    def name(self) -> str:
+        """The answer, where it is a name."""
+        return self.answer.decode("ascii", "replace").strip()
+
+    def words_of(self, utility: str) -> str:
+        """The words, with the name of the utility that tells them in front of each line."""
+        return "".join(f"{utility}: {line}\n" for line in self.words.splitlines())
+
+    def json_lines(self) -> List[Any]:
+        """The values of an answer with one of JSON a line; none where it isn't done as asked."""
+        return [] if self.status else [loads(line) for line in self.answer.decode().splitlines()]
 
 
 def find_socket() -> Optional[str]:

@@ -20,8 +20,8 @@ class Done(NamedTuple):
     """How a command ended, what it wrote, and the last that it told on standard error."""
 
     status: int
-    out: bytes
-    errors: bytes
+    out: bytes | bytearray
+    errors: bytes | bytearray
 
 
 class Output:
@@ -53,13 +53,21 @@ class Output:
             del self.kept[:-most]
 
 
-async def feed(stream: Optional[asyncio.StreamWriter], given: bytes) -> None:
+async def write_all(stream: asyncio.StreamWriter, data: bytes | bytearray) -> None:
+    """Writes what may be long, piece by piece, so that none of it is held twice."""
+    whole = memoryview(data)
+    for place in range(0, len(whole), CHUNK):
+        stream.write(whole[place : place + CHUNK])
+        await stream.drain()
+    await stream.drain()
+
+
+async def feed(stream: Optional[asyncio.StreamWriter], given: bytes | bytearray) -> None:
     """Writes the input of a process, which may end before it has read all."""
     if stream is None:
         return
     with contextlib.suppress(ConnectionError):
-        stream.write(given)
-        await stream.drain()
+        await write_all(stream, given)
     stream.close()
     with contextlib.suppress(ConnectionError):
         await stream.wait_closed()
@@ -76,7 +84,7 @@ def start_tick(pid: int) -> int:
 async def call(
     words: Sequence[str],
     seconds: float,
-    given: bytes = b"",
+    given: bytes | bytearray = b"",
     most: int = 0,
     env: Optional[Mapping[str, str]] = None,
     pass_fds: Tuple[int, ...] = (),
@@ -105,7 +113,7 @@ async def call(
             raise TooLong
         if not ended.done() or process.returncode is None:
             raise asyncio.TimeoutError
-        return Done(process.returncode, bytes(out.kept), bytes(errors.kept))
+        return Done(process.returncode, out.kept, errors.kept)
     finally:
         feeding.cancel()
         over.cancel()

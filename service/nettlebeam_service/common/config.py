@@ -8,7 +8,7 @@ import shlex
 from dataclasses import dataclass, field, fields, replace
 from typing import Any, Dict, List, Mapping, Tuple
 
-from .journal import Nameless, read_identity
+from .journal import Nameless, owner_of
 
 Words = Tuple[str, ...]
 
@@ -105,10 +105,9 @@ class PeerKeys:
 
 @dataclass(frozen=True)
 class Config:
-    """A whole configuration, with the site's name and the roster that its journal tells when this is read."""
+    """A whole configuration, with the name of the site whose journal is in its directory."""
 
     name: str
-    roster: Mapping[str, int]
     site: SiteKeys
     clients: ClientKeys = ClientKeys()
     jobs: JobKeys = JobKeys()
@@ -149,27 +148,27 @@ def read_section(kind: Any, title: str, items: Mapping[str, str]) -> Any:
     return kind(**values)
 
 
-def identity_in(directory: str) -> Tuple[str, Dict[str, int]]:
-    """The name of the site in a directory, and the roster that it knows."""
+def name_in(directory: str) -> str:
+    """The name of the site in a directory."""
     path = os.path.join(directory, "journal")
     try:
-        return read_identity(path)
+        return owner_of(path)
     except OSError as fault:
         raise ConfigFault(f"[site] directory = {directory}: {path}: {fault.strerror}") from None
     except Nameless as fault:
         raise ConfigFault(f"[site] directory = {directory}: {path}: {fault}") from None
 
 
-def read_peers(parser: configparser.ConfigParser, name: str, roster: Mapping[str, int]) -> Dict[str, PeerKeys]:
-    """The sections of the other sites."""
+def read_peers(parser: configparser.ConfigParser, name: str) -> Dict[str, PeerKeys]:
+    """The sections of the other sites, of which the site tells whether its roster has them."""
     peers = {}
     for title in parser.sections():
         kind, _, peer = title.partition(" ")
         if kind != "peer":
             continue
         peer = peer.strip()
-        if peer not in roster or peer == name:
-            raise ConfigFault(f"[{title}]: {peer or 'this'} is no other site of the roster: {' '.join(roster)}")
+        if not peer or peer == name:
+            raise ConfigFault(f"[{title}]: {peer or 'this'} is no other site")
         keys = read_section(PeerKeys, title, dict(parser[title]))
         if bool(keys.command) == bool(keys.folder):
             raise ConfigFault(f"[{title}]: give either command or folder")
@@ -198,14 +197,14 @@ def read_config(path: str) -> Config:
     keys: SiteKeys = parts["site"]
     if not keys.directory:
         raise ConfigFault("[site] directory: name the directory of the site")
-    name, roster = identity_in(keys.directory)
+    name = name_in(keys.directory)
     named = {it: getattr(keys, it).replace("{site}", name) for it in ("spool", "socket")}
     parts["site"] = replace(keys, **named)
     parts["house"] = replace(parts["house"], accounting=parts["house"].accounting.replace("{spool}", parts["site"].spool))
     check_jobs(parts["jobs"])
     if parts["page"].port > GREATEST_PORT:
         raise ConfigFault(f"[page] port = {parts['page'].port}: above {GREATEST_PORT}")
-    return Config(name, roster, peers=read_peers(parser, name, roster), **parts)
+    return Config(name, peers=read_peers(parser, name), **parts)
 
 
 def check_jobs(keys: JobKeys) -> None:

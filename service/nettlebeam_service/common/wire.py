@@ -53,7 +53,7 @@ class Reply:
     """What a client is told: 0 done, 1 not done as asked, 2 may not be asked, 3 a fault of the service or the site."""
 
     status: int
-    answer: bytes = b""
+    answer: bytes | bytearray = b""
     words: str = ""
 
     def head(self) -> bytes:

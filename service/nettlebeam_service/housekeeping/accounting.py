@@ -156,25 +156,24 @@ class Accounting:
 
     def record(
         self,
-        lines: Sequence[str],
-        tell: Callable[[str, str], str] = lambda name, line: line,
+        jobs: Sequence[Dict[str, Any]],
+        tell: Callable[[Dict[str, Any]], Dict[str, Any]] = lambda job: job,
         submitted: Callable[[str], str] = lambda name: "",
     ) -> int:
-        """Records the jobs of these lines that are settled and not recorded yet, each by what `tell` makes of its line; how many."""
+        """Records those of these jobs that are settled and not recorded yet, each as `tell` tells of it; how many."""
         if not self.is_open:
             self.open()
         moment = int(time.time())
         texts: List[str] = []
         new: Dict[str, Entry] = {}
-        for line in lines:
-            job = json.loads(line)
+        for job in jobs:
             if not is_settled(job, self.here):
                 continue
             name, mark = job["id"], mark_of(job)
             known, second = self.known.get(name), submitted(name)
             if known is None or not known.is_of(mark, second):
                 new[name] = Entry(moment, mark, second)
-                texts.append(tell(name, line))
+                texts.append(json.dumps(tell(job), separators=(",", ":")))
         if new:
             self.is_open = False  # where one of these fails, what is there is read again
             append(self.path(time.strftime("%Y-%m") + SUFFIX), "".join(f"{text}\n" for text in texts).encode("ascii"))

@@ -1,26 +1,18 @@
 """How full a site is. It may have 10,000 jobs of its own, those that are gone counted until they are retired."""
 from __future__ import annotations
 
-import asyncio
-import json
 import time
 from collections import Counter
-from typing import Callable, Counter as Counts, List, Optional, Sequence
+from typing import Callable, Counter as Counts, Optional, Sequence
 
-from ..site.job_queries import Job, origin_of
+from ..site.looks import Job, counter_of, jobs_told, origin_of
 from ..site.site import Site
-from .retiring import last_of
 
 MOST_JOBS = 10_000
 HIGH = 7_500  # from here on what is gone is retired early
 LOW = 7_000  # until there are so many
 KEPT_SECONDS = 10.0
 GONE = "gone"
-
-
-def jobs_in(text: str) -> List[Job]:
-    """The jobs of an answer to the look `jobs`."""
-    return [json.loads(line) for line in text.splitlines()]
 
 
 class Capacity:
@@ -39,7 +31,7 @@ class Capacity:
 
     async def last(self) -> int:
         """The greatest counter of this site. Each of its jobs has one of its own."""
-        return last_of((await self.site.ask("seen")).text, self.here) or 0
+        return await counter_of(self.site, self.here)
 
     def note(self, jobs: Sequence[Job], counter: int) -> None:
         """Counts jobs that were told behind this counter, and logs how full the site is where that is much."""
@@ -67,5 +59,4 @@ class Capacity:
         """Counts, unless that was done a short while ago."""
         if self.counted_at is None or time.monotonic() - self.counted_at >= KEPT_SECONDS:
             counter = await self.last()
-            text = (await self.site.ask("jobs")).text
-            self.note(await asyncio.to_thread(jobs_in, text), counter)
+            self.note(await jobs_told(self.site), counter)

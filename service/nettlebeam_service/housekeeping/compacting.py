@@ -7,19 +7,18 @@ begins then, wait for a copy of the new journal, since each waits for a copy tha
 from __future__ import annotations
 
 import asyncio
+import json
 import os
-import re
 import time
 from typing import Callable, List, Optional, Tuple
 
 from ..common.config import HouseKeys
+from ..common.files import read_json, write
 from ..site.backup import Backup, NoBackup
 from ..site.site import Site, Stopped
 
 SECONDS = 600.0
-CHUNK = 1 << 20
-GROWTH = 2  # a journal is worth compacting once it is so many times as long as it was when it was compacted last
-TOLD = re.compile(r"compacted: [0-9]+ bytes before, ([0-9]+) now|not compacted: [0-9]+ bytes, ([0-9]+) if it were")
+GROWTH = 2  # a journal is worth compacting once it is so many times as long as it was when that was done last
 
 
 class Uncompacted(Exception):
@@ -29,19 +28,19 @@ class Uncompacted(Exception):
 class Compacting:
     """Compacts the journal of one site."""
 
-    def __init__(self, keys: HouseKeys, site: Site, backup: Backup, log: Callable[[str], None]):
+    def __init__(self, keys: HouseKeys, site: Site, backup: Backup, spool: str, log: Callable[[str], None]):
         self.keys = keys
         self.site = site
         self.backup = backup
         self.log = log
         self.journal = os.path.join(site.folder, "journal")
+        self.note = os.path.join(spool, "compacted")  # how long the journal was when the program had done with it
         self.not_before = 0.0
-        self.compact_bytes = 0  # how long the program said that the journal is once it is compacted
         self.one = asyncio.Lock()
 
     async def keep(self) -> None:
         """Compacts the journal where it is time, and worth it. What keeps it from that is logged."""
-        if not self.keys.compact or not self.site.can_compact or self.site.lost_state.loss or time.monotonic() < self.not_before:
+        if not self.keys.compact or self.site.lost_state.loss or time.monotonic() < self.not_before:
             return
         try:
             if await asyncio.to_thread(self.is_long):
@@ -52,15 +51,13 @@ class Compacting:
 
     def is_long(self) -> bool:
         """Whether the journal has grown enough since it was compacted, or was found to be as short as it can be."""
-        size = os.path.getsize(self.journal)
-        if size <= max(self.keys.compact_bytes, GROWTH * self.compact_bytes):
-            return False
-        return size > GROWTH * bytes_known(self.journal)
+        before = (read_json(self.note) or {}).get("bytes", 0)
+        return os.path.getsize(self.journal) > max(self.keys.compact_bytes, GROWTH * before)
 
     async def compact(self) -> str:
         """Compacts the journal, however long it is; what the program says. Uncompacted where it can't be done."""
-        if self.site.lost_state.loss or not self.site.can_compact:
-            raise Uncompacted(self.site.lost_state.loss or "the program doesn't know how")
+        if self.site.lost_state.loss:
+            raise Uncompacted(self.site.lost_state.loss)
         async with self.one:
             try:
                 await self.backup.made()
@@ -70,10 +67,16 @@ class Compacting:
                 raise Uncompacted(f"the backup failed: {fault}") from None
             except Stopped as fault:
                 raise Uncompacted(f"the site stopped: {fault}") from None
-            told = TOLD.match(said)
-            self.compact_bytes = int(told.group(1) or told.group(2)) if told else 0
+            await asyncio.to_thread(self.keep_size)
             await self.back_up()
             return said
+
+    def keep_size(self) -> None:
+        """Notes how long the journal is now. Where that can't be kept, it is compacted once more than it is worth."""
+        try:
+            write(self.note, json.dumps({"bytes": os.path.getsize(self.journal)}).encode())
+        except OSError as fault:
+            self.log(f"the length of the compacted journal isn't kept: {fault}")
 
     async def back_up(self) -> None:
         """Has the new journal copied before anybody waits for that. Where that fails no packet leaves, as ever."""
@@ -86,10 +89,10 @@ class Compacting:
         """Runs the program; what it says. Where it is killed, or the service is, the journal is the old or the new one."""
         status, output, errors = await self.call()
         if status:
-            raise Uncompacted(cause(errors) or f"the program ended with status {status}")
-        for line in errors.splitlines():
-            self.log(f"site: {line.strip()}")
-        return output.strip()
+            raise Uncompacted(errors or f"the program ended with status {status}")
+        if errors:
+            self.log(f"site: {errors}")
+        return output
 
     def keep_options(self) -> List[str]:
         """What has the program keep the old journal, under a name with this moment, where a folder is configured for that."""
@@ -114,23 +117,4 @@ class Compacting:
             if process.returncode is None:
                 process.kill()
                 await process.wait()
-        return process.returncode, output.decode("ascii", "replace"), errors.decode("utf-8", "replace")
-
-
-def bytes_known(path: str) -> int:
-    """How many bytes of a compacted journal tell what the site knew then; 0 of one that wasn't compacted."""
-    with open(path, "rb") as file:
-        if file.readline(4096).split()[2:4] not in ([b"nettlebeam", b"2"], [b"nettlebeam", b"4"]):
-            return 0
-        count = 0
-        while True:
-            part = file.readline(CHUNK)
-            count += len(part)
-            if not part or part.endswith(b"\n"):
-                return count
-
-
-def cause(errors: str) -> str:
-    """Why the program didn't do it, by the last line that it wrote."""
-    line = (errors.strip().splitlines() or [""])[-1]
-    return line.split(": not compacted: ")[-1].strip()
+        return process.returncode, output.decode("ascii", "replace").strip(), errors.decode("utf-8", "replace").strip()

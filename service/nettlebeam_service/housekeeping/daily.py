@@ -4,19 +4,18 @@ compacted."""
 from __future__ import annotations
 
 import asyncio
-import json
 import math
 import time
 from typing import Callable, Dict, Iterable, Sequence, Set
 
 from ..common.config import HouseKeys
-from ..site.job_queries import Job, is_granted_to, origin_of
+from ..site.looks import Job, is_granted_to, jobs_told, origin_of, reservations_of
 from ..site.site import Site, Stopped
 from ..site.spool import Spool
 from .accounting import Accounting
 from .capacity import Capacity
 from .compacting import Compacting
-from .retiring import oldest, ranges_to_retire, standing_in
+from .retiring import oldest, ranges_to_retire
 
 FIRST_SECONDS = 2
 RETRY_SECONDS = 60
@@ -75,15 +74,14 @@ class Housekeeping:
         # what is in the spool before the site is asked is of jobs that it knows, unless it has lost or retired them
         names = await asyncio.to_thread(self.spool.names_kept)
         last = await self.capacity.last()  # so that each job of this site up to there is among those told next
-        lines = (await self.site.ask("jobs")).text.splitlines()
+        jobs = await jobs_told(self.site)
         if self.keys.accounting and not self.site.lost_state.loss:
-            count = await asyncio.to_thread(self.accounting.record, lines, self.completed, self.submitted)
+            count = await asyncio.to_thread(self.accounting.record, jobs, self.completed, self.submitted)
             if count:
                 self.log(f"{count} jobs that are gone are recorded in {self.keys.accounting}")
-        jobs = [json.loads(line) for line in lines]
         self.capacity.note(jobs, last)
         await self.decline(jobs)
-        removed = await asyncio.to_thread(self.clear, names, lines)
+        removed = await asyncio.to_thread(self.clear, names, jobs)
         if removed:
             self.log(f"the files of {removed} jobs that are gone are removed from the spool")
         if self.may_retire():
@@ -95,12 +93,11 @@ class Housekeeping:
         second = str((self.spool.facts(name) or {}).get("ctime", ""))
         return second if second.isascii() and second.isdigit() else ""
 
-    def completed(self, name: str, line: str) -> str:
-        """The line of a job with what the site doesn't tell: why the service deleted it, and what it used."""
-        comment = (self.spool.facts(name) or {}).get("comment")
-        used = self.spool.used(name) if json.loads(line)["finished"] else None
-        more = {key: value for key, value in (("comment", comment), ("used", used)) if value}
-        return f'{line[:-1]},{json.dumps(more, separators=(",", ":"))[1:]}' if more else line
+    def completed(self, job: Job) -> Job:
+        """A job with what the site doesn't tell: why the service deleted it, and what it used."""
+        comment = (self.spool.facts(job["id"]) or {}).get("comment")
+        used = self.spool.used(job["id"]) if job["finished"] else None
+        return {**job, **{key: value for key, value in (("comment", comment), ("used", used)) if value}}
 
     def may_retire(self) -> bool:
         """Whether something is retired now. Nothing is that isn't recorded."""
@@ -115,14 +112,14 @@ class Housekeeping:
         if lacking > 0:
             recorded = self.accounting.recorded_before(mine, time.time()) - needed - may_leave
             may_leave |= set(oldest(recorded, self.accounting.known)[:lacking])
-        standing = standing_in((await self.site.ask("reservations")).text)
+        standing = [it["id"] for it in await reservations_of(self.site)]
         count = 0
         for first, end, its in ranges_to_retire(self.name, last, jobs, standing, may_leave):
-            answer = (await self.site.ask(f"retire {first} {end}")).text.strip()
-            if answer == "done":
+            answer = await self.site.ask(f"retire {first} {end}")
+            if answer.is_just("done"):
                 count += its
             else:
-                self.log(f"{self.name}: retire {first} {end} is answered {answer}")
+                self.log(f"{self.name}: retire {first} {end} is answered {answer.shown()}")
         if count:
             self.log(f"{count} jobs of {self.name} that are recorded are retired")
 
@@ -131,14 +128,13 @@ class Housekeeping:
         begins."""
         for job in jobs:
             if job["deleted"] and not job["begun"] and is_granted_to(job, self.name):
-                answer = (await self.site.ask(f"decline {job['id']}")).text.strip()
-                self.log(f"{job['id']}: it was deleted before it began, so its grant is declined: {answer}")
+                answer = await self.site.ask(f"decline {job['id']}")
+                self.log(f"{job['id']}: it was deleted before it began, so its grant is declined: {answer.shown()}")
 
-    def clear(self, names: Sequence[str], lines: Sequence[str]) -> int:
+    def clear(self, names: Sequence[str], jobs: Sequence[Job]) -> int:
         """Removes the scripts and the runs of jobs that are gone for long enough; of how many."""
         since: Dict[str, float] = {}
-        for line in lines:
-            job = json.loads(line)
+        for job in jobs:
             is_gone = job["letter"] is None
             since[job["id"]] = math.inf if not is_gone else job["finished"]["moment"] if job["finished"] else 0.0
         before = time.time() - self.keys.keep

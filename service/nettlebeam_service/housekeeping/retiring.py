@@ -7,9 +7,9 @@ that stands. So there are as few ranges as may be, and a line of its own retires
 from __future__ import annotations
 
 from bisect import bisect_right
-from typing import Collection, Iterable, List, Mapping, NamedTuple, Optional, Sequence
+from typing import Collection, Iterable, List, Mapping, NamedTuple, Sequence
 
-from ..site.job_queries import Job, origin_of
+from ..site.looks import Job, origin_of
 from .accounting import Entry
 
 
@@ -45,17 +45,6 @@ def ranges_of(last: int, staying: Iterable[int], leaving: Iterable[int]) -> List
 def oldest(names: Iterable[str], recorded: Mapping[str, Entry]) -> List[str]:
     """These identifiers, those first that were recorded first."""
     return sorted(names, key=lambda name: (recorded[name].moment, counter_of(name)))
-
-
-def last_of(seen: str, here: str) -> Optional[int]:
-    """The greatest counter that this site has given, as the look `seen` tells it."""
-    rows = [line.split() for line in seen.splitlines()]
-    return next((int(row[1]) for row in rows if len(row) == 3 and row[0] == here), None)
-
-
-def standing_in(reservations: str) -> List[str]:
-    """The identifiers of the reservations that stand, as the look `reservations` tells them."""
-    return [line.split()[0] for line in reservations.splitlines()]
 
 
 def ranges_to_retire(here: str, last: int, jobs: Sequence[Job], standing: Sequence[str], may_leave: Collection[str]) -> List[Range]:

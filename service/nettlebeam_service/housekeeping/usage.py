@@ -7,15 +7,15 @@ from __future__ import annotations
 
 import asyncio
 import datetime
-import json
 import os
-from typing import Any, Dict, Iterator, List, NamedTuple, Optional, Sequence, Tuple
+from typing import Dict, Iterator, List, NamedTuple, Optional, Sequence, Tuple
 
 from ..site.lines import USER, Client, Denied, asker, name_of
+from ..site.looks import Job, jobs_told
 from ..site.site import Site
+from .accounting import job_in
 from .gone_jobs import SUFFIX
 
-Job = Dict[str, Any]
 Sums = Dict[Tuple[str, str], List[int]]
 
 
@@ -50,27 +50,21 @@ def read_words(words: Sequence[str]) -> Asked:
     return Asked(user, since)
 
 
-def ended(line: str, asked: Asked) -> Optional[Job]:
-    """The job of a line, where it is one of those that are asked for."""
-    if asked.user is not None and asked.user not in line:
-        return None
-    try:
-        job = json.loads(line)
-    except ValueError:
-        return None
-    if not isinstance(job, dict) or not job.get("begun") or not job.get("finished"):
-        return None
-    is_asked = asked.user in (None, job["owner"]) and job["finished"]["moment"] >= asked.since
-    return job if is_asked else None
+def has_ended(job: Job, asked: Asked) -> bool:
+    """Whether a job is one of those that are asked for."""
+    if not job.get("begun") or not job.get("finished"):
+        return False
+    return asked.user in (None, job["owner"]) and job["finished"]["moment"] >= asked.since
 
 
-def recorded_lines(folder: str, since: int) -> Iterator[str]:
-    """The lines of the months that may have jobs which ended since then: none is recorded before it ends."""
+def recorded_jobs(folder: str, asked: Asked) -> Iterator[Job]:
+    """The jobs of the months that may have some which ended since then: none is recorded before it ends."""
+    since = asked.since
     first = datetime.datetime.fromtimestamp(since).strftime("%Y-%m") + SUFFIX if since else ""
     for name in sorted(os.listdir(folder)) if os.path.isdir(folder) else []:
         if name.endswith(SUFFIX) and name >= first:
             with open(os.path.join(folder, name), encoding="ascii", errors="replace") as file:
-                yield from file
+                yield from map(job_in, (line.encode() for line in file if asked.user is None or asked.user in line))
 
 
 def key_of(job: Job) -> Tuple[str, int, int]:
@@ -78,13 +72,13 @@ def key_of(job: Job) -> Tuple[str, int, int]:
     return job["id"], job["begun"]["moment"], job["finished"]["moment"]
 
 
-def summed(folder: str, told: Sequence[str], asked: Asked) -> Sums:
+def summed(folder: str, told: Sequence[Job], asked: Asked) -> Sums:
     """The jobs and the node seconds of each user and site, of what the site tells and of what else is recorded."""
     sums: Sums = {}
-    living = [job for job in (ended(line, asked) for line in told) if job]
+    living = [job for job in told if has_ended(job, asked)]
     known = {key_of(job) for job in living}
-    older = (job for job in (ended(line, asked) for line in recorded_lines(folder, asked.since)) if job and key_of(job) not in known)
-    for jobs in (living, older):
+    recorded = (job for job in recorded_jobs(folder, asked) if has_ended(job, asked))
+    for jobs in (living, (job for job in recorded if key_of(job) not in known)):
         for job in jobs:
             begun = job["begun"]
             sum_ = sums.setdefault((job["owner"], begun["site"]), [0, 0])
@@ -110,6 +104,6 @@ class Usage:
             asked = asked._replace(user=user)
         if not self.accounting:
             raise Denied("there is no accounting here")
-        told = (await self.site.ask("jobs")).text.splitlines()
+        told = await jobs_told(self.site)
         sums = await asyncio.to_thread(summed, self.accounting, told, asked)
         return "".join(f"{name} {site} {jobs} {seconds}\n" for (name, site), (jobs, seconds) in sorted(sums.items())).encode("ascii")

@@ -184,7 +184,7 @@ class Runs:
         try:
             self.spool.add_exit(run.job, list(run.exit))
             answer = await self.site.ask(f"finish {run.job} {run.exit.moment} {run.exit.status}")
-            self.log(f"{run.job}: ended with status {run.exit.status}: {answer.text.strip()}")
+            self.log(f"{run.job}: ended with status {run.exit.status}: {answer.shown()}")
             self.all.pop(run.job, None)
             self.stuck.discard(run.job)
             self.spawn(self.ask_aside(run.node, {"ask": "forget", "id": run.job, "nonce": run.nonce}))

@@ -18,14 +18,14 @@ from ..node.store import boot_time
 from ..node.wrapper import Order
 from ..nodes.accounts import Accounts
 from ..nodes.link import NodeFault
-from ..site.job_queries import Job, now, origin_of, told_of_many
+from ..site.answers import Answer
+from ..site.looks import Job, now, origin_of, told_of_many
 from ..site.site import Site, Stopped
 from ..site.spool import Spool
 from .active_runs import Runs
 from .run_record import Run
 from .starting import Starts
 
-DONE = "done\n"
 ALONE_SECONDS = 60
 TOGETHER_SECONDS = 0.02  # for which a job that is ready waits for others that are being prepared
 MOST_NODES = 3  # that are asked to prepare a job in one plan
@@ -38,13 +38,17 @@ class Ready:
     job: Job
     run: Run
     may_start: bool
-    answer: str = ""
+    answer: Optional[Answer] = None
     begun: Optional[Job] = None
     fault: Optional[BaseException] = None
 
+    def is_begun(self) -> bool:
+        """Whether the site answered that it begins now, which it does once."""
+        return self.answer is not None and self.answer.is_just("done")
+
     def is_as_prepared(self) -> bool:
         """Whether it has begun, and as its node was told."""
-        if self.answer != DONE or self.begun is None:
+        if not self.is_begun() or self.begun is None:
             return False
         return (self.begun["nodes"], self.begun["end"] - self.begun["moment"]) == (self.job["nodes"], self.job["limit"])
 
@@ -162,7 +166,7 @@ class Begins:
             elif isinstance(told, BaseException):
                 ready.fault = told
             else:
-                ready.answer, ready.begun = answer.text, told[ready.job["id"]]["begun"]
+                ready.answer, ready.begun = answer, told[ready.job["id"]]["begun"]
         await asyncio.to_thread(self.spool.name_records, [it.job["id"] for it in batch if it.may_start and it.is_as_prepared()])
 
     def draft_records(self, runs: Sequence[Run]) -> None:
@@ -200,8 +204,8 @@ class Begins:
         name, begun = ready.job["id"], ready.begun
         if ready.fault:
             raise ready.fault
-        if ready.answer != DONE or begun is None:
-            self.log(f"{name}: begin is answered {ready.answer.strip()}")
+        if not ready.is_begun() or begun is None:
+            self.log(f"{name}: begin is answered {ready.answer.shown() if ready.answer else 'nothing'}")
             return False
         run: Optional[Run] = ready.run
         if not ready.may_start:

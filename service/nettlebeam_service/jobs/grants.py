@@ -9,7 +9,7 @@ from ..common.config import Config
 from ..peers.folder_link import ASKED
 from ..peers.links import NotNow, PeerFault
 from ..peers.peers import Peers
-from ..site.job_queries import Job, is_granted_to, listed
+from ..site.looks import Job, is_granted_to, living
 from ..site.site import Site, Stopped
 from ..site.spool import Spool
 from .active_runs import Runs
@@ -75,15 +75,15 @@ class Grants:
         return got
 
     async def hand_back(self) -> Set[str]:
-        """Hands back each grant that could not be begun for long; the jobs that are listed."""
-        listing, moment = await listed(self.site), time.monotonic()
-        living = {words[0] for words in listing}
+        """Hands back each grant that could not be begun for long; the jobs that aren't gone."""
+        jobs, moment = await living(self.site), time.monotonic()
+        names = {job["id"] for job in jobs}
         self.not_before = {name: later for name, later in self.not_before.items() if later > moment}
-        self.fetched &= living
-        here = [words[0] for words in listing if words[3] in "TH" and words[-1] == self.config.name]
+        self.fetched &= names
+        here = [job["id"] for job in jobs if job["letter"] in "TH" and is_granted_to(job, self.config.name)]
         self.since = {name: self.since.get(name, moment) for name in here if not self.runs.is_busy(name)}
         for name, since in self.since.items():
             if moment - since >= self.config.jobs.handback or self.config.jobs.run == "drain":
-                answer = (await self.site.ask(f"handback {name}")).text.strip()
-                self.log(f"{name}: it isn't begun here, so its grant is handed back: {answer}")
-        return living
+                answer = await self.site.ask(f"handback {name}")
+                self.log(f"{name}: it isn't begun here, so its grant is handed back: {answer.shown()}")
+        return names

@@ -1,13 +1,10 @@
 """Tells the site how many nodes can be planned with, so that no job waits at the head of the queue for nodes that aren't there."""
 from __future__ import annotations
 
-import asyncio
-import os
 import time
 from typing import Callable, Optional
 
 from ..common.config import Config
-from ..common.journal import read_identity
 from ..nodes.nodes import Nodes
 from ..site.site import Site
 
@@ -37,9 +34,8 @@ class NodeCount:
             return
         if self.differs_since is None or time.monotonic() - self.differs_since < STEADY_SECONDS or not self.site.has_room():
             return
-        journal = os.path.join(self.config.site.directory, "journal")
-        name, roster = await asyncio.to_thread(read_identity, journal)
-        roster[name] = wanted
+        roster = {**self.site.roster, self.config.name: wanted}
         answer = await self.site.ask("roster " + " ".join(f"{site}:{nodes}" for site, nodes in roster.items()))
-        self.log(f"the site plans with {wanted} nodes from now on, and not with {planned}: {answer.text.strip()}")
+        await self.site.learn_roster()
+        self.log(f"the site plans with {wanted} nodes from now on, and not with {planned}: {answer.shown()}")
         self.differs_since = None

@@ -12,7 +12,7 @@ from ..nodes.accounts import Accounts
 from ..nodes.nodes import Nodes
 from ..peers.peers import Peers
 from ..site.backup import Backup
-from ..site.job_queries import Job, is_granted_to, now, origin_of, told_of
+from ..site.looks import Job, is_granted_to, machine_of, now, origin_of, told_of
 from ..site.site import Site, Stopped
 from ..site.spool import Spool
 from .active_runs import Runs
@@ -56,7 +56,7 @@ class Scheduler:
         self.grants = Grants(config, site, spool, peers, runs, log)
         self.accounts = Accounts(nodes, self.wake)
         self.begins = Begins(config, site, spool, self.accounts, runs, starts, log)
-        self.replanning = Replanning(config.name, site, self.grants, self.begins, log)
+        self.replanning = Replanning(config.name, site, self.grants, self.begins)
         self.listed = 0.0
         self.counts = (0, 0)  # of the hosts that are named, and of the nodes, when they were compared last
         self.trouble = ""
@@ -104,19 +104,18 @@ class Scheduler:
     async def look(self) -> None:
         """One look: what runs, what is deleted, what starts."""
         asked = boot_time()
-        machine = (await self.site.ask(f"machine {now()}")).text.splitlines()
-        self.compare_hosts(int(machine[0].split()[1].rstrip(",")))
-        running = [line.split()[1] for line in machine if line.startswith("run ")]
-        self.runs.sweep(running, asked)
-        await self.node_count.tell(int(machine[0].split()[1].rstrip(",")))
-        for job in (await told_of(self.site, running)).values():
+        machine = await machine_of(self.site, now())
+        self.compare_hosts(machine.nodes)
+        self.runs.sweep([job["id"] for job in machine.running], asked)
+        await self.node_count.tell(machine.nodes)
+        for job in machine.running:
             if job["deleted"] and not self.runs.is_busy(job["id"]):
                 self.runs.end(job["id"])
         if not self.site.has_room():
             raise OSError(errno.ENOSPC, "the disk of the site is full")
         if self.config.jobs.run == "yes":
             await self.backup.check()
-            await self.start(int(machine[0].split()[-1]))
+            await self.start(machine.free)
         if time.monotonic() - self.listed >= LISTING_SECONDS or self.config.jobs.run == "drain":
             self.listed = time.monotonic()
             self.begins.forget(await self.grants.hand_back())
@@ -135,36 +134,39 @@ class Scheduler:
         starts = await self.replanning.starts(blocked)
         self.planned = max(0.0, self.site.processor_seconds() - before)
         await self.begin(starts)
-        if any(map(self.is_blocked, starts)):
+        if any(self.is_blocked(job["id"]) for job in starts):
             await self.begin(await self.replanning.try_others(starts, free))
 
     def is_blocked(self, name: str) -> bool:
         """Whether a job couldn't be had a short while ago."""
         return self.grants.is_put_off(name) or self.begins.is_left_alone(name)
 
-    async def begin(self, starts: Sequence[str]) -> None:
+    async def begin(self, starts: Sequence[Job]) -> None:
         """Begins the jobs of a plan that can be begun now, and has the others prepared."""
-        wanted = [name for name in starts if not (name in self.grants.preparing or self.runs.is_busy(name))]
-        told = await told_of(self.site, [name for name in wanted if not self.grants.is_put_off(name)])
-        mine: List[str] = []
+        mine: List[Job] = []
         theirs: Dict[str, List[Job]] = {}
-        for name, job in told.items():
+        for job in starts:
+            name = job["id"]
+            if name in self.grants.preparing or self.runs.is_busy(name) or self.grants.is_put_off(name):
+                continue
             if not await self.begins.has_account(job):
                 continue
             if self.begins.is_mine(name):
                 # one without a script only ends, unless its script is just being named
                 if self.begins.has_script(job) or not self.spool.submissions:
-                    mine.append(name)
+                    mine.append(job)
             elif is_granted_to(job, self.config.name) and name in self.grants.fetched:
-                mine.append(name)
+                mine.append(job)
             else:
                 theirs.setdefault(origin_of(name), []).append(job)
         for origin, jobs in theirs.items():
             self.grants.prepare(origin, jobs[:MOST_AT_ONCE])
-        ungranted = [name for name in mine if not is_granted_to(told[name], self.config.name)]
-        # both are written in this order, and answered line by line, so that the site tells of the jobs as they are granted
-        grants = [self.site.ask(f"grant {name} {self.config.name}") for name in ungranted]
-        *_, granted = await asyncio.gather(*grants, told_of(self.site, mine))
-        for job in granted.values():
+        has_grant = [job for job in mine if is_granted_to(job, self.config.name)]
+        asked = [job["id"] for job in mine if job not in has_grant]
+        # both are written in this order, and answered line by line, so that the site tells of the jobs as they are granted: until
+        # then their owners may alter what a node is told of them
+        grants = [self.site.ask(f"grant {name} {self.config.name}") for name in asked]
+        *_, told = await asyncio.gather(*grants, told_of(self.site, asked))
+        for job in (*has_grant, *told.values()):
             if is_granted_to(job, self.config.name) and not self.runs.is_busy(job["id"]):
                 self.runs.spawn(self.begins.begin(job))  # the next look doesn't wait for it

@@ -10,7 +10,7 @@ import json
 import os
 import sys
 import time
-from typing import Any, Callable, Dict, List, Optional, Sequence
+from typing import Any, Callable, Dict, List, NamedTuple, Optional, Sequence
 
 from ..common.config import JobKeys
 from ..common.files import read_json, sync, write
@@ -22,6 +22,31 @@ from .node import KEPT_SECONDS, OWN, Node, Parts
 PROGRAM = os.path.join(os.path.dirname(os.path.dirname(os.path.dirname(os.path.abspath(__file__)))), "nettlebeam-node")
 MOST_IDLE = 200
 TICK_SECONDS = 1.0
+UP = "up"
+
+
+class HostState(NamedTuple):
+    """How a host stands: the jobs on it, and whether it is up, in words."""
+
+    name: str
+    jobs: List[str]
+    state: str
+    is_down: bool
+    is_drained: bool
+
+    @property
+    def is_up(self) -> bool:
+        """Whether jobs begin on it."""
+        return not self.is_down and not self.is_drained
+
+    def line(self) -> str:
+        """The line that tells it at the socket."""
+        return f"{self.name} {','.join(self.jobs) or '-'} {self.state}\n"
+
+    def told(self) -> Dict[str, Any]:
+        """The same as an object of JSON."""
+        down = {"is_down": self.is_down, "is_drained": self.is_drained}
+        return {"name": self.name, "jobs": self.jobs, "told": self.state, **down}
 
 
 class Nodes(Parts):
@@ -151,24 +176,26 @@ class Nodes(Parts):
         sync(self.folder)
         self.changed()
 
-    def states(self) -> List[str]:
-        """A line for each host: its name, the jobs on it, and its state."""
-        lines = []
-        for host in self.keys.hosts or [OWN]:
-            jobs = ",".join(sorted(self.jobs_on(host))) or "-"
-            lines.append(f"{host or os.uname().nodename} {jobs} {self.state(host)}")
-        return lines
+    def states(self) -> List[HostState]:
+        """How each host stands."""
+        return [self.host_state(host) for host in self.keys.hosts or [OWN]]
+
+    def host_state(self, host: str) -> HostState:
+        """How a host stands."""
+        node, name = self.get(host if self.keys.link else OWN), host or os.uname().nodename
+        is_down = bool(node.trouble or node.haunted)
+        return HostState(name, sorted(self.jobs_on(host)), self.state(host), is_down, host in self.drained)
 
     def state(self, host: str) -> str:
         """Whether a host is up, in words."""
         node = self.get(host if self.keys.link else OWN)
         since = time.strftime("%Y-%m-%dT%H:%M:%S", time.localtime(node.since))
-        state = f"down {since} {' '.join(node.trouble.split())}" if node.trouble else "up"
+        state = f"down {since} {' '.join(node.trouble.split())}" if node.trouble else UP
         if node.haunted:
             state = f"down {since} {node.haunted} runs there still, which doesn't run here any more; it is ended"
         if host in self.drained:
             user, why = self.drained[host]
-            state = f"drained by {user}: {why}" + (f"; {state}" if state != "up" else "")
+            state = f"drained by {user}: {why}" + (f"; {state}" if state != UP else "")
         return state
 
     def count(self) -> Optional[int]:

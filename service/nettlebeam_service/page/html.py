@@ -1,13 +1,15 @@
 """The texts of the page: well-formed, readable without a style, without a script, and by those who can't see it."""
 from __future__ import annotations
 
-import re
 import time
 from html import escape
 from types import MappingProxyType
-from typing import Any, Dict, Iterable, List, Mapping, NamedTuple, Sequence, Tuple
+from typing import Any, Collection, Dict, Iterable, List, Mapping, NamedTuple, Sequence, Tuple
 
+from ..nodes.nodes import HostState
 from ..peers.peers import Peer
+from ..site.looks import Machine, Plan, Reservation
+from .chart import bars_of, chart
 
 STYLE = """\
 :root { color-scheme: light dark; --line: #8884; --soft: #8882; --accent: #2a6fb0; }
@@ -41,11 +43,6 @@ dt { opacity: .75; } dd { margin: 0; overflow-wrap: anywhere; }
 }
 """
 LETTERS = {"Q": "waits", "H": "held", "T": "granted", "R": "runs", "E": "is ended", None: "gone"}
-PROLOG = re.compile(r"<\?xml[^>]*\?>\s*")
-CHART_SIZE = re.compile(r"(<svg [^>]*?)width='([0-9]+)' height='([0-9]+)'")
-CHART_SECOND = re.compile(r">([0-9]{9,12})<")
-CHART_SPAN = re.compile(r"\b(from|to)(?: second)? ([0-9]{9,12})\b")
-DAY = 86_400
 
 
 class View(NamedTuple):
@@ -54,19 +51,14 @@ class View(NamedTuple):
     name: str
     moment: int
     notices: Sequence[str]
-    machine: str
-    plan: str
-    reservations: str
-    chart: str
+    machine: Machine
+    plan: Plan
+    reservations: Sequence[Reservation]
+    jobs: Mapping[str, Dict[str, Any]]  # that aren't gone
     waits: Mapping[str, str]  # what the service has jobs wait for
     places: Tuple[int, int]  # jobs of this site, also those that are gone and not retired, and how many there may be
-    hosts: Sequence[str] = ()  # lines of `nodes`
+    hosts: Sequence[HostState] = ()
     unheard: Mapping[str, str] = MappingProxyType({})  # of jobs that were held here what other sites haven't heard
-
-    def nodes(self) -> Tuple[int, int]:
-        """The nodes of the site's machine, and those that are free."""
-        words = self.machine.split("\n")[0].replace(",", "").split()
-        return (int(words[1]), int(words[3])) if len(words) == 4 else (0, 0)
 
 
 def document(title: str, body: str) -> str:
@@ -94,24 +86,6 @@ def long(seconds: int) -> str:
     """A span of time."""
     hours, rest = divmod(seconds, 3600)
     return f"{hours}:{rest // 60:02}:{rest % 60:02}"
-
-
-def fitted(chart: str) -> str:
-    """A chart that is as wide as its place."""
-    text = PROLOG.sub("", chart)
-    return text if "viewBox" in text else CHART_SIZE.sub(r"\1viewBox='0 0 \2 \3'", text, count=1)
-
-
-def clocked(chart: str) -> str:
-    """A chart whose seconds are times of the day, with the date where it tells of more than a day."""
-    seconds = [int(text) for text in CHART_SECOND.findall(chart)]
-    form = "%H:%M" if not seconds or max(seconds) - min(seconds) < DAY else "%m-%d %H:%M"
-
-    def told(second: str) -> str:
-        return time.strftime(form, time.localtime(int(second))) if int(second) < 2**33 else second
-
-    text = CHART_SPAN.sub(lambda found: f"{found.group(1)} {told(found.group(2))}", chart)
-    return CHART_SECOND.sub(lambda found: f">{told(found.group(1))}<", text).replace(">seconds<", ">time<" if seconds else ">seconds<")
 
 
 def link(name: str) -> str:
@@ -145,16 +119,9 @@ def granted(told: Dict[str, Any]) -> str:
     return str((told["grant"] or {}).get("site") or "")
 
 
-def planned(plan: str) -> Tuple[List[str], Tuple[str, int]]:
-    """Of a plan the jobs that start, and the head with its second; an empty name where there is none."""
-    words = [line.split() for line in plan.splitlines()]
-    heads = [(it[1], int(it[2])) for it in words if it[0] == "head"]
-    return [it[1] for it in words if it[0] == "start"], heads[0] if heads else ("", 0)
-
-
-def reason(view: View, job: Dict[str, Any], starts: Sequence[str], head: Tuple[str, int]) -> str:
+def reason(view: View, job: Dict[str, Any], starts: Collection[str]) -> str:
     """Why a job stands where it does, as `why` tells it, from one plan for all jobs."""
-    nodes, begun = view.nodes()[0], job["begun"]
+    nodes, head, begun = view.machine.nodes, view.plan.head, job["begun"]
     if begun:
         return f"since {at(begun['moment'])}, until {at(begun['end'])} at most"
     if job["id"] in view.waits and "s" in job["holds"]:
@@ -169,18 +136,18 @@ def reason(view: View, job: Dict[str, Any], starts: Sequence[str], head: Tuple[s
         return f"needs {job['nodes']} of {nodes} nodes"
     if job["id"] in starts:
         return view.waits.get(job["id"], "starts")
-    if job["id"] == head[0]:
-        return f"the next that starts, at {at(head[1])} at the latest"
-    return f"waits behind {head[0]}" if head[0] else "waits"
+    if job["id"] == head:
+        return f"the next that starts, at {at(view.plan.second)} at the latest"
+    return f"waits behind {head}" if head else "waits"
 
 
-def job_row(view: View, job: Dict[str, Any], starts: Sequence[str], head: Tuple[str, int]) -> List[str]:
+def job_row(view: View, job: Dict[str, Any], starts: Collection[str]) -> List[str]:
     """A job's row."""
     site = job["begun"]["site"] if job["begun"] else granted(job) or "-"
     state = f'<abbr title="{LETTERS[job["letter"]]}">{job["letter"]}</abbr> {LETTERS[job["letter"]]}'
     values = (job["name"], job["owner"])
     numbers = (str(job["priority"]), str(job["nodes"]), long(job["limit"]))
-    why = [reason(view, job, starts, head), *filter(None, [view.unheard.get(job["id"])])]
+    why = [reason(view, job, starts), *filter(None, [view.unheard.get(job["id"])])]
     return [link(job["id"]), *(escape(value) for value in values), state, *numbers, escape(site), escape("; ".join(why))]
 
 
@@ -205,30 +172,39 @@ def peer_row(peer: Peer) -> List[str]:
     return [escape(peer.name), *times, state]
 
 
-def node_row(line: str) -> List[str]:
-    """A node's row, from its line of `nodes`."""
-    host, jobs, state = line.split(" ", 2)
-    names = ", ".join(link(job) for job in jobs.split(",")) if jobs != "-" else "-"
-    return [escape(host), names, escape(state) if state == "up" else f'<span class="bad">{escape(state)}</span>']
+def node_row(host: HostState) -> List[str]:
+    """A node's row."""
+    names = ", ".join(map(link, host.jobs)) or "-"
+    return [escape(host.name), names, escape(host.state) if host.is_up else f'<span class="bad">{escape(host.state)}</span>']
 
 
-def hosts_table(lines: Sequence[str]) -> str:
+def hosts_table(hosts: Sequence[HostState]) -> str:
     """The nodes on which jobs run; nothing where they are names alone."""
-    if not lines:
+    if not hosts:
         return ""
-    return "<h2>Nodes</h2>\n" + table("Nodes, and the jobs on them", ("Node", "Jobs", "State"), map(node_row, lines))
+    return "<h2>Nodes</h2>\n" + table("Nodes, and the jobs on them", ("Node", "Jobs", "State"), map(node_row, hosts))
+
+
+def machine_part(view: View) -> str:
+    """The chart of the machine, and the same as a table."""
+    bars = bars_of(view.machine, view.plan, view.jobs, view.moment)
+    rows = [[escape(it.name), it.kind, str(it.nodes), at(it.start), at(it.end)] for it in bars]
+    return (
+        '<h2 id="machine">The machine</h2>\n<figure tabindex="0" aria-label="The machine from now on, as a chart">'
+        f"{chart(bars, view.machine.nodes, view.moment)}</figure>\n"
+        f"<details><summary>The chart as a table</summary>\n"
+        f"{table('What has nodes, from now on', ('Job or reservation', 'What', 'Nodes', 'From', 'To'), rows, (2,))}</details>\n"
+    )
 
 
 def queue(view: View, jobs: Sequence[Dict[str, Any]], start: int, count: int, each: int, peers: Sequence[Peer]) -> str:
     """The page of the site."""
-    nodes, free = view.nodes()
-    running = sum(line.startswith("run ") for line in view.machine.splitlines())
-    starts, head = planned(view.plan)
-    facts = (("nodes", nodes), ("free", free), ("jobs that run here", running), ("jobs in the queue", count), (f"of {view.places[1]} jobs that the site may keep", view.places[0]))
+    starts = {job["id"] for job in view.plan.starts}
+    facts = (("nodes", view.machine.nodes), ("free", view.machine.free), ("jobs that run here", len(view.machine.running)), ("jobs in the queue", count), (f"of {view.places[1]} jobs that the site may keep", view.places[0]))
     top = "".join(f"<li><b>{value}</b>{name}</li>" for name, value in facts)
     heads = ("Job", "Name", "Owner", "State", "Priority", "Nodes", "Limit", "Site", "Why")
-    rows = [job_row(view, job, starts, head) for job in jobs]
-    reserved = [line.split() for line in view.reservations.splitlines()]
+    rows = [job_row(view, job, starts) for job in jobs]
+    reserved = [[escape(it["id"]), escape(it["site"]), at(it["start"]), at(it["end"]), str(it["nodes"])] for it in view.reservations]
     parts = [
         f"<h1>{escape(view.name)}</h1>\n<p>At {at(view.moment)}. Read this page anew to see what is so now.</p>\n",
         *(f'<p class="bad" role="alert">{escape(notice)}</p>\n' for notice in view.notices),
@@ -237,11 +213,9 @@ def queue(view: View, jobs: Sequence[Dict[str, Any]], start: int, count: int, ea
         '<a href="#sites">Other sites</a></nav>\n',
         "<h2>The queue</h2>\n" + pages(start, count, each),
         table("Jobs that wait or run, of all sites", heads, rows, (4, 5, 6)) if rows else "<p>No job waits or runs.</p>\n",
-        '<h2 id="machine">The machine</h2>\n<figure tabindex="0" aria-label="The machine from now on, as a chart">',
-        clocked(fitted(view.chart)) + "</figure>\n",
+        machine_part(view),
         '<h2 id="reservations">Reservations</h2>\n',
-        table("Reservations that stand", ("Reservation", "Site", "From", "To", "Nodes"),
-              [[escape(it[0]), escape(it[1]), at(int(it[2])), at(int(it[3])), it[4]] for it in reserved])
+        table("Reservations that stand", ("Reservation", "Site", "From", "To", "Nodes"), reserved)
         if reserved else "<p>There is none.</p>\n",
         '<h2 id="sites">Other sites</h2>\n',
         table("Packets to and from other sites", ("Site", "Last given", "Last taken", "State"), map(peer_row, peers))

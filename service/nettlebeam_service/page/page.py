@@ -5,7 +5,7 @@ import asyncio
 import json
 import re
 import time
-from typing import Any, Callable, Dict, List, NamedTuple, Sequence, Tuple
+from typing import Any, Awaitable, Callable, Dict, List, NamedTuple, Sequence, Tuple
 from urllib.parse import parse_qs, urlsplit
 
 from ..common.config import Config
@@ -13,9 +13,10 @@ from ..housekeeping.capacity import MOST_JOBS, Capacity
 from ..jobs.active_runs import Runs
 from ..peers.peers import Peers
 from ..peers.unheard_changes import Unheard
+from ..nodes.nodes import HostState
 from ..site.backup import Backup
-from ..site.job_queries import LISTING
 from ..site.lines import JOB
+from ..site.looks import STARTS, jobs_told, living, machine_of, plan_of, reservations_of, told_of
 from ..site.site import Site, Stopped
 from . import html
 from .metrics import KIND, Metrics
@@ -104,7 +105,7 @@ class Page:
         self.unheard = unheard
         self.log = log
         self.connections = 0
-        self.kept: Dict[str, Tuple[float, "asyncio.Future[str]"]] = {}
+        self.kept: Dict[str, Tuple[float, "asyncio.Future[Any]"]] = {}
 
     async def run(self) -> None:
         """Listens for browsers of this machine. Where the port isn't free, the queue goes on without a page."""
@@ -167,47 +168,42 @@ class Page:
         if parts.path == "/":
             return await self.queue(max(1, min(start, 10**9)))
         if parts.path == "/jobs.json":
-            lines = (await self.ask("jobs")).splitlines()
-            return Response(200, "[" + ",\n".join(lines) + "]\n", "application/json")
+            jobs = await self.kept_of("jobs", lambda: jobs_told(self.site))
+            return Response(200, "[" + ",\n".join(json.dumps(it, separators=(",", ":")) for it in jobs) + "]\n", "application/json")
         if parts.path == "/metrics":
             return Response(200, await self.metrics.text(), KIND)
         if found:
             return await self.job(found.group(1))
         return problem(404, "There is no such page.")
 
-    async def ask(self, line: str) -> str:
-        """The site's answer to a look, kept for some seconds, so that many browsers cost no more than one."""
+    async def kept_of(self, what: str, look: Callable[[], Awaitable[Any]]) -> Any:
+        """What the site tells, kept for some seconds, so that many browsers cost no more than one."""
         now = time.monotonic()
         self.kept = {it: kept for it, kept in self.kept.items() if kept[0] > now}
-        if line not in self.kept:
-            self.kept[line] = (now + KEPT_SECONDS, asyncio.ensure_future(self.text_of(line)))
-        return await asyncio.shield(self.kept[line][1])
-
-    async def text_of(self, line: str) -> str:
-        """The site's answer."""
-        return (await self.site.ask(line)).text
+        if what not in self.kept:
+            self.kept[what] = (now + KEPT_SECONDS, asyncio.ensure_future(look()))
+        return await asyncio.shield(self.kept[what][1])
 
     async def queue(self, start: int) -> Response:
         """The site: its machine, its queue from the job of this place on, its reservations and its peers."""
-        moment = int(time.time() / KEPT_SECONDS) * int(KEPT_SECONDS)
-        lines = ("machine {0}", "plan {0}", "reservations", "chart {0}", LISTING)
-        asked = [self.ask(line.format(moment)) for line in lines]
-        machine, plan, reservations, chart, listing = await asyncio.gather(*asked)
-        names = [line.split()[0] for line in listing.splitlines()]
-        shown = names[start - 1 : start - 1 + self.config.page.jobs]
-        jobs: List[Dict[str, Any]] = []
-        if shown:
-            told = {job["id"]: job for job in map(json.loads, (await self.ask("jobs " + " ".join(shown))).splitlines())}
-            jobs = [told[name] for name in shown if name in told]
+        moment, site = int(time.time() / KEPT_SECONDS) * int(KEPT_SECONDS), self.site
+        machine, plan, reservations, queued = await asyncio.gather(
+            self.kept_of("machine", lambda: machine_of(site, moment)),
+            self.kept_of("plan", lambda: plan_of(site, moment)),
+            self.kept_of("reservations", lambda: reservations_of(site)),
+            self.kept_of("queue", lambda: living(site)),
+        )
+        jobs = queued[start - 1 : start - 1 + self.config.page.jobs]
+        shown, known = [job["id"] for job in jobs], {job["id"]: job for job in queued}
         waits, hosts, unheard = self.waits(shown), self.hosts(), await self.unheard.of(held_of(jobs))
         await self.capacity.count()
         places, notices = (self.capacity.own, MOST_JOBS), self.notices()
-        view = html.View(self.config.name, moment, notices, machine, plan, reservations, chart, waits, places, hosts, unheard)
-        body = html.queue(view, jobs, start, len(names), self.config.page.jobs, list(self.peers))
+        view = html.View(self.config.name, moment, notices, machine, plan, reservations, known, waits, places, hosts, unheard)
+        body = html.queue(view, jobs, start, len(queued), self.config.page.jobs, list(self.peers))
         return Response(200, html.document(f"{self.config.name}: the queue", body))
 
-    def hosts(self) -> List[str]:
-        """The lines of the nodes on which jobs run; none where all run on this machine."""
+    def hosts(self) -> List[HostState]:
+        """The nodes on which jobs run; none where all run on this machine."""
         return self.runs.nodes.states() if self.config.jobs.link else []
 
     def notices(self) -> List[str]:
@@ -235,12 +231,12 @@ class Page:
 
     async def job(self, name: str) -> Response:
         """One job."""
-        told = await self.ask(f"jobs {name}")
-        if not told.startswith("{"):
+        job = next(iter((await told_of(self.site, [name])).values()), None)
+        if job is None:
             return problem(404, f"This site knows no job {name}.")
-        moment = int(time.time())
-        job = json.loads(told)
-        why = (await self.ask(f"why {name} {moment}")).strip()
-        why = self.waits([job["id"]]).get(job["id"], why) if why.startswith(("held", "starts")) else why
+        answer = await self.site.look(f"why {name} {int(time.time())}")
+        why = answer.shown()
+        if job["letter"] == "H" or answer.is_just(STARTS):
+            why = self.waits([job["id"]]).get(job["id"], why)
         why = "; ".join([why, *(await self.unheard.of(held_of([job]))).values()])
         return Response(200, html.document(f"{job['id']}: a job", html.job(job, why)))

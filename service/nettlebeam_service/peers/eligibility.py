@@ -1,37 +1,31 @@
 """Which jobs another site may have: those for which it has nodes enough, by the roster that is known here."""
 from __future__ import annotations
 
-from typing import Dict, Mapping, Sequence
+from ..site.answers import Answer
+from ..site.looks import Job, is_granted_to, told_of
+from ..site.site import Site
 
-from ..site.job_queries import Job, is_granted_to, told_of
-from ..site.site import Answer, Site
-
-NOT_ELIGIBLE = "refused 7\n"
+NOT_ELIGIBLE = b"refused 7\n"
 
 
 class Eligibility:
     """Has grants asked that other sites can use."""
 
-    def __init__(self, here: str, roster: Mapping[str, int], site: Site):
+    def __init__(self, here: str, site: Site):
         self.here = here
-        self.roster: Dict[str, int] = dict(roster)
         self.site = site
-
-    def learn(self, words: Sequence[str]) -> None:
-        """Takes a roster that the site was told, NAME:NODES a word."""
-        self.roster.update((name, int(nodes)) for name, _, nodes in (word.partition(":") for word in words))
 
     async def grant(self, job: str, peer: str) -> Answer:
         """The answer to the asking for a grant. A site that can never run a job gets neither the job nor its script."""
         for name, told in (await told_of(self.site, [job])).items() if peer != self.here else ():
             if not self.fits(told, peer) and not is_granted_to(told, peer):
-                words = f"{name} needs {told['nodes']} nodes, and {peer} has {self.roster[peer]} by the roster that is known here"
+                words = f"{name} needs {told['nodes']} nodes, and {peer} has {self.site.roster[peer]} by the roster that is known here"
                 return Answer(NOT_ELIGIBLE, words, 1)
         return await self.site.ask(f"grant {job} {peer}")
 
     def fits(self, job: Job, peer: str) -> bool:
         """Whether a site has nodes enough for a job; of one that the roster hasn't the site says so."""
-        return peer == self.here or job["nodes"] <= self.roster.get(peer, job["nodes"])
+        return peer == self.here or job["nodes"] <= self.site.roster.get(peer, job["nodes"])
 
     def may_read(self, job: Job, peer: str) -> bool:
         """Whether a site may have the script of a job: it holds the job, can run it, and hasn't begun it."""

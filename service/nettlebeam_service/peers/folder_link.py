@@ -44,7 +44,7 @@ class FolderLink:
 
     # Files
 
-    def write(self, name: str, kind: str, job: str, data: bytes) -> None:
+    def write(self, name: str, kind: str, job: str, data: bytes | bytearray) -> None:
         """Writes a sealed file for the peer. Its number is above that of the file in whose place it comes."""
         key, label = read_key(self.key), Label(self.here, self.peer, kind, job, 0)
         before = 0
@@ -83,11 +83,11 @@ class FolderLink:
 
     # What a peer is asked
 
-    async def call(self, *words: str, given: bytes = b"") -> bytes:
+    async def call(self, *words: str, given: bytes | bytearray = b"") -> bytes | bytearray:
         """Does by files what these words ask, in a thread, since the folder may be far away."""
         return await asyncio.to_thread(self.do, words, given)
 
-    def do(self, words: Tuple[str, ...], given: bytes) -> bytes:
+    def do(self, words: Tuple[str, ...], given: bytes | bytearray) -> bytes:
         """Does it."""
         if words[0] == "take":
             self.write(f"{self.here}.packet", "packet", NO_JOB, given)

@@ -14,7 +14,7 @@ class Link(Protocol):
 
     refused: str  # why something that came from the peer was refused last
 
-    async def call(self, *words: str, given: bytes = b"") -> bytes:
+    async def call(self, *words: str, given: bytes | bytearray = b"") -> bytes | bytearray:
         """What the peer answers."""
 
     async def has_news(self) -> bool:
@@ -42,7 +42,7 @@ class CommandLink:
         self.keys = keys
         self.refused = ""
 
-    async def call(self, *words: str, given: bytes = b"") -> bytes:
+    async def call(self, *words: str, given: bytes | bytearray = b"") -> bytes | bytearray:
         """What the peer answers. One call is one process, which is ended when it hangs."""
         try:
             done = await call([*self.keys.command, *words], self.keys.seconds, given, LONGEST_PACKET)

@@ -12,6 +12,7 @@ from ..common.config import PeerKeys
 from ..common.identifiers import IDENTIFIER
 from ..common.wire import ADDED, FACTS, are_variables, is_fact
 from ..site.exchange import Exchange
+from ..site.looks import counter_of, origin_of
 from ..site.packets import BadPacket
 from ..site.site import Site, Stopped
 from .eligibility import Eligibility
@@ -102,7 +103,8 @@ class Peers:
             if self.site.lost_state.loss or not self.site.has_room():
                 continue
             try:
-                counter = await self.counter()
+                counter = await counter_of(self.site, self.here)
+                self.check_known(peer)
                 is_late = time.monotonic() >= peer.next_round
                 if (counter > peer.given or is_late) and time.monotonic() >= peer.next_try:
                     await self.exchange_with(peer, counter)
@@ -119,21 +121,21 @@ class Peers:
                 if known != str(fault):
                     self.log(f"{peer.name}: {fault}; it is tried again in {pause:g} s, and later ever less often")
 
-    async def counter(self) -> int:
-        """The counter of this site's last operation."""
-        lines = (await self.site.ask("seen")).text.splitlines()
-        return next(int(line.split()[1]) for line in lines if line.split()[0] == self.here)
+    def check_known(self, peer: Peer) -> None:
+        """PeerFault where the site's roster hasn't this peer."""
+        if peer.name not in self.site.roster:
+            raise PeerFault(f"it is no other site of the roster: {' '.join(self.site.roster)}")
 
     async def exchange_with(self, peer: Peer, counter: int) -> None:
         """Takes what the peer has, and gives it what it lacks. Each take is kept in a journal for good, so that a packet
         which both sides know word for word isn't taken again."""
         has_news = await self.fetch(peer.name)
-        packet = (await self.exchange.packet(peer.name)).encode("ascii")
+        packet = (await self.exchange.packet(peer.name)).whole()
         digest = hashlib.sha256(packet).hexdigest()
         if has_news or digest != peer.shipped:
-            answer = (await peer.link.call("take", given=packet)).decode("ascii", "replace").strip()
-            if answer not in ("taken", "known"):
-                raise PeerFault(f"it answers {answer[:100] or 'nothing'} to a packet")
+            told = await peer.link.call("take", given=packet)
+            if told.strip() not in (b"taken", b"known"):
+                raise PeerFault(f"it answers {told[:100].decode('ascii', 'replace').strip() or 'nothing'} to a packet")
             peer.shipped = digest
             peer.last_given = time.time()
         peer.given = max(peer.given, counter)
@@ -151,13 +153,13 @@ class Peers:
         has_news = bool(packet) and digest != peer.taken
         if has_news:
             try:
-                answer = (await self.exchange.take_packet(packet, name)).text.strip()
+                answer = await self.exchange.take_packet(packet, name)
             except BadPacket as fault:
                 raise PeerFault(str(fault)) from None
-            if answer not in ("taken", "known"):
-                raise PeerFault(f"its packet is answered {answer[:100]}")
+            if not answer.is_just("taken", "known"):
+                raise PeerFault(f"its packet is answered {answer.shown()}")
             peer.taken = digest
-            if answer == "taken":
+            if answer.is_just("taken"):
                 self.wake()
         return has_news
 
@@ -165,10 +167,9 @@ class Peers:
 
     async def give(self, peer: Peer, job: str) -> None:
         """Grants a job to a peer that asks by a file, and puts the script there."""
-        if not IDENTIFIER.match(job) or job.split(".")[1] != self.here:
+        if not IDENTIFIER.match(job) or origin_of(job) != self.here:
             return
-        answer = (await self.eligibility.grant(job, peer.name)).text.strip()
-        if answer in ("granted", "yours"):
+        if (await self.eligibility.grant(job, peer.name)).is_just("granted", "yours"):
             await peer.link.give_script(job, await self.exchange.script_text(job))
 
     async def grants(self, name: str, jobs: List[str]) -> Dict[str, str]:

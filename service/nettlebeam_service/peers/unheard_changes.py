@@ -8,16 +8,17 @@ from __future__ import annotations
 import asyncio
 import json
 import os
-from typing import Callable, Dict, List, Sequence, Tuple
+import re
+from typing import Callable, Dict, List, Optional, Sequence, Tuple
 
 from ..common.files import put, read_json
-from ..common.identifiers import IDENTIFIER
-from ..site.job_queries import Job, origin_of, read_seen, told_of_many
-from ..site.site import Answer, Site, Stopped
+from ..site.answers import Answer
+from ..site.lines import JOB
+from ..site.looks import Job, counter_of, full_name, origin_of, seen_by, told_of_many
+from ..site.site import Site, Stopped
 
 VERBS = ("qdel", "qhold")
-DONE = "done"
-STATES = ("held", "deleted")
+ONE_JOB = re.compile(f"{JOB}\\Z")
 
 
 def holder_of(job: Job) -> str:
@@ -64,13 +65,15 @@ class Unheard:
 
     async def with_words(self, words: Sequence[str], answer: Answer) -> Answer:
         """The answer to words of a user, with a hint for each job whose origin can't be told now."""
-        lines = answer.text.splitlines()
-        if words[0] not in VERBS or DONE not in lines:
+        if words[0] not in VERBS:
             return answer
-        names = [word for word, line in zip(words[-len(lines) :], lines) if line == DONE and IDENTIFIER.match(word)]
+        named = dict.fromkeys(full_name(word, self.here) for word in words[1:] if ONE_JOB.match(word))
+        names = answer.is_about_each(list(named), "done")
+        if not names:
+            return answer
         try:
             jobs = await told_of_many(self.site, names)
-            counter = read_seen((await self.site.ask("seen")).text)[self.here][0]
+            counter = await counter_of(self.site, self.here)
         except Stopped:
             return answer  # what was asked is done all the same
         holders = {name: holder_of(job) for name, job in jobs.items() if not job["finished"]}
@@ -80,24 +83,21 @@ class Unheard:
         self.since.update({name: (site, counter) for name, site in others.items()})
         await asyncio.to_thread(self.keep)
         told = [hint(name, site) for name, site in others.items() if self.is_silent(site)]
-        return answer._replace(words="\n".join([*filter(None, [answer.words]), *told]))
+        return answer.with_words(*told)
 
-    async def with_hint(self, job: str, answer: Answer) -> Answer:
-        """The site's answer to why a job waits, with hints."""
-        if not answer.text.startswith(STATES):
+    async def with_hint(self, job: Optional[Job], answer: Answer) -> Answer:
+        """The site's answer to why a job waits, with hints where it is held or deleted."""
+        if job is None or not (job["deleted"] or job["letter"] == "H"):
             return answer
-        name = job if "." in job else f"{job}.{self.here}"
-        told = (await told_of_many(self.site, [name])).get(name) if answer.text.startswith("deleted") else None
-        hints = [*filter(None, [answer.words, running(told) if told else ""]), *(await self.of([name])).values()]
-        return answer._replace(words="\n".join(hints))
+        return answer.with_words(running(job) if job["deleted"] else "", *(await self.of([job["id"]])).values())
 
     async def of(self, jobs: Sequence[str]) -> Dict[str, str]:
         """What people are told of those of these jobs of which the other site hasn't heard yet."""
         found: List[str] = [job for job in jobs if job in self.since]
         if not found:
             return {}
-        seen = read_seen((await self.site.ask("seen")).text)
-        heard = [job for job in found if self.since[job][0] not in seen or seen[self.since[job][0]][1] >= self.since[job][1]]
+        seen = await seen_by(self.site)
+        heard = [job for job in found if self.since[job][0] not in seen or seen[self.since[job][0]]["told"] >= self.since[job][1]]
         if heard:
             for job in heard:
                 del self.since[job]

@@ -3,12 +3,13 @@ from __future__ import annotations
 
 import asyncio
 
+from .answers import Answer
 from .backup import Backup
 from .packets import parts_of_line
-from .site import Answer, Site
+from .site import Site
 from .spool import Spool
 
-FORGOTTEN = "forgotten\n"
+FORGOTTEN = "forgotten"
 
 
 class Exchange:
@@ -19,16 +20,16 @@ class Exchange:
         self.spool = spool
         self.backup = backup
 
-    async def packet(self, peer: str) -> str:
-        """The text of a packet for a peer, once a backup is as new."""
-        text = (await self.site.ask(f"ship {peer}")).text
+    async def packet(self, peer: str) -> Answer:
+        """The site's answer with a packet for a peer, once a backup is as new."""
+        answer = await self.site.ask(f"ship {peer}")
         await self.backup.made()
-        return text
+        return answer
 
     async def take_packet(self, packet: bytes, peer: str) -> Answer:
         """The site's answer to the text of a packet, which must be of this peer where one is named."""
-        answer = await self.site.ask_parts(parts_of_line(packet, peer))
-        if answer.text == FORGOTTEN:
+        answer = await self.site.ask_parts(parts_of_line(packet, peer), True)
+        if answer.is_just(FORGOTTEN):
             self.site.lost_state.lose(peer or "a site")
         return answer
 

@@ -2,45 +2,45 @@
 
 A line of a site says by its first words who asks, and in which role. So nothing of a request may become such a word: the
 user is put in front by the service, and a look or a line of the scheduler is passed on only in exactly its own form, since
-`jobs qsub` would else submit a job of a user called `jobs`.
+`jobs qsub` would else submit a job of a user called `jobs`. Which words there are the program tells itself.
 """
 from __future__ import annotations
 
 import re
-from typing import Mapping, NamedTuple, Optional, Pattern, Sequence, Tuple
+from typing import AbstractSet, Mapping, NamedTuple, Optional, Pattern, Sequence, Tuple
 
-UTILITIES = ("qsub", "qalter", "qhold", "qrls", "qdel", "qstat")
 ROLES = ("operator", "admin")
-# read as lines of the scheduler behind any site, whoever asks
-RESERVED = ("grant", "begin", "finish", "handback", "ship", "take", "plan", "retire", "decline", "compact", "roster")
-# their answers tell of a change of the queue or of the machine: behind a user, and by themselves
-CHANGING_OF_USERS = ("qsub", "qalter", "qhold", "qrls", "qdel", "reserve", "cancel")
-CHANGING_OF_SITES = ("grant", "begin", "finish", "handback", "decline", "retire", "take", "roster")
-CHANGING = CHANGING_OF_USERS + CHANGING_OF_SITES
+READING = ("qstat", "plan", "ship")  # what changes nothing of a utility's lines and of a site's own
 
 USER = re.compile(r"[A-Za-z][A-Za-z0-9_.-]{0,14}\Z")
 PRINTABLE = re.compile(r"[!-~]+\Z")
 JOB = r"[0-9]{1,10}(?:\.[A-Za-z][A-Za-z0-9-]{0,14})?"
 NUMBER = r"[0-9]{1,20}"
 NAME = r"[A-Za-z][A-Za-z0-9-]{0,14}"
+OF_BOARD = ("plan", "plan-json", "why", "chart", "machine", "machine-json", "usage")  # what goes through all jobs
+KINDS = ("utility", "user", "look", "site")  # as the program calls them
 FEW = 100  # jobs that a line may name without being costly
 
 
 def forms(**texts: str) -> Mapping[str, Pattern[str]]:
     """Patterns of whole lines, by their first words."""
-    return {word: re.compile(f"{word}{text}\\Z") for word, text in texts.items()}
+    return {word: re.compile(f"{word}{text}\\Z") for word, text in ((it.replace("_", "-"), text) for it, text in texts.items())}
 
 
 FOR_ALL = forms(
     why=f" {JOB} {NUMBER}",
     machine=f" {NUMBER}",
+    machine_json=f" {NUMBER}",
     reservations="",
+    reservations_json="",
     jobs=f"(?: {JOB})*",
+    roster="",
     seen="",
+    seen_json="",
     chart=f" {NUMBER}",
     plan=f" {NUMBER}(?: but(?: {JOB})+)?",
+    plan_json=f" {NUMBER}(?: but(?: {JOB})+)?",
 )
-FOR_OPERATORS = ("reserve", "cancel")
 FOR_THE_SITE = forms(
     grant=f" {JOB} {NAME}",
     begin=f" {JOB} {NUMBER}",
@@ -64,6 +64,27 @@ class Client(NamedTuple):
     user: Optional[str]
     roles: Tuple[str, ...] = ()
     is_site: bool = False
+    trouble: str = ""  # why nothing may be asked in this user's name
+
+
+class Known:
+    """The words that lines of the program may begin with, as it tells them: the utilities, what operators ask behind their names,
+    the looks, and a site's own lines, which are read as such whoever asks."""
+
+    def __init__(self) -> None:
+        self.utilities: AbstractSet[str] = frozenset()
+        self.of_operators: AbstractSet[str] = frozenset()
+        self.looks: AbstractSet[str] = frozenset()
+        self.of_sites: AbstractSet[str] = frozenset()
+
+    def learn(self, words: Mapping[str, AbstractSet[str]]) -> None:
+        """Takes the words by their kinds."""
+        self.utilities, self.of_operators, self.looks, self.of_sites = (words[kind] for kind in KINDS)
+
+    def changes(self, words: Sequence[str]) -> bool:
+        """Whether the answer to words of a client may tell of a change of the queue or of the machine."""
+        changing = (self.utilities | self.of_operators | self.of_sites).difference(READING)
+        return words[0] in changing and words != ["roster"]
 
 
 def check_words(words: Sequence[str]) -> None:
@@ -81,8 +102,8 @@ def name_of(client: Client) -> str:
         raise Denied(f"the user number {client.uid} has no login name")
     if not USER.match(client.user):
         raise Denied(f"the login name {client.user} can't be a user's name: 1 to 15 letters, digits, _ - and ., a letter first")
-    if client.user in RESERVED:
-        raise Denied(f"the login name {client.user} is a word of the scheduler's lines")
+    if client.trouble:
+        raise Denied(client.trouble)
     return client.user
 
 
@@ -98,35 +119,30 @@ def asker(client: Client, role: Optional[str]) -> str:
     return f"{user}/{role}"
 
 
-def line_of(client: Client, words: Sequence[str], role: Optional[str]) -> str:
+def line_of(known: Known, client: Client, words: Sequence[str], role: Optional[str]) -> str:
     """The line that these words of this client make. Denied where they may not be asked."""
     check_words(words)
     verb, line = words[0], " ".join(words)
-    if verb in UTILITIES:
+    if verb in known.utilities:
         return f"{asker(client, role)} {line}"
-    if verb in FOR_OPERATORS:
+    if verb in known.of_operators:
         if role is None:
             raise Denied(f"{verb} is asked as operator or admin")
         return f"{asker(client, role)} {line}"
-    if verb in FOR_THE_SITE and not client.is_site:
+    look = FOR_ALL.get(verb) if verb in known.looks else None
+    form = FOR_THE_SITE.get(verb) if verb in known.of_sites else None
+    if look and look.match(line):
+        return line
+    if form and not client.is_site:
         raise Denied(f"{verb} is asked by the site's own account alone")
-    form = FOR_ALL.get(verb) or FOR_THE_SITE.get(verb)
-    if form is None:
-        raise Denied(f"{verb[:40]!r} is nothing that can be asked here")
-    if not form.match(line):
-        raise Denied(f"the words of {verb} are wrong")
-    return line
-
-
-def changes(line: str) -> bool:
-    """Whether a line may change the site, or what others know of it: a packet that leaves tells what it will stand by."""
-    first, _, rest = line.partition(" ")
-    return first in CHANGING_OF_SITES or first == "ship" or rest.partition(" ")[0] in CHANGING_OF_USERS
+    if form and form.match(line):
+        return line
+    raise Denied(f"the words of {verb} are wrong" if look or form else f"{verb[:40]!r} is nothing that can be asked here")
 
 
 def is_costly(words: Sequence[str]) -> bool:
     """Whether a line goes through all jobs of the board, or through many: it costs by what it names."""
-    if words[:1] in (["plan"], ["why"], ["chart"], ["machine"], ["usage"]):
+    if words[:1] and words[0] in OF_BOARD:
         return True
     # brackets may mean all members of an array
     named = sum(FEW + 1 if "[" in word else 1 for word in words[1:] if word[:1].isdigit())

@@ -5,21 +5,21 @@ import asyncio
 import contextlib
 import os
 import time
-from typing import AsyncIterator, Callable, List, NamedTuple, Optional, Sequence
+from typing import AsyncIterator, Callable, Dict, Optional, Sequence
 
+from ..common.commands import call
 from ..common.processes import processor_seconds
-from .lines import changes
+from .answers import NOT_KEPT, Answer, FrameReader
+from .lines import Known
 from .lost_state import LostState
 from .unanswered import IS_FOR_SOMEBODY, Unanswered
 
 SHORTEST_PAUSE, LONGEST_PAUSE = 0.1, 60.0  # before a child that has ended is started again, each time twice as long
 CHUNK = 1 << 20
-USAGE_SECONDS = 10
 END_SECONDS = 120
-FRAMES_FLAG = "--frames"
-# without it the child would compact its journal by itself, at moments that no backup knows of
-HISTORY_FLAG = "--keep-history"
-NOT_KEPT = 3
+WORDS_SECONDS = 20.0
+# in frames; and without the second the child would compact its journal by itself, at moments that no backup knows of
+OPTIONS = ("--frames", "--keep-history")
 
 
 class Stopped(Exception):
@@ -38,45 +38,6 @@ class Lost(Stopped):
     """The site isn't asked what would change it, since it has lost what others know of it."""
 
 
-class Answer(NamedTuple):
-    """What the program said to a line, the words beside it, and the status: 0, and 1 where the line isn't done as it asks."""
-
-    text: str
-    words: str = ""
-    status: int = 0
-
-
-class FrameReader:
-    """Cuts the output of `serve --frames` into answers: each has a head line, its status and two numbers of bytes, and behind
-    it so many bytes of the answer, and of the words beside it."""
-
-    def __init__(self) -> None:
-        self.held = bytearray()
-        self.wanted = 0  # the bytes of the frame whose head has come
-
-    def feed(self, data: bytes) -> None:
-        """Takes bytes that came."""
-        self.held += data
-
-    def next(self) -> Optional[Answer]:
-        """The next answer that is whole."""
-        if len(self.held) < self.wanted:
-            return None
-        end = self.held.find(b"\n") + 1
-        if not end:
-            return None
-        status, answer, words = map(int, self.held[:end].split())
-        self.wanted = end + answer + words
-        if len(self.held) < self.wanted:
-            return None
-        with memoryview(self.held) as held:
-            text = str(held[end : end + answer], "ascii", "replace")
-            told = str(held[end + answer : self.wanted], "ascii", "replace")
-        del self.held[: self.wanted]
-        self.wanted = 0
-        return Answer(text, told, status)
-
-
 class Interlude:
     """A time in which no child has the site's directory."""
 
@@ -88,7 +49,7 @@ class Interlude:
 def settle(asked: "asyncio.Future[Answer]", answer: Answer) -> None:
     """Hands an answer to the one who asked: as a fault where the line isn't kept."""
     if answer.status == NOT_KEPT:
-        asked.set_exception(NotKept(answer.words or "nothing of the line is kept"))
+        asked.set_exception(NotKept(answer.beside() or "nothing of the line is kept"))
     else:
         asked.set_result(answer)
 
@@ -96,12 +57,11 @@ def settle(asked: "asyncio.Future[Answer]", answer: Answer) -> None:
 class Site:
     """Keeps one `serve` as a child, writes lines to it as they come, and hands each answer to the one who asked."""
 
-    def __init__(
-        self, program: str, folder: str, names: Sequence[str], free_bytes: int, lost_state: LostState, log: Callable[[str], None]
-    ):
+    def __init__(self, program: str, folder: str, free_bytes: int, lost_state: LostState, log: Callable[[str], None]):
         self.program = program
         self.folder = folder
-        self.names = list(names)  # of all sites, in the order of the roster that this site knows
+        self.known = Known()
+        self.roster: Dict[str, int] = {}  # the nodes of all sites, as this site knows them; none before it has answered
         self.free_bytes = free_bytes
         self.lost_state = lost_state
         self.log = log
@@ -110,16 +70,19 @@ class Site:
         self.trouble = "it hasn't started yet"
         self.ending = False
         self.ready = asyncio.Event()
-        self.can_compact = False  # as far as the program's usage tells
         self.interlude: Optional[Interlude] = None
         self.open = asyncio.Event()  # whether lines are written as they come
         self.open.set()
 
-    async def ask(self, line: str) -> Answer:
-        """The answer to a line. Stopped where none comes."""
-        return await self.ask_parts([line.encode("ascii")], changes(line))
+    async def look(self, line: str) -> Answer:
+        """The answer to a line that changes nothing. Stopped where none comes."""
+        return await self.ask_parts([line.encode("ascii")], False)
 
-    async def ask_parts(self, parts: Sequence[bytes | memoryview], is_change: bool = True) -> Answer:
+    async def ask(self, line: str) -> Answer:
+        """The answer to a line that may change the site, or what others know of it."""
+        return await self.ask_parts([line.encode("ascii")], True)
+
+    async def ask_parts(self, parts: Sequence[bytes | memoryview], is_change: bool) -> Answer:
         """The answer to a line of these parts, which may be long: they are not put together here."""
         await self.open.wait()
         if self.lost_state.loss and is_change:
@@ -172,7 +135,8 @@ class Site:
 
     async def run_once(self) -> None:
         """One life of the child."""
-        pipe, command = asyncio.subprocess.PIPE, await self.command()
+        await self.learn_words()
+        pipe, command = asyncio.subprocess.PIPE, (self.program, "serve", *OPTIONS, self.folder)
         process = await asyncio.create_subprocess_exec(
             *command, stdin=pipe, stdout=pipe, stderr=pipe, start_new_session=True, limit=CHUNK
         )
@@ -216,32 +180,26 @@ class Site:
             self.interlude = None
             interlude.over.set()
 
-    async def command(self) -> List[str]:
-        """What starts the child: with what of its options the program's usage knows."""
-        pipe, null = asyncio.subprocess.PIPE, asyncio.subprocess.DEVNULL
-        process = await asyncio.create_subprocess_exec(self.program, "serve", "--help", stdin=null, stdout=pipe, stderr=pipe)
+    async def learn_words(self) -> None:
+        """Has the program tell which words it knows. OSError where it doesn't. Each child may be of another program."""
         try:
-            usage, _ = await asyncio.wait_for(process.communicate(), USAGE_SECONDS)
-        except asyncio.TimeoutError:
-            process.kill()
-            usage = b""
-        options = [flag for flag in (HISTORY_FLAG,) if flag.encode() in usage]
-        self.can_compact = HISTORY_FLAG in options
-        return [self.program, "serve", FRAMES_FLAG, *options, self.folder]
+            done = await call((self.program, "words"), WORDS_SECONDS, most=CHUNK)
+            self.known.learn(Answer(done.out).by_kinds())
+        except (asyncio.TimeoutError, KeyError):
+            raise OSError(0, "it doesn't tell its words") from None
 
     async def probe(self) -> None:
         """Waits until the site answers, so that others are told that it does."""
         try:
-            await self.learn_names()
+            await self.learn_roster()
             self.ready.set()
             self.log("the site answers")
         except Stopped:
             pass
 
-    async def learn_names(self) -> None:
-        """Asks the site for the names of all sites. A roster may be kept though its answer was lost, so each child is asked."""
-        lines = (await self.ask("seen")).text.splitlines()
-        self.names = [words[0] for words in map(str.split, lines) if words]
+    async def learn_roster(self) -> None:
+        """Asks the site for the roster that it knows. One may be kept though its answer was lost, so each child is asked."""
+        self.roster = (await self.look("roster")).roster() or self.roster
 
     async def read_answers(self, process: asyncio.subprocess.Process) -> None:
         """Hands out the answers, until the child's output ends."""

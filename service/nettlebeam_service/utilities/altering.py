@@ -6,7 +6,7 @@ import os
 import time
 
 from ..common.ask import Told, ask
-from ..words.options import Fault, as_words, naming, parse_anywhere
+from ..words.options import Fault, Words, as_words, naming
 from ..words.resources import Resources, without_effect
 
 TYPE_CHECKING = False
@@ -75,9 +75,9 @@ def name_in(options: Options) -> Tuple[Options, Dict[str, str]]:
     return [(letter, name[:LONGEST_NAME] if letter == "N" else argument) for letter, argument in options], {"name": name}
 
 
-def alter(path: str, words: List[str], role: Optional[str]) -> Told:
+def alter(path: str, words: Words, role: Optional[str]) -> Told:
     """Alters jobs: what the site has of them, and behind that what the service keeps."""
-    options, operands = parse_anywhere("qalter", words)
+    options, operands = words.options, words.operands
     resources = Resources()
     for letter, argument in options:
         if letter == "l" and argument is not None:
@@ -95,7 +95,7 @@ def alter(path: str, words: List[str], role: Optional[str]) -> Told:
     told = Told(0, b"", "")
     if plain or not facts:
         told = ask(path, ["qalter", *plain, "--", *operands], role)
-    if facts and told.status < 2 and not told.answer.startswith(b"usage "):
+    if facts and (not plain or told.has_line("done")):
         by_service = ask(path, ["alter", *operands], role, facts, variables)
         if not plain or (is_needed and (not told.status or by_service.status > 1)):
             told = by_service
@@ -103,9 +103,9 @@ def alter(path: str, words: List[str], role: Optional[str]) -> Told:
     return told
 
 
-def without_options(words: List[str]) -> Tuple[List[str], List[str]]:
+def without_options(words: Words) -> Tuple[List[str], List[str]]:
     """The words of a `qdel` without PBS's options, and what is said of these."""
-    options, operands = parse_anywhere("qdel", words)
+    options, operands = words.options, words.operands
     for letter, argument in options:
         if letter in "mW" and argument is None:
             raise Fault(f"-{letter} needs an argument")

@@ -4,7 +4,6 @@ from __future__ import annotations
 import time
 
 from ..common.ask import Unasked, ask
-from ..common.small_json import loads
 
 TYPE_CHECKING = False
 if TYPE_CHECKING:
@@ -17,10 +16,8 @@ LOST = 255
 
 def statuses_of(path: str, name: str) -> List[Optional[int]]:
     """How each job of a name ended; None for one that hasn't."""
-    told = ask(path, ["jobs", name])
-    jobs = [loads(line) for line in told.answer.decode().splitlines() if line.startswith("{")]
     found: List[Optional[int]] = []
-    for job in jobs:
+    for job in ask(path, ["jobs", name]).json_lines():
         is_over = job["letter"] is None
         found.append((job["finished"]["status"] if job["finished"] else LOST) if is_over else None)
     return found

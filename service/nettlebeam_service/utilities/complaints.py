@@ -1,9 +1,8 @@
-"""What the site says is wrong with words, told with the option that has them."""
+"""What is told where the site doesn't do what the words of a utility ask: its answer, and its words as they are."""
 from __future__ import annotations
 
 from ..common.ask import Told
-from ..words.options import OPTIONS, parse_anywhere
-from .main import words_of
+from ..words.options import OPTIONS
 
 TYPE_CHECKING = False
 if TYPE_CHECKING:
@@ -15,28 +14,9 @@ if TYPE_CHECKING:
 OF_SITE = {"qsub": "AhlNpC", "qalter": "AlNp", "qhold": "h", "qrls": "h"}
 WITHOUT_ARGUMENTS = "IVXz"
 PBS_LISTS = (":", "select", "ncpus", "mem")
-NO_SUCH_SITE = "names a site that the roster has not"
-
-
-def begins_of(letter: str, argument: str) -> List[str]:
-    """What the words about an option's argument may begin with."""
-    parts = argument.split(",") if letter == "l" else [argument]
-    names = [part.partition("=")[0] for part in parts] if letter == "l" else []
-    return [f"{it} " for it in (*parts, *names) if it] + [f"{argument[:40]!r} is empty"]
-
-
-def with_option(text: str, options: Options, names: Dict[str, str]) -> str:
-    """A complaint with the option in front that it is about, where it is about the argument of one."""
-    for letter, argument in reversed(options):
-        if argument is None:
-            continue
-        if letter == "q" and NO_SUCH_SITE in text and f"sites={argument.rpartition('@')[2]}" in text:
-            return f"{names.get(letter, '-q')} {argument}: there is no queue and no site of this name"
-        if letter == "W" and text.startswith("depend: "):
-            return f"{names.get(letter, '-W')} {text}"
-        if text.startswith(tuple(begins_of(letter, argument))):
-            return f"{names.get(letter, f'-{letter}')} {argument}: {text}"
-    return text
+USAGES = tuple(f"usage {number}" for number in range(1, 9))
+BAD_VALUE, UNKNOWN_SITE = "usage 4", "usage 6"
+NOT_ASKED = 2  # the status of words that the service takes for none
 
 
 def is_plain(utility: str, options: Options) -> bool:
@@ -47,14 +27,15 @@ def is_plain(utility: str, options: Options) -> bool:
 
 
 def explained(utility: str, options: Options, told: Told, names: Dict[str, str]) -> Told:
-    """What the site answered, its words with the options that they are about. What PBS has besides is complained of on standard
-    error alone, so that nothing takes a complaint for an identifier."""
-    lines = [with_option(words_of(line), options, names) for line in told.words.splitlines()]
-    is_complaint = told.answer.startswith(b"usage ") or utility == "qsub"
-    answer = b"" if is_complaint and not is_plain(utility, options) else told.answer
-    return Told(told.status, answer, "\n".join(lines))
-
-
-def explained_words(utility: str, words: List[str], told: Told) -> Told:
-    """The same by the words of a utility."""
-    return explained(utility, parse_anywhere(utility, words)[0], told, {})
+    """What the site answered, and where it is about the options which these are, those of the script among them; some have other
+    names than those of qsub. What PBS has besides is complained of on standard error alone, so that nothing takes a complaint for
+    an identifier."""
+    given = [(names.get(letter, f"-{letter}"), argument) for letter, argument in options if argument is not None]
+    queue = dict(options).get("q")
+    if queue and told.is_just(UNKNOWN_SITE):  # a queue is a site here
+        return Told(told.status, b"", f"{names.get('q', '-q')} {queue}: there is no queue and no site of this name")
+    words = told.words
+    if given and (told.is_just(BAD_VALUE, UNKNOWN_SITE) or told.status == NOT_ASKED):
+        words += f"\nthe options are {' '.join(f'{name} {argument}' for name, argument in given)}"
+    is_complaint = told.is_just(*USAGES) or utility == "qsub"
+    return Told(told.status, b"" if is_complaint and not is_plain(utility, options) else told.answer, words)

@@ -2,8 +2,7 @@
 from __future__ import annotations
 
 from ..common.ask import Told, ask
-from ..common.small_json import loads
-from ..words.options import Fault, parse_anywhere
+from ..words.options import Fault, Words
 
 TYPE_CHECKING = False
 if TYPE_CHECKING:
@@ -16,7 +15,7 @@ STATE_OF_ARRAY = "B"
 QUEUE = "batch"
 FINISHED = "F"
 UNKNOWN_STATUS, FINISHED_STATUS, NO_QUEUE_STATUS = 153, 35, 170
-OF_NO_ARRAY = ("is no array that is known here", "the array has no such member")
+NOT_ASKED = 2  # of words that the service takes for none, such as those of an array that isn't known
 
 
 class View:
@@ -130,10 +129,9 @@ def named(operands: List[str], jobs: List[Job], view: View) -> Tuple[List[Job], 
     return [job for job in jobs if is_shown(job, view)], said, status
 
 
-def read_options(words: List[str]) -> Tuple[Dict[str, Optional[str]], List[str]]:
-    """The options, and the operands. Fault where an option isn't known, or two can't be together."""
-    options, operands = parse_anywhere("qstat", words)
-    found = dict(options)
+def known_options(words: Words) -> Dict[str, Optional[str]]:
+    """The options by their letters. Fault where one isn't known, or lacks its argument."""
+    found = dict(words.options)
     for letter in found:
         if letter not in KNOWN:
             raise Fault(f"there is no option -{letter} here")
@@ -142,7 +140,7 @@ def read_options(words: List[str]) -> Tuple[Dict[str, Optional[str]], List[str]]
             raise Fault(f"-{letter} needs an argument")
     if found.get("F", "json") not in ("json", "dsv"):
         raise Fault(f"-F {found['F']}: there are json and dsv")
-    return found, operands
+    return found
 
 
 def jobs_for(path: str, view: View, operands: List[str], role: Optional[str]) -> Tuple[Optional[Told], List[Job]]:
@@ -152,7 +150,7 @@ def jobs_for(path: str, view: View, operands: List[str], role: Optional[str]) ->
     told = ask(path, ["details", kind, *operands], role)
     if told.status:
         return told, []
-    jobs = [loads(line) for line in told.answer.decode().splitlines()]
+    jobs = told.json_lines()
     for job in jobs:
         job["shown"], job["state"] = shown_id(job), state_of(job)
     return None, jobs
@@ -160,13 +158,11 @@ def jobs_for(path: str, view: View, operands: List[str], role: Optional[str]) ->
 
 def jobs_of(path: str, view: View, operands: List[str], role: Optional[str]) -> Tuple[Optional[Told], List[Job], List[str]]:
     """The same of operands, some of which may be arrays that aren't known; and the operands without these."""
-    left = operands
-    while True:
-        fault, jobs = jobs_for(path, view, left, role) if left else (None, [])
-        unknown = fault.words.partition(" ")[0].rstrip(":") if fault and fault.words.endswith(OF_NO_ARRAY) else ""
-        if unknown not in left:
-            return fault, jobs, left
-        left = [operand for operand in left if operand != unknown]
+    fault, jobs = jobs_for(path, view, operands, role) if operands else (None, [])
+    if not fault or fault.status != NOT_ASKED:
+        return fault, jobs, operands
+    left = [operand for operand in operands if "[" not in operand or not ask(path, ["details", "now", operand], role).status]
+    return (fault, [], left) if left == operands else (*(jobs_for(path, view, left, role) if left else (None, [])), left)
 
 
 def view_now(view: View) -> View:
@@ -176,13 +172,12 @@ def view_now(view: View) -> View:
 
 def here_of(path: str) -> str:
     """The name of the site."""
-    return ask(path, ["site"]).answer.decode().strip()
+    return ask(path, ["site"]).name()
 
 
-def qstat(path: str, words: List[str], role: Optional[str]) -> Told:
+def qstat(path: str, words: Words, role: Optional[str]) -> Told:
     """Lists what is asked for."""
-    options, operands = read_options(words)
-    view = View(options, here_of(path))
+    view, operands = View(known_options(words), here_of(path)), words.operands
     if any(operand in (QUEUE, f"@{view.here}", f"{QUEUE}@{view.here}") for operand in operands):
         operands = []  # all that are in the queue
     if view.has("QqB"):
@@ -226,10 +221,7 @@ def planned(path: str) -> Dict[str, int]:
 
     moment = int(time.time())
     found: Dict[str, int] = {}
-    for line in ask(path, ["plan", str(moment)]).answer.decode().splitlines():
-        words = line.split()
-        if words[:1] == ["start"]:
-            found[words[1]] = moment
-        elif words[:1] == ["head"] and len(words) > 2 and words[2].isdigit():
-            found[words[1]] = int(words[2])
+    for plan in filter(None, ask(path, ["plan-json", str(moment)]).json_lines()):
+        found.update((job["id"], moment) for job in plan["starts"])
+        found.update({plan["head"]["job"]: plan["head"]["second"]} if plan["head"] else {})
     return found

@@ -9,7 +9,7 @@ import os
 import sys
 
 from ..common.ask import Told, Unasked, ask, find_socket
-from ..words.options import Fault, in_order, parse_anywhere
+from ..words.options import Fault, Words
 
 TYPE_CHECKING = False
 if TYPE_CHECKING:
@@ -17,57 +17,48 @@ if TYPE_CHECKING:
 
 MORE = ("qselect", "qsig", "qmsg", "qmove", "qrerun", "pbsnodes")
 OF_SLURM = ("sbatch", "squeue", "scancel", "sinfo")
-# the number of a refusal is in the answer already
-KINDS = ("refused ", "usage ")
-PROGRAM = "nettlebeam: "
 QUEUE = "batch"
-LINES_IN_FULL = 12
 VERSION = "pbs_version = nettlebeam"
 NO_SITE = "NETTLEBEAM_SOCKET isn't set, and this machine hasn't one service of a site"
 
 
-def words_of(line: str) -> str:
-    """A line of complaints without the number of the refusal."""
-    text = line[len(PROGRAM) :] if line.startswith(PROGRAM) else line
-    number, mark, words = text.partition("): ")
-    return words if mark and text.startswith(KINDS) and number.split(" ")[1].isdigit() else line
-
-
-def alter(path: str, words: List[str], role: Optional[str]) -> Told:
+def alter(path: str, words: Words, role: Optional[str]) -> Told:
     """`qalter`: the values of the site, and what the service has a job wait for."""
     from .altering import alter as alter_all
 
     return alter_all(path, words, role)
 
 
-def list_jobs(path: str, words: List[str], role: Optional[str]) -> Told:
+def list_jobs(path: str, words: Words, role: Optional[str]) -> Told:
     """`qstat`: the site's own listings where POSIX's options are given, and those of PBS else."""
-    options, operands = parse_anywhere("qstat", words)
+    options, operands = words.options, words.operands
     is_queue = any("@" in operand or operand == QUEUE for operand in operands)
     if any(letter != "f" for letter, _ in options) or is_queue:
         from .listing import qstat
 
         return qstat(path, words, role)
     is_array = any("[" in operand for operand in operands)
-    told = Told(0, b"", "") if is_array else ask(path, ["qstat", *in_order("qstat", words)], role)
-    lines = LINES_IN_FULL if options else 1
-    if told.status or not operands or (not is_array and told.answer.count(b"\n") >= lines * len(operands)):
+    told = Told(0, b"", "") if is_array else ask(path, ["qstat", *words.of_site], role)
+    if told.status or not operands or (not is_array and are_living(path, operands)):
         return told
     from .listing import known
 
     return known(path, [f"-{letter}" for letter, _ in options], operands, role)
 
 
-def change(path: str, utility: str, words: List[str], role: Optional[str]) -> Told:
+def are_living(path: str, operands: List[str]) -> bool:
+    """Whether none of these jobs is gone, or unknown."""
+    return len([job for job in ask(path, ["jobs", *operands]).json_lines() if job["letter"]]) == len(operands)
+
+
+def change(path: str, utility: str, words: Words, role: Optional[str]) -> Told:
     """`qdel`, `qhold` and `qrls`: the site's answer."""
-    words = in_order(utility, words)
-    if utility == "qdel" and words and words[0].startswith("-"):
+    of_site, said = words.of_site, []  # type: List[str], List[str]
+    if utility == "qdel" and words.options:
         from .altering import without_options
 
-        words, said = without_options(words)
-    else:
-        said = []
-    told = ask(path, [utility, *words], role)
+        of_site, said = without_options(words)
+    told = ask(path, [utility, *of_site], role)
     told.words = "\n".join(filter(None, (*said, told.words)))
     return told
 
@@ -97,14 +88,15 @@ def run(utility: str, words: List[str], path: Optional[str]) -> Told:
         from .submitting import submit
 
         return submit(path, words, role)
+    read = Words(utility, words)
     if utility == "qstat":
-        told = list_jobs(path, words, role)
+        told = list_jobs(path, read, role)
     else:
-        told = alter(path, words, role) if utility == "qalter" else change(path, utility, words, role)
+        told = alter(path, read, role) if utility == "qalter" else change(path, utility, read, role)
     if told.status in (1, 2) and told.words:
-        from .complaints import explained_words
+        from .complaints import explained
 
-        return explained_words(utility, words, told)
+        return explained(utility, read.options, told, {})
     return told
 
 
@@ -122,6 +114,5 @@ def main(utility: str, words: List[str]) -> int:
         return 0
     except KeyboardInterrupt:
         return 130
-    for line in told.words.splitlines():
-        print(f"{utility}: {words_of(line)}", file=sys.stderr)
+    sys.stderr.write(told.words_of(utility))
     return told.status

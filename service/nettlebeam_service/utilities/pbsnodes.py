@@ -4,17 +4,15 @@ Nodes are whole here, so a node has one processor to give, and is `job-exclusive
 """
 from __future__ import annotations
 
-import os
-
 from ..common.ask import Told, ask
 from ..common.small_json import dumps
 from ..words.options import Fault, parse_anywhere
 
 TYPE_CHECKING = False
 if TYPE_CHECKING:
-    from typing import Dict, List, Optional
+    from typing import Any, Dict, List, Optional
 
-    Node = Dict[str, str]
+    Node = Dict[str, Any]
 
 KINDS = "alSor"  # of which one is done
 OTHERS = "vCF"  # letters that say how
@@ -24,28 +22,23 @@ SUMMARY_HEAD = (
     "--------------- --------------- ------ ----- ------ ------------ ------- ------- ------- -------\n"
 )
 UNTOLD = "pbsnodes -o"
-DRAINED = "drained by "
 
 
-def node_of(line: str) -> Node:
-    """A node, from its line of `nodes`."""
-    host, jobs, told = line.split(" ", 2)
-    states: List[str] = []
-    if told.startswith("down ") or told.rpartition("; down ")[2][4:5] == "-":  # a date is behind it
-        states.append("down")
-    if told.startswith(DRAINED):
-        states.append("offline")
-    if jobs != "-" and not states:
-        states.append("job-exclusive")
-    comment = "" if told == "up" else told
-    return {"name": host, "state": ",".join(states) or "free", "jobs": "" if jobs == "-" else jobs, "comment": comment}
+def nodes_in(told: Told) -> List[Node]:
+    """The nodes that the service tells, each with its state as PBS has it."""
+    nodes: List[Node] = told.json_lines()
+    for node in nodes:
+        states = [word for key, word in (("is_down", "down"), ("is_drained", "offline")) if node[key]]
+        node["state"] = ",".join(states) or ("job-exclusive" if node["jobs"] else "free")
+        node["comment"] = node["told"] if states else ""
+    return nodes
 
 
 def attributes_of(node: Node) -> Dict[str, str]:
     """What the long listing tells of a node."""
     found = {"Mom": node["name"], "ntype": "PBS", "state": node["state"], "pcpus": "1"}
     if node["jobs"]:
-        found["jobs"] = ", ".join(f"{job}/0" for job in node["jobs"].split(","))
+        found["jobs"] = ", ".join(f"{job}/0" for job in node["jobs"])
     found["resources_available.host"] = node["name"]
     found["resources_available.ncpus"] = "1"
     found["resources_assigned.ncpus"] = "1" if node["jobs"] else "0"
@@ -76,9 +69,9 @@ def summary(nodes: List[Node]) -> str:
     """The listing of `-S`: a line for each node."""
     lines: List[str] = []
     for node in nodes:
-        count = len(node["jobs"].split(",")) if node["jobs"] else 0
+        count = len(node["jobs"])
         numbers = f"{count:>6} {count:>5} {0:>6} {'0kb/0kb':>12} {f'{0 if count else 1}/1':>7} {'0/0':>7} {'0/0':>7}"
-        lines.append(f"{node['name']:<15} {node['state']:<15} {numbers} {node['jobs'] or '--'}\n")
+        lines.append(f"{node['name']:<15} {node['state']:<15} {numbers} {','.join(node['jobs']) or '--'}\n")
     return SUMMARY_HEAD + "".join(lines)
 
 
@@ -121,13 +114,13 @@ def pbsnodes(path: str, words: List[str], role: Optional[str]) -> Told:
 
 def listing(path: str, kind: str, hosts: List[str], is_json: bool, role: Optional[str]) -> Told:
     """A listing of all nodes, or of these."""
-    told = ask(path, ["nodes"], role)
+    told = ask(path, ["nodes-json"], role)
     if told.status:
         return told
-    nodes = [node_of(line) for line in os.fsdecode(told.answer).splitlines()]
+    nodes = nodes_in(told)
     unknown = [host for host in hosts if host not in {node["name"] for node in nodes}]
     if hosts:
         nodes = [node for node in nodes if node["name"] in hosts]
-    server = ask(path, ["site"]).answer.decode("ascii").strip() if is_json else ""
+    server = ask(path, ["site"]).name() if is_json else ""
     text = {"l": off_lines, "S": summary}.get(kind, long_lines)(nodes) if not is_json else objects(nodes, server)
     return Told(1 if unknown else 0, text.encode(), "\n".join(f"Node: {host},  Error: Unknown node" for host in unknown))

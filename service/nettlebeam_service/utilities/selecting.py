@@ -1,7 +1,6 @@
 """`qselect`: the identifiers of the jobs in the queue that are as its options say, one a line."""
 from __future__ import annotations
 
-import json
 import operator
 import re
 
@@ -106,6 +105,6 @@ def qselect(words: List[str], path: str) -> Told:
     told = ask(path, ["jobs"])
     if told.status:
         return told
-    jobs = [job for job in map(json.loads, told.answer.splitlines()) if job["letter"]]
+    jobs = [job for job in told.json_lines() if job["letter"]]
     names = [job["id"] for job in jobs if all(holds(job) for holds in wanted)]
     return Told(0, "".join(f"{name}\n" for name in names).encode(), told.words)

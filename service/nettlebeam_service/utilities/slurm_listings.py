@@ -8,7 +8,7 @@ from ..common.ask import Told, ask
 from ..words.options import Fault
 from .layouts import elapsed, name_of
 from .listing import UNKNOWN_STATUS, View, here_of, jobs_for, named, planned, with_arrays
-from .pbsnodes import node_of
+from .pbsnodes import nodes_in
 from .slurm import NOT_KNOWN, identifiers
 
 TYPE_CHECKING = False
@@ -154,7 +154,7 @@ def sinfo(given: Given, operands: List[str], path: str, role: Optional[str]) -> 
     """`sinfo [-h] [-N]`: the nodes of the site's machine."""
     if operands:
         raise Fault(f"{operands[0]}: it has no operands")
-    told = ask(path, ["nodes"], role)
-    nodes = [(node["name"], NODES[node["state"].partition(",")[0]]) for node in map(node_of, os.fsdecode(told.answer).splitlines())]
+    told = ask(path, ["nodes-json"], role)
+    nodes = [(node["name"], NODES[node["state"].partition(",")[0]]) for node in nodes_in(told)]
     lines = node_lines(nodes) if "Node" in given else partition_lines(nodes)
     return Told(told.status, "".join(lines[1:] if "noheader" in given else lines).encode(), told.words)

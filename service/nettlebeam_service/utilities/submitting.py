@@ -175,7 +175,7 @@ def send(path: str, submission: Submission, options: Options, script: bytes, rol
         from .complaints import explained
 
         return explained("qsub", options, told, submission.option_names)
-    name = told.answer.decode("ascii", "replace").strip()
+    name = told.name()
     told.answer = submission.answer(name) if not told.status else told.answer
     if submission.is_blocking and not told.status:
         from .blocking import wait_for

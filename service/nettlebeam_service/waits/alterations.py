@@ -6,7 +6,7 @@ import re
 from typing import Any, Callable, Dict, Optional, Tuple
 
 from ..common.wire import MOST_VARIABLES, OF_OPTIONS, Reply, Request, are_variables, split_body
-from ..site.job_queries import told_of
+from ..site.looks import origin_of, told_of
 from ..site.lines import JOB, Client, Denied, asker
 from ..site.site import Site
 from ..site.spool import Spool
@@ -65,11 +65,11 @@ class Alterations:
         """Alters a job; the line that answers for it, and why it isn't done."""
         told = next(iter((await told_of(self.site, [word])).values()), None)
         answer = await self.site.ask(f"{who} qalter {word}")  # whether this user may, and the job isn't granted yet
-        if answer.text != "done\n" or told is None:
-            return answer.text.strip(), answer.words
+        if not answer.is_just("done") or told is None:
+            return answer.shown(), answer.beside()
         job = told["id"]
-        if not job.endswith(f".{self.here}"):
-            return "refused 5", f"{job} was submitted at {job.partition('.')[2]}: ask there"
+        if origin_of(job) != self.here:
+            return "refused 5", f"{job} was submitted at {origin_of(job)}: ask there"
         refusal = await self.keep(job, facts) if facts else None
         if refusal:
             return refusal
@@ -111,8 +111,8 @@ class Alterations:
     async def hold(self, group: Group, job: str) -> Tuple[str, str]:
         """Sets the system hold of a job that didn't wait; what the site answers."""
         answer = await self.site.ask(f"{SERVICE} qhold -h s {job}")
-        if answer.text != "done\n":
+        if not answer.is_just("done"):
             await asyncio.to_thread(self.groups.remove, group)
-            return answer.text.strip(), answer.words
+            return answer.shown(), answer.beside()
         await self.group_submission.advance(group, ENTERED)
         return "done", ""

@@ -4,7 +4,7 @@ from __future__ import annotations
 import re
 from typing import List, Optional, Sequence
 
-from ..site.job_queries import told_of
+from ..site.looks import told_of
 from ..site.lines import NAME, Denied
 from ..site.site import Site
 from ..words.options import Fault

@@ -10,11 +10,12 @@ from __future__ import annotations
 import asyncio
 import json
 import re
-from typing import AbstractSet, Any, Dict, List, Optional, Sequence, Tuple
+from typing import AbstractSet, Any, Dict, List, Optional, Sequence
 
 from ..housekeeping.gone_jobs import recorded
 from ..jobs.active_runs import Runs
-from ..site.job_queries import Job, now
+from ..site.answers import Answer
+from ..site.looks import STARTS, Job, full_name, jobs_told, now
 from ..site.lines import JOB, Client, Denied, name_of
 from ..site.site import Site
 from ..site.spool import Spool
@@ -25,13 +26,6 @@ MOST_REASONS = 100
 LEFT_ALONE = "left alone, since nothing is run here as its owner"
 PRIVATE = ("arguments", "variables")
 ONE_JOB = re.compile(f"{JOB}\\Z")
-
-
-def read_jobs(text: str) -> Tuple[List[Job], Dict[str, str]]:
-    """The jobs of an answer, and the line of each."""
-    lines = [line for line in text.splitlines() if line.startswith("{")]
-    jobs = [json.loads(line) for line in lines]
-    return jobs, {job["id"]: line for job, line in zip(jobs, lines)}
 
 
 class Details:
@@ -51,7 +45,7 @@ class Details:
         kind, names = words[1].split(",") if len(words) > 1 else [], list(words[2:])
         if kind not in KINDS or not all(map(ONE_JOB.match, names)):
             raise Denied("the words of details are wrong")
-        jobs, raw = await asyncio.to_thread(read_jobs, (await self.site.ask(" ".join(["jobs", *names]))).text)
+        jobs = await jobs_told(self.site, names)
         if "all" in kind and self.accounting:
             jobs = await self.with_older(jobs, names)
         elif "all" not in kind:
@@ -59,12 +53,12 @@ class Details:
         reasons = await self.reasons(jobs) if "why" in kind else {}
         user = name_of(client)
         is_trusted = role is not None and role in client.roles
-        return await asyncio.to_thread(self.lines, jobs, raw, reasons, user, is_trusted)
+        return await asyncio.to_thread(self.lines, jobs, reasons, user, is_trusted)
 
     async def with_older(self, jobs: Sequence[Job], names: Sequence[str]) -> List[Job]:
         """Jobs with those that the accounting alone has, of these names where there are some."""
         known = {job["id"] for job in jobs}
-        wanted = {name if "." in name else f"{name}.{self.here}" for name in names} - known
+        wanted = {full_name(name, self.here) for name in names} - known
         if names and not wanted:
             return list(jobs)
         older = await asyncio.to_thread(recorded, self.accounting, wanted)
@@ -73,12 +67,15 @@ class Details:
     async def reasons(self, jobs: Sequence[Job]) -> Dict[str, str]:
         """Why jobs wait, as the site tells it, of the first of them."""
         names = [job["id"] for job in jobs if job["letter"] in ("Q", "T")][:MOST_REASONS]
-        answers = await asyncio.gather(*(self.site.ask(f"why {name} {now()}") for name in names))
-        told = {name: answer.text.strip() for name, answer in zip(names, answers)}
-        return {name: LEFT_ALONE if why == "starts" and name in self.left_alone else why for name, why in told.items()}
+        answers = await asyncio.gather(*(self.site.look(f"why {name} {now()}") for name in names))
+        return {name: self.reason(name, answer) for name, answer in zip(names, answers)}
 
-    def lines(self, jobs: Sequence[Job], raw: Dict[str, str], reasons: Dict[str, str], user: str, is_trusted: bool) -> bytes:
-        """The lines of jobs, whose texts are these where the site told them."""
+    def reason(self, job: str, answer: Answer) -> str:
+        """Why a job waits, for which the site gives this answer."""
+        return LEFT_ALONE if job in self.left_alone and answer.is_just(STARTS) else answer.shown()
+
+    def lines(self, jobs: Sequence[Job], reasons: Dict[str, str], user: str, is_trusted: bool) -> bytes:
+        """The lines of jobs."""
         found: List[str] = []
         stored = set(self.spool.names_kept())
         for job in jobs:
@@ -87,8 +84,7 @@ class Details:
                 more = {key: value for key, value in more.items() if key not in PRIVATE}
             if job["id"] in reasons:
                 more["why"] = reasons[job["id"]]
-            text = raw.get(job["id"]) or json.dumps(job)
-            found.append(f'{text[:-1]}, "more": {json.dumps(more) if more else "{}"}}}')
+            found.append(json.dumps({**job, "more": more}))
         return "".join(f"{line}\n" for line in found).encode("ascii")
 
     def more(self, job: Job) -> Dict[str, Any]:

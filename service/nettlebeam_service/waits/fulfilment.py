@@ -4,7 +4,7 @@ from __future__ import annotations
 from typing import Dict, Optional
 
 from ..housekeeping.accounting import is_settled
-from ..site.job_queries import Job, Seen, origin_of
+from ..site.looks import Job, Seen, origin_of
 
 
 class Deletions:
@@ -25,8 +25,8 @@ class Deletions:
         origin = origin_of(job["id"])
         if origin == self.here or job["begun"] or job["grant"] or origin not in seen:
             return False
-        noticed = self.since.setdefault(job["id"], seen[self.here][0])
-        return seen[origin][1] >= noticed
+        noticed = self.since.setdefault(job["id"], seen[self.here]["known"])
+        return seen[origin]["told"] >= noticed
 
 
 def verdict(kind: str, job: Job, is_final: bool) -> Optional[bool]:

@@ -8,15 +8,15 @@ nobody was told are deleted, and else what is missing is set.
 from __future__ import annotations
 
 import asyncio
-import json
 from dataclasses import replace
 from typing import Any, Callable, Dict, List, Optional, Sequence, Set, Tuple
 
 from ..common.files import remove
 from ..common.identifiers import IDENTIFIER
-from ..site.job_queries import origin_of, told_of_many
+from ..site.answers import Answer
 from ..site.lines import Denied
-from ..site.site import Answer, Site
+from ..site.looks import full_name, living, origin_of, seen_by, told_of_many
+from ..site.site import Site
 from ..site.spool import Spool
 from ..words.dependencies import read_depends
 from ..words.options import Fault, parse
@@ -28,13 +28,13 @@ JOBS_OF_LINE = 100
 AT_ONCE = 250
 UNDO_GAP = 0.01
 WAITING_FACTS = ("array", "at", "depend")
+HELD_OR_OVER = ("done", "refused 3", "refused 4")  # of a hold that is set, or isn't needed: the job is gone, or granted
 
 
-async def ask_each(site: Site, words: str, jobs: Sequence[str]) -> Dict[str, str]:
-    """What the site answers to words of the service for each of some jobs."""
+async def ask_each(site: Site, words: str, jobs: Sequence[str]) -> List[Tuple[Sequence[str], Answer]]:
+    """What the site answers to words of the service for some jobs, of which there are many in a line."""
     parts = [jobs[place : place + JOBS_OF_LINE] for place in range(0, len(jobs), JOBS_OF_LINE)]
-    answers = await asyncio.gather(*(site.ask(f"{SERVICE} {words} {' '.join(part)}") for part in parts))
-    return {job: line for part, answer in zip(parts, answers) for job, line in zip(part, answer.text.splitlines())}
+    return list(zip(parts, await asyncio.gather(*(site.ask(f"{SERVICE} {words} {' '.join(part)}") for part in parts))))
 
 
 class NotEntered(Exception):
@@ -70,8 +70,7 @@ class GroupSubmission:
 
     async def counter(self) -> int:
         """The counter of this site's last operation."""
-        lines = (await self.site.ask("seen")).text.splitlines()
-        return max([0, *(int(words[1]) for words in map(str.split, lines) if words)])
+        return max(it["known"] for it in (await seen_by(self.site)).values())
 
     async def depends_of(self, text: str) -> List[List[str]]:
         """What a list of dependencies waits for, arrays by their members. Denied where a job isn't known here."""
@@ -82,7 +81,7 @@ class GroupSubmission:
         found: List[Tuple[str, str]] = []
         for kind, word in pairs:
             number, bracket, rest = word.partition("[")
-            name = word if "." in word else f"{word}.{self.here}"
+            name = full_name(word, self.here)
             if bracket:
                 found += [(kind, job) for job in self.members_of(number, rest)]
             elif IDENTIFIER.match(name):
@@ -90,7 +89,7 @@ class GroupSubmission:
             else:
                 raise Denied(f"depend: {word[:40]!r} is no identifier of a job")
         names = list(dict.fromkeys(job for _, job in found))
-        told = await told_of_many(self.site, [name for name in names if origin_of(name) in self.site.names])
+        told = await told_of_many(self.site, [name for name in names if origin_of(name) in self.site.roster])
         missing = [name for name in names if name not in told]
         if missing:
             raise Denied(f"depend: {missing[0]} isn't known here")
@@ -109,8 +108,8 @@ class GroupSubmission:
 
     # Submitting
 
-    async def submit(self, asker: str, words: Sequence[str], facts: Dict[str, Any], script: bytes) -> Answer:
-        """Submits a job that waits, or an array; the answer with its identifier, or the first refusal."""
+    async def submit(self, asker: str, words: Sequence[str], facts: Dict[str, Any], script: bytes) -> Tuple[Answer, List[str]]:
+        """Submits a job that waits, or an array; the answer with its identifier, or the first refusal, and the jobs."""
         group = await self.group_for(facts, words)
         facts = {**facts, "group": group.key}
         line = " ".join([asker, *words[:1], *([] if group.held else ["-h"]), *words[1:]])
@@ -125,7 +124,7 @@ class GroupSubmission:
             refusal = await self.submit_all(group, line, facts, script)
             if refusal is not None:
                 await self.delete(group, group.jobs)
-                return refusal
+                return refusal, []
             await self.spool.names.done()
             await self.advance(group, MADE)
         finally:
@@ -133,7 +132,7 @@ class GroupSubmission:
             self.making -= 1
             self.busy.discard(group.key)
         await self.enter(group)
-        return Answer(f"{group.array_id if group.indices else group.jobs[0]}\n")
+        return Answer(f"{group.array_id if group.indices else group.jobs[0]}\n".encode("ascii")), group.jobs
 
     async def submit_all(self, group: Group, line: str, facts: Dict[str, Any], script: bytes) -> Optional[Answer]:
         """Submits all jobs of a group, with their scripts; the first refusal, where there is one."""
@@ -154,8 +153,8 @@ class GroupSubmission:
         """Gives a group's jobs their script, which they share; the first refusal. What an answer failed by is raised behind."""
         others: List[Any] = []
         for answer in answers:
-            job = answer.text.strip() if isinstance(answer, Answer) else ""
-            if IDENTIFIER.match(job):
+            job = answer.identifier() if isinstance(answer, Answer) else ""
+            if job:
                 self.groups.disown(job)
                 self.spool.share(draft, job)
                 group.jobs.append(job)
@@ -174,9 +173,10 @@ class GroupSubmission:
             living = [job for job in group.jobs if job in told and told[job]["letter"]]
             waiting = living if group.is_waiting else living[group.most :] if group.most else []
             answers = await ask_each(self.site, "qhold -h s", [job for job in waiting if "s" not in told[job]["holds"]])
-            for job, answer in answers.items():
-                if answer not in ("done", "refused 3", "refused 4"):
-                    raise NotEntered(f"{job}: its system hold is answered {answer}")
+            for jobs, answer in answers:
+                over = [job for text in HELD_OR_OVER for job in answer.is_about_each(jobs, text)]
+                for job in set(jobs).difference(over):
+                    raise NotEntered(f"{job}: its system hold isn't set: {answer.beside()}")
             if not group.held:
                 await ask_each(self.site, "qrls -h u", [job for job in living if "u" in told[job]["holds"]])
             await self.advance(group, ENTERED)
@@ -208,8 +208,7 @@ class GroupSubmission:
     async def found(self, group: Group) -> List[str]:
         """The jobs of a group that isn't made: those whose scripts name it, and those that were submitted since it was begun,
         for the same owner by the same name, with a user hold, and have no script: the service was killed before it named it."""
-        jobs = [json.loads(line) for line in (await self.site.ask("jobs")).text.splitlines()]
-        mine = [job for job in jobs if job["letter"] and is_since(job["id"], self.here, group.after)]
+        mine = [job for job in await living(self.site) if is_since(job["id"], self.here, group.after)]
         found: List[str] = []
         for job in mine:
             facts = self.spool.facts(job["id"])

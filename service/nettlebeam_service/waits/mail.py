@@ -19,7 +19,7 @@ from ..common.files import read_json, remove, write
 from ..common.identifiers import IDENTIFIER
 from ..housekeeping.accounting import is_settled
 from ..node.job_files import shown_id, whole_name
-from ..site.job_queries import Job, told_of_many
+from ..site.looks import Job, told_of_many
 from ..site.site import Site
 from ..site.spool import Spool
 

@@ -5,7 +5,7 @@ import asyncio
 import time
 from typing import Callable, Dict, Optional, Sequence
 
-from ..site.job_queries import Job, Seen, read_seen, told_of_many
+from ..site.looks import Job, Seen, seen_by, told_of_many
 from ..site.site import Site, Stopped
 from ..site.spool import Spool
 from .fulfilment import Deletions, verdict
@@ -105,7 +105,7 @@ class Releasing:
     async def look_at(self, groups: Sequence[Group], is_whole: bool) -> None:
         """Does what is to be done for groups that have entered: of those for which something has come about, or of all."""
         told = await told_of_many(self.site, {job for group in groups for _, job in group.depend})
-        seen = read_seen((await self.site.ask("seen")).text) if told else {}
+        seen = await seen_by(self.site) if told else {}
         touched = [group for group in groups if is_whole or group.most or self.has_news(group, told, seen)]
         told.update(await told_of_many(self.site, {job for group in touched for job in group.jobs}))
         for group in touched:

@@ -2,12 +2,14 @@
 from __future__ import annotations
 
 import asyncio
-from typing import AbstractSet, Any, Callable, Dict, List, Sequence
+from typing import AbstractSet, Any, Callable, Dict, Optional, Sequence
 
 from ..common.config import Config
 from ..housekeeping.usage import Usage
 from ..jobs.active_runs import Runs
-from ..site.site import Answer, Site
+from ..site.answers import Answer
+from ..site.looks import STARTS, Job
+from ..site.site import Site
 from ..site.spool import Spool
 from .alterations import Alterations
 from .arrays import Arrays
@@ -57,36 +59,32 @@ class Waits:
         self.releasing.every = config.jobs.every
         self.releasing.wake()
 
-    async def with_mail(self, answer: Answer, facts: Dict[str, Any]) -> Answer:
-        """The answer to a submission, once the mail is noted that its facts ask for; with words where none is sent."""
-        jobs = self.jobs_of(answer.text.strip())
+    async def with_mail(self, answer: Answer, jobs: Sequence[str], facts: Dict[str, Any]) -> Answer:
+        """The answer to the submission of these jobs, once the mail is noted that its facts ask for; with words where none is
+        sent."""
         if not jobs or not points_of(facts):
             return answer
         if not self.mail.keys.mail:
-            return answer._replace(words=NO_MAIL)
+            return answer.with_words(NO_MAIL)
         if self.groups.array(jobs[0]) and "j" not in str(facts.get("mail", "")):
-            return answer._replace(words="of an array mail is sent for each member, where -m has a j, and none else")
+            return answer.with_words("of an array mail is sent for each member, where -m has a j, and none else")
         for job in jobs:
             await asyncio.to_thread(self.mail.know, job)
         return answer
 
-    def with_reason(self, answer: Answer, job: str) -> Answer:
+    def with_reason(self, answer: Answer, job: Optional[Job]) -> Answer:
         """The site's answer to why a job waits, with words for what the service has it wait for, or why it is left alone."""
-        name = job if "." in job else f"{job}.{self.here}"
-        if name in self.left_alone and answer.text.startswith("starts"):
-            return answer._replace(words=f"{name} doesn't: {LEFT_ALONE}")
-        group = self.groups.by_job.get(name)
-        if group is None or not group.is_waiting or not answer.text.startswith("held"):
+        if job is None:
             return answer
-        return answer._replace(words=group.in_words())
+        if job["id"] in self.left_alone and answer.is_just(STARTS):
+            return answer.with_words(f"{job['id']} doesn't: {LEFT_ALONE}")
+        group = self.groups.by_job.get(job["id"])
+        if group is None or not group.is_waiting or job["letter"] != "H":
+            return answer
+        return answer.with_words(group.in_words())
 
     def reasons(self, jobs: Sequence[str]) -> Dict[str, str]:
         """What those of these jobs wait for that wait by the service, or are left alone by it."""
         alone = {job: LEFT_ALONE for job in jobs if job in self.left_alone}
         found = {job: self.groups.by_job[job] for job in jobs if job in self.groups.by_job}
         return {**alone, **{job: group.in_words() for job, group in found.items() if group.is_waiting}}
-
-    def jobs_of(self, answer: str) -> List[str]:
-        """The jobs that the answer to a submission names."""
-        group = self.groups.array(answer.replace("[]", ""))
-        return group.jobs if group else [answer] if "." in answer and " " not in answer else []

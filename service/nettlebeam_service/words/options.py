@@ -88,13 +88,18 @@ def parse_anywhere(utility: str, words: List[str]) -> Tuple[Options, List[str]]:
     return options, operands
 
 
-def in_order(utility: str, words: List[str]) -> List[str]:
-    """The words with all options in front, as POSIX wants them; as they are where none stands behind an operand."""
-    _, behind = parse(utility, words)
-    if not any(word.startswith("-") and word != "-" for word in behind):
-        return words
-    options, operands = parse_anywhere(utility, words)
-    return [*as_words(options), "--", *operands]
+class Words:
+    """The words of a utility, read once: its options, its operands, and the words for the site, which are those that were given
+    unless an option stands behind an operand: then all options are put in front, as POSIX wants them."""
+
+    def __init__(self, utility: str, words: List[str]):
+        self.options, behind, is_ended = parse_front(utility, words)
+        self.operands = behind
+        self.of_site = words
+        if not is_ended and any(word.startswith("-") and word != "-" for word in behind):
+            more, self.operands = parse_anywhere(utility, behind)
+            self.options += more
+            self.of_site = [*as_words(self.options), "--", *self.operands]
 
 
 def as_words(options: Options) -> List[str]:
