@@ -1,4 +1,5 @@
 """Scenes of a service that compacts its site's journal in house-keeping: who asks meanwhile, backups, what keeps it from that."""
+import contextlib
 import glob
 import os
 import re
@@ -54,6 +55,13 @@ def grow(site, job, times=120):
     """Has the journal grow by lines that alter a job."""
     for number in range(times):
         site.ask("qalter", "-p", str(number), job)
+
+
+def grow_to_its_end(site, job):
+    """Has the journal grow until the service is killed, or stops."""
+    with contextlib.suppress(Unasked):
+        while site.ask("qalter", "-p", "5", job).status == 0:
+            pass
 
 
 class Users(threading.Thread):
@@ -198,8 +206,11 @@ def slow_compactions(tally, federation):
     waits_most(tally, site, job)
     tally.true("the journal is compacted", is_compacted(f"{site.home}/site/journal"))
     for number, how in ((signal.SIGKILL, -9), (signal.SIGTERM, 0)):
-        until(lambda: compacting(federation) or grow(site, job, 5), 60, "it is compacted again")
+        growing = threading.Thread(target=grow_to_its_end, args=(site, job))
+        growing.start()
+        until(lambda: compacting(federation), 60, "it is compacted again")
         site.kill(number)
+        growing.join()
         tally.same("the service ends", site.process.returncode, how)
         site.start()
         site.wait_ready()
