@@ -547,6 +547,8 @@ class Site:
                 return self.hear_roster(roster)
             if words_of(line) == ["seen"]:
                 return Answer(self.seen())
+            if words_of(line) == ["roster"]:
+                return Answer(" ".join(self.roster.words()) + "\n")
             said = read_line(self.roster, self.number, line)
         except Unread:
             return Answer("cannot be read\n")

@@ -54,6 +54,13 @@ NO_LOOKS: list[Row] = [
     ("reservations 1", "usage 1\n", False),
     ("seen 1", "usage 1\n", False),
     ("seent", "usage 1\n", False),
+    ("seen-json 1", "usage 1\n", False),
+    ("machine-json", "usage 1\n", False),
+    ("plan-json", "usage 1\n", False),
+    ("plan-json 0 but", "usage 1\n", False),
+    # a user's name has 15 letters at most
+    ("reservations-json 1", "cannot be read\n", False),
+    ("roster 1", "usage 1\n", False),
     ("# why 1 0", "", False),
     ("take seen", "unread 1\n", False),
     (" \tseen ", "argonne 2 2\nlemont 0 0\n", False),
@@ -82,6 +89,8 @@ ROSTERS: list[Row] = [
     ("  roster argonne:9 lemont:2\tbatavia:1 ", "done\n", False),
     ("plan 0", "start 1.argonne\n", False),
     ("seen", "argonne 2 2\nlemont 0 0\nbatavia 0 0\n", False),
+    ("roster", "argonne:9 lemont:2 batavia:1\n", False),
+    (" roster\t", "argonne:9 lemont:2 batavia:1\n", False),
     ("roster argonne:9 lemont:2", "other roster\n", False),
     ("roster argonne:8 lemont:2 batavia:1", "done\n", True),
     ("plan 0", "", False),
@@ -98,8 +107,14 @@ BEHIND_OTHERS: list[Row] = [
     ("seen", "argonne 0 0\nlemont 0 0\n", False),
     # a user of this name asks what others do
     ("roster qsub", "1.argonne\n", True),
-    ("roster", "usage 1\n", False),
+    ("roster", "argonne:8 lemont:4\n", False),
 ]
+WORDS = {
+    "utility": "qsub qalter qhold qrls qdel qstat",
+    "look": "why machine reservations jobs seen chart plan plan-json machine-json roster seen-json reservations-json",
+    "site": "grant begin finish handback decline retire ship take plan roster",
+    "user": "reserve cancel",
+}
 OVERLAPPING = [
     # over at second 100, begun before it, and of another site
     ("argonne", 0, 100, 8), ("argonne", 50, 130, 2), ("lemont", 100, 500, 8),
@@ -137,6 +152,21 @@ def lines(tally: Any, sites: Any) -> None:
         asked(tally, sites, name, rows)
 
 
+def words(tally: Any, sites: Any) -> None:
+    """The words that a line may begin with are told. Each is read as it is told: a line of a site's own words names no user."""
+    told = "".join(f"{kind} {word}\n" for kind, all_words in WORDS.items() for word in all_words.split())
+    tally.same("the words", sites.run("words"), (0, told, ""))
+    sites.make(TWO)
+    for word in WORDS["site"].split()[:-1]:
+        tally.same(f"no user: {word} qsub", sites.at("argonne", [word, "qsub"]), "unread 1\n" if word == "take" else "cannot be read\n")
+    names = [word for word in WORDS["look"].split() if word != "plan" and len(word) <= 15]
+    for number, word in enumerate(names, 1):
+        tally.same(f"a user: {word} qsub", sites.at("argonne", [word, "qsub"]), f"{number}.argonne\n")
+    for word in WORDS["utility"].split() + WORDS["user"].split():
+        tally.true(f"asked by ann: {word}", sites.at("argonne", ["ann", word, "-x"]) != "usage 1\n")
+    tally.same("no further utility", sites.at("argonne", ["ann", "qmove"]), "usage 1\n")
+
+
 def random_plans(tally: Any, sites: Any) -> None:
     """Plans without some jobs, among random lines, are those of the plain model."""
     roster = Roster(("argonne", "lemont"), (8, 4))
@@ -158,4 +188,4 @@ def random_plans(tally: Any, sites: Any) -> None:
         tally.same(name, found, (0, "".join(f"{answer}\n" for _, answer in rows), ""))
 
 
-SCENES = {"lines": lines, "random_plans": random_plans}
+SCENES = {"lines": lines, "words": words, "random_plans": random_plans}

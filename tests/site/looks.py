@@ -5,6 +5,28 @@ from xml.etree import ElementTree
 from tests.playing import TOP
 from tests.site.played import TWO
 
+
+def job(identifier, **known):
+    """The object of a job of ann's at argonne alone: what is known of it, where it isn't that of a plain submission."""
+    plain = {
+        "account": "", "begun": None, "deleted": False, "finished": None, "grant": None, "holds": [], "id": identifier, "letter": "Q", "limit": 3600,
+        "name": "STDIN", "nodes": 1, "owner": "ann", "priority": 0, "sites": ["argonne"],
+    }
+    return {**plain, **known}
+
+
+def line(value):
+    """The line of a JSON value: compact, the members of each object in the order of their names."""
+    return json.dumps(value, separators=(",", ":"), sort_keys=True) + "\n"
+
+
+def plan(head, *starts):
+    """The line of a plan."""
+    return line({"head": head and dict(zip(("job", "second"), head)), "starts": starts})
+
+
+RUNNING = job("1.argonne", begun={"end": 100, "moment": 0, "nodes": 6, "site": "argonne"}, grant={"site": "argonne", "term": 1}, letter="R", limit=100, nodes=6)
+WINDOW = {"end": 60, "id": "1.argonne", "nodes": 8, "start": 50}
 # Looks behind the worked rows of a busy machine, of a reservation and of extra nodes, with what one reads off them, and
 # each reason why a job stands where it does.
 LOOKS = [
@@ -24,6 +46,15 @@ LOOKS = [
         ("plan 0 but 1 9", "start 6.argonne\nhead 4.argonne 100\n"),
         ("plan 0 but 7 6 5 4", ""),
         ("plan 99 but" + 1000 * " 4", "start 5.argonne\nhead 6.argonne 100\n"),
+        ("plan-json 0", plan(("4.argonne", 100), job("6.argonne", nodes=2, limit=100))),
+        ("plan-json 0 but 5.argonne 4 5", plan(("7.argonne", 100), job("6.argonne", nodes=2, limit=100))),
+        ("plan-json 0 but 7 6 5 4", plan(None)),
+        ("plan-json 0 but 7 5 4 1 9", plan(None, job("6.argonne", nodes=2, limit=100))),
+        ("plan-json 99 but" + 1000 * " 4", plan(("6.argonne", 100), job("5.argonne", nodes=2, limit=101))),
+        ("machine-json 0", line({"nodes": 8, "free": 2, "running": [RUNNING], "reserved": []})),
+        ("reservations-json", "[]\n"),
+        ("seen-json", line([{"site": "argonne", "known": 7, "told": 7}])),
+        ("roster", "argonne:8\n"),
     ]),
     ("reservation", [
         ("why 2 0", "starts\n"),
@@ -33,6 +64,11 @@ LOOKS = [
         ("machine 60", "nodes 8, free 8\n"),
         ("reservations", "1.argonne argonne 50 60 8\n"),
         ("seen", "argonne 3 3\n"),
+        ("plan-json 0", plan(("3.argonne", 60), job("2.argonne", nodes=2, limit=50))),
+        ("machine-json 0", line({"nodes": 8, "free": 8, "running": [], "reserved": [WINDOW]})),
+        ("machine-json 59", line({"nodes": 8, "free": 0, "running": [], "reserved": [WINDOW]})),
+        ("machine-json 60", line({"nodes": 8, "free": 8, "running": [], "reserved": []})),
+        ("reservations-json", line([{**WINDOW, "site": "argonne"}])),
     ]),
     ("extra_nodes", [
         ("why 5 0", "starts\n"),
@@ -88,11 +124,6 @@ RESERVED_CHARTS = [
     ("reservation", 60, ["3.argonne: start, nodes 2, from 60 to 111", "2.argonne: start, nodes 2, from 60 to 110"]),
     ("reserved", 40, ["1.argonne: reservation, nodes 8, from 50 to 60", "2.argonne: reservation, nodes 8, from 55 to 70", "3.argonne: reservation, nodes 8, from 60 to 70"]),
 ]
-RUNNING = {
-    "account": "", "begun": {"end": 100, "moment": 0, "nodes": 6, "site": "argonne"}, "deleted": False, "finished": None,
-    "grant": {"site": "argonne", "term": 1}, "holds": [], "id": "1.argonne", "letter": "R", "limit": 100, "name": "STDIN",
-    "nodes": 6, "owner": "ann", "priority": 0, "sites": ["argonne"],
-}
 
 
 def lines_before_a_plan(name):
@@ -123,8 +154,8 @@ def looks(tally, sites):
     for name, looks in LOOKS:
         roster, lines = lines_before_a_plan(name)
         sites.run("init", name, "argonne", *roster)
-        for line in lines:
-            sites.at(name, line)
+        for asked in lines:
+            sites.at(name, asked)
         journal = sites.journal(name)
         for look, answer in looks:
             tally.same(f"{name}: {look}", sites.run("at", name, *look.split()), (0, answer, ""))
@@ -136,23 +167,27 @@ def looks(tally, sites):
     tally.same("the boxes of a chart", sorted(boxes), CHART)
     charts(tally, sites)
     sites.at("reservation", ["oz/operator", "cancel", "1"])
-    tally.same("behind a cancel", [sites.at("reservation", line.split()) for line in ("reservations", "why 3 0")], ["", "starts\n"])
+    cancelled = ("reservations", "reservations-json", "why 3 0")
+    tally.same("behind a cancel", [sites.at("reservation", look.split()) for look in cancelled], ["", "[]\n", "starts\n"])
     named = sites.at("backfill", ["jobs", "1", "9"])
-    tally.same("a job as an object", [json.loads(line) for line in named.splitlines()], [RUNNING])
-    jobs = [json.loads(line) for line in sites.at("backfill", ["jobs"]).splitlines()]
-    tally.same("all jobs", [(job["id"], job["letter"], job["nodes"], job["limit"]) for job in jobs], [
+    tally.same("a job as an object", named, line(RUNNING))
+    jobs = [json.loads(told) for told in sites.at("backfill", ["jobs"]).splitlines()]
+    tally.same("all jobs", [(found["id"], found["letter"], found["nodes"], found["limit"]) for found in jobs], [
         ("1.argonne", "R", 6, 100), ("4.argonne", "Q", 7, 3600), ("5.argonne", "Q", 2, 101), ("6.argonne", "Q", 2, 100),
         ("7.argonne", "Q", 1, 1000000),
     ])
-    for line in ("why 1", "why 1 x", "machine", "machine 1000000000001", "reservations 1", "seen 1"):
-        tally.same(f"no look: {line}", sites.run("at", "backfill", *line.split())[:2], (1, "usage 1\n"))
-    for line in ("plan 0 but", "plan 0 but x", "plan 0 but 4.lemont", "plan 0 but 4 but", "plan but 4", "plan 0 4", "plan 0 but" + 1001 * " 4"):
-        tally.same(f"no plan is asked: {line[:20]}", sites.run("at", "backfill", *line.split())[:2], (1, "cannot be read\n"))
+    for asked in ("why 1", "why 1 x", "machine", "machine 1000000000001", "reservations 1", "seen 1", "machine-json", "machine-json 1000000000001",
+                  "plan-json", "plan-json x", "plan-json 0 4", "plan-json 0 but", "plan-json 0 but x", "plan-json 0 but" + 1001 * " 4",
+                  "seen-json 1", "roster argonne", "machine-jsons 1"):
+        tally.same(f"no look: {asked[:20]}", sites.run("at", "backfill", *asked.split())[:2], (1, "usage 1\n"))
+    # no user has a name of so many letters as the last of these, nor of a word of the scheduler
+    for asked in ("plan 0 but", "plan 0 but x", "plan 0 but 4.lemont", "plan 0 but 4 but", "plan but 4", "plan 0 4", "plan 0 but" + 1001 * " 4", "reservations-json 1"):
+        tally.same(f"no plan is asked: {asked[:20]}", sites.run("at", "backfill", *asked.split())[:2], (1, "cannot be read\n"))
     sites.make(TWO)
-    for line, answer in REASONS:
-        tally.same(line, sites.run("at", "argonne", *line.split()), (0, answer, ""))
-    gone = [json.loads(line) for line in sites.at("argonne", ["jobs"]).splitlines()]
-    tally.same("jobs that are gone", [(job["id"], job["letter"], job["deleted"], job["finished"]) for job in gone], [
+    for asked, answer in REASONS:
+        tally.same(asked, sites.run("at", "argonne", *asked.split()), (0, answer, ""))
+    gone = [json.loads(told) for told in sites.at("argonne", ["jobs"]).splitlines()]
+    tally.same("jobs that are gone", [(found["id"], found["letter"], found["deleted"], found["finished"]) for found in gone], [
         ("1.argonne", None, True, None), ("4.argonne", "T", False, None), ("6.argonne", "Q", False, None),
         ("7.argonne", None, False, {"moment": 90, "status": 3}),
     ])
@@ -162,6 +197,10 @@ def looks(tally, sites):
     sites.at("lemont", ["bob", "qsub"])
     sites.at("argonne", ["take"], sites.at("lemont", ["ship", "argonne"]).encode())
     tally.same("seen at argonne", sites.at("argonne", ["seen"]), "argonne 11 11\nlemont 12 11\n")
+    tally.same("the same as JSON", sites.at("argonne", ["seen-json"]), line([
+        {"site": "argonne", "known": 11, "told": 11}, {"site": "lemont", "known": 12, "told": 11},
+    ]))
+    tally.same("the roster of two", sites.at("argonne", ["roster"]), "argonne:8 lemont:4\n")
 
 
 SCENES = {"looks": looks}

@@ -1,13 +1,12 @@
 -- Jobs as JSON objects: the members, put in one after another, are those of the object, and no value is a float.
-use Rattle.std.specs.Prelude.{ℤ, pos, negsuc, flat_map}
-use Rattle.std.specs.List.{AllByRecursion}
+use Rattle.std.specs.Prelude.{ℤ, pos, negsuc, ◌||◌, flat_map, if◌then◌else◌}
 use Rattle.std.specs.List.Sorted.{IsStrictlySortedBy}
 use Rattle.std.specs.Map.{keys_of}
 use Rattle.std.proofs.Common.{◌≡◌, ℕ, Bool, true, false, List, [], ◌∷◌, ◌++◌, ◌==◌, map, length, Option, Some, None, unwrap_or, refl, sym, ap, ◌∙◌, append-nil, arith}
 use Rattle.std.proofs.lemmas.Bool.{eqb-true}
 use Rattle.serde_json.specs.Data.{Data, object, no_members}
 use Rattle.serde_json.specs.View.{items_of}
-use Rattle.serde_json.specs.Written.{compact_text, has_float, items_have_float, members_have_float}
+use Rattle.serde_json.specs.Written.{has_float, items_have_float}
 use Rattle.fed_stamp.specs.Stamp.{StampValue}
 use Rattle.fed_lattice.specs.Latest.{stamp_cmp}
 use Rattle.fed_model.specs.declared.grants.GrantStage.{GrantStage}
@@ -17,27 +16,24 @@ use Rattle.fed_model.specs.declared.beginnings.Beginning.{Beginning}
 use Rattle.fed_model.specs.declared.beginnings.Ending.{Ending}
 use Rattle.fed_record.specs.JobRecord.{JobRecordValue, job_reads}
 use Rattle.fed_model.specs.JobView.{JobView}
-use Rattle.fed_model.specs.Letter.{letter}
+use Rattle.fed_model.specs.Letter.{is_submitted, letter}
 use Rattle.fed_board.specs.Board.{BoardValue, no_operation, board_reads}
 use Rattle.fed_model.specs.Identifiers.{jobs_in}
 use Rattle.fed_model.specs.View.{View}
 use Rattle.fed_board.proofs.FoundEntries.{entry_found}
 use Rattle.fed_json.specs.Numbers.{integer_value}
-use Rattle.fed_json.specs.Objects.{Named, members_from}
+use Rattle.fed_json.specs.Values.{list_value}
 use Rattle.fed_qstat.specs.JobText.{sites_of}
 use Rattle.fed_looks.specs.JobMembers.{with_names, with_numbers, with_sets, with_stages}
-use Rattle.fed_looks.specs.JobObject.{asked_jobs, begun_data, field_data, finished_data, grant_data, job_data, job_members, kinds_data, known_line, letter_data, lines_of_jobs, site_data}
+use Rattle.fed_looks.specs.JobObject.{asked_jobs, begun_data, field_data, finished_data, grant_data, job_data, job_members, kinds_data, known_line, known_object, letter_data, lines_of_jobs, objects_of_jobs, site_data}
 use Rattle.fed_looks.proofs.Entries.{ids_said}
+use Rattle.fed_looks.proofs.Plain.{ArePlain, gathered_plain, members_plain}
 
 pub members_are : (roster : List (List ℕ × ℕ)) (id : StampValue) (j : JobView) → object (with_sets roster j (with_stages roster j (with_numbers j (with_names roster id j no_members)))) ≡ job_data roster id j
 unfolding job_members with_names with_numbers with_stages with_sets
 members_are roster id j = refl
 
 -- ---- no value is a float
-members_plain : (ms : Named) → AllByRecursion (λ m. has_float m.1 ≡ false) ms → members_have_float (members_from ms) ≡ false
-members_plain [] h = refl
-members_plain (m ∷ ms) h = rw (h.0, members_plain ms h.1) refl
-
 field_plain : {T : Type 0} (value : T → Data) → ((x : T) → has_float (value x) ≡ false) → (o : Option (StampValue × T)) → has_float (field_data value o) ≡ false
 field_plain value h None = refl
 field_plain value h (Some latest) = h latest.1
@@ -77,7 +73,7 @@ sites_plain : (roster : List (List ℕ × ℕ)) (sites : List ℕ) → items_hav
 sites_plain roster [] = refl
 sites_plain roster (site ∷ sites) = sites_plain roster sites
 
-job_plain : (roster : List (List ℕ × ℕ)) (id : StampValue) (j : JobView) → has_float (job_data roster id j) ≡ false
+pub job_plain : (roster : List (List ℕ × ℕ)) (id : StampValue) (j : JobView) → has_float (job_data roster id j) ≡ false
 unfolding job_members
 job_plain roster id j = members_plain (job_members roster id j) (
   field_plain _ (λ x. refl) j.fields.account,
@@ -120,8 +116,16 @@ job_plain roster id j = members_plain (job_members roster id j) (
   ),
 )
 
-pub text_is : (roster : List (List ℕ × ℕ)) (id : StampValue) (j : JobView) (d : Data) (bytes : List ℕ) → d ≡ job_data roster id j → (has_float d ≡ false → bytes ≡ compact_text d) → bytes ≡ compact_text (job_data roster id j)
-text_is roster id j d bytes e h = h (ap has_float e ∙ job_plain roster id j) ∙ ap compact_text e
+-- the object of a job that is known, or none
+known_plain : (roster : List (List ℕ × ℕ)) (id : StampValue) (j : JobView) → ArePlain (known_object roster id j)
+known_plain roster id j = go (is_submitted j)
+  where
+    go : (b : Bool) → ArePlain (if b then job_data roster id j ∷ [] else [])
+    go true = ap (λ b. b || false) (job_plain roster id j)
+    go false = refl
+
+pub objects_plain : (roster : List (List ℕ × ℕ)) (v : View) (jobs : List StampValue) → has_float (list_value (objects_of_jobs roster v jobs)) ≡ false
+objects_plain roster v jobs = gathered_plain (λ job. known_object roster job (v.job job)) (λ job. known_plain roster job (v.job job)) jobs
 
 -- ---- the jobs of a board
 abbrev pub known_from : List (List ℕ × ℕ) → List (StampValue × JobRecordValue) → List ℕ

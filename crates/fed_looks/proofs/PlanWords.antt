@@ -7,10 +7,10 @@ use Rattle.std.specs.Option.{option_map}
 use Rattle.fed_stamp.specs.Stamp.{StampValue}
 use Rattle.fed_script.specs.Forms.{◌>>=◌}
 use Rattle.fed_script.specs.Values.{identifier, moment}
-use Rattle.fed_looks.specs.Look.{Look, each, may_be_left_out, plan_but, plans}
+use Rattle.fed_looks.specs.Look.{PlanAsked, each, may_be_left_out, plan_but}
 
 module _ (roster : List (List ℕ × ℕ)) (here : ℕ) {W : Type 0} (text : W → List ℕ) where
-  abbrev asked : List W → Option Look
+  abbrev asked : List W → Option PlanAsked
   asked words = plan_but roster here (map text words)
 
   pub no_words : (words : List W) → length words ≡ 0 → None ≡ asked words
@@ -25,8 +25,8 @@ module _ (roster : List (List ℕ × ℕ)) (here : ℕ) {W : Type 0} (text : W �
   time_alone words time others p e = alone time others e ∙ ap asked (sym p)
 
   module _ (words : List W) (time : W) (others : List W) (but : W) (jobs : List W) (p : words ≡ time ∷ others) (q : others ≡ but ∷ jobs) where
-    abbrev said : Option Look
-    said = moment (text time) >>= λ t. option_map (plans t) (each (identifier roster here) (map text jobs))
+    abbrev said : Option PlanAsked
+    said = moment (text time) >>= λ t. option_map (λ left_out. (t, left_out)) (each (identifier roster here) (map text jobs))
 
     whole : (a b : Bool) → bytes_eq (text but) (codes "but") ≡ a → may_be_left_out (length jobs) ≡ b → asked words ≡ cond (a && b) said None
     whole a b e f =
@@ -62,5 +62,5 @@ module _ (roster : List (List ℕ × ℕ)) (here : ℕ) {W : Type 0} (text : W �
       pub no_job : (t : ℕ) → moment (text time) ≡ Some t → each (identifier roster here) (map text jobs) ≡ None → None ≡ asked words
       no_job t e f = sym (good ∙ rw (e, f) refl)
 
-      pub plan_asked : (t : ℕ) (ids : List StampValue) → moment (text time) ≡ Some t → each (identifier roster here) (map text jobs) ≡ Some ids → Some (plans t ids) ≡ asked words
+      pub plan_asked : (t : ℕ) (ids : List StampValue) → moment (text time) ≡ Some t → each (identifier roster here) (map text jobs) ≡ Some ids → Some (t, ids) ≡ asked words
       plan_asked t ids e f = sym (good ∙ rw (e, f) refl)

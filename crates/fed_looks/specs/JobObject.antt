@@ -1,7 +1,6 @@
 -- A job as a JSON object, with names in place of numbers, and its keys in the order of their bytes.
 use Rattle.std.specs.Prelude.{ℕ, Bool, List, [], ◌∷◌, ◌++◌, codes, flat_map, map, if◌then◌else◌, Option, Some, None}
 use Rattle.serde_json.specs.Data.{Data, boolean, null, string}
-use Rattle.serde_json.specs.Written.{compact_text}
 use Rattle.fed_stamp.specs.Stamp.{StampValue}
 use Rattle.fed_model.specs.declared.grants.GrantStage.{GrantStage}
 use Rattle.fed_model.specs.declared.holds.HoldKind.TheVariants.{User, Operator, System}
@@ -19,6 +18,7 @@ use Rattle.fed_json.specs.Objects.{Named, object_value}
 use Rattle.fed_json.specs.Values.{list_value}
 use Rattle.fed_qstat.specs.Identifier.{text_of_identifier, text_of_site}
 use Rattle.fed_qstat.specs.JobText.{sign_of_letter, sites_of}
+use Rattle.fed_looks.specs.JsonLine.{json_line}
 
 -- the value of a field; a field of a job that is submitted has one
 abbrev pub field_data : {T : Type 0} → (T → Data) → Option (StampValue × T) → Data
@@ -96,7 +96,7 @@ job_data roster id j = object_value (job_members roster id j)
 
 -- its line, or nothing where there is no such job
 abbrev pub known_line : List (List ℕ × ℕ) → StampValue → JobView → List ℕ
-known_line roster id j = if is_submitted j then compact_text (job_data roster id j) ++ 10 ∷ [] else []
+known_line roster id j = if is_submitted j then json_line (job_data roster id j) else []
 
 -- the jobs that are asked for: where none is named, all, in the order of their stamps
 abbrev pub asked_jobs : View → List StampValue → List StampValue
@@ -108,3 +108,12 @@ lines_of_jobs roster v jobs = flat_map (λ job. known_line roster job (v.job job
 
 abbrev pub json_of_jobs : List (List ℕ × ℕ) → View → List StampValue → List ℕ
 json_of_jobs roster v asked = lines_of_jobs roster v (asked_jobs v asked)
+
+-- ---- among the members of other looks
+-- its object, or none where there is no such job
+abbrev pub known_object : List (List ℕ × ℕ) → StampValue → JobView → List Data
+known_object roster id j = if is_submitted j then job_data roster id j ∷ [] else []
+
+-- the objects of these jobs, as their lines have them
+abbrev pub objects_of_jobs : List (List ℕ × ℕ) → View → List StampValue → List Data
+objects_of_jobs roster v jobs = flat_map (λ job. known_object roster job (v.job job)) jobs

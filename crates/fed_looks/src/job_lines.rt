@@ -1,15 +1,17 @@
-//! Jobs as JSON objects, one a line.
-ghost use Rattle.std.specs.Prelude.{◌≡◌, ◌≢◌, ◌++◌, ◌∷◌, [], IfOk, IsTrue, OnOk, flat_map, string_bytes};
+//! Jobs as JSON objects, one a line or in an array.
+ghost use Rattle.std.specs.Prelude.{◌≡◌, ◌≢◌, ◌++◌, ◌∷◌, [], IfOk, IsTrue, OnOk, flat_map, map, string_bytes};
 ghost use Rattle.serde_json.specs.View.{members_view, view};
-ghost use Rattle.serde_json.specs.Written.{compact_text};
 ghost use Rattle.fed_record.specs.JobRecord.{job_reads};
 ghost use Rattle.fed_model.specs.Letter.{is_submitted};
 ghost use Rattle.fed_board.specs.Board.{board_reads};
 ghost use Rattle.fed_model.specs.Identifiers.{jobs_in};
 ghost use Rattle.fed_looks.specs.JobMembers.{with_names, with_numbers, with_sets, with_stages};
-ghost use Rattle.fed_looks.specs.JobObject.{job_data, json_of_jobs, known_line, lines_of_jobs};
+ghost use Rattle.fed_json.specs.Values.{list_value};
+ghost use Rattle.fed_looks.specs.JobObject.{job_data, json_of_jobs, known_line, known_object, lines_of_jobs, objects_of_jobs};
+ghost use Rattle.fed_looks.specs.JsonLine.{json_line as line_of_value};
 
 use crate::job_values::{begun, finished, grant, kinds, letter, sites};
+use crate::json_lines::json_line;
 use fed_board::Board;
 use fed_lattice::NoMemory;
 use fed_qstat::identifier_text;
@@ -144,18 +146,18 @@ fn job_value(
     Ok(Value::Object(members))
 }
 
-/// The text of a job's object.
-fn job_text(
+/// The line of a job's object.
+fn job_line(
     alloc: Global,
     roster: &Roster,
     id: JobId,
     job: &JobRecord,
 ) -> Result<String, AllocError>
     requires { IsTrue (is_submitted (job_reads job.now)) }
-    ensures { IfOk result (λ text. string_bytes text ≡ compact_text (job_data roster.now id (job_reads job.now))) }
+    ensures { IfOk result (λ text. string_bytes text ≡ line_of_value (job_data roster.now id (job_reads job.now))) }
 {
     let value = job_value(alloc, roster, id, job)?;
-    value.to_string(alloc)
+    json_line(alloc, &value)
 }
 
 /// Adds the line of a job.
@@ -171,9 +173,8 @@ fn push_job(
     if !job.is_submitted() {
         return Ok(());
     }
-    let line = job_text(alloc, roster, id, job)?;
-    text.push_str(line.as_str())?;
-    text.push_str("\n")
+    let line = job_line(alloc, roster, id, job)?;
+    text.push_str(line.as_str())
 }
 
 /// Adds the line of the job with this identifier, or nothing where there is no such job.
@@ -236,4 +237,55 @@ pub fn jobs_json(
     } else {
         Ok(named_lines(alloc, roster, board, jobs)?)
     }
+}
+
+/// Adds the object of a job.
+fn push_object(
+    alloc: Global,
+    values: &mut Vec<Value>,
+    roster: &Roster,
+    id: JobId,
+    job: &JobRecord,
+) -> Result<(), AllocError>
+    ensures { OnOk result (map view values.new.items ≡
+        map view values.old.items ++ known_object roster.now id (job_reads job.now)) }
+{
+    if job.is_submitted() {
+        values.push(job_value(alloc, roster, id, job)?)?;
+    }
+    Ok(())
+}
+
+/// Adds the object of the job with this identifier, or none where there is no such job.
+fn push_named_object(
+    alloc: Global,
+    values: &mut Vec<Value>,
+    roster: &Roster,
+    board: &Board,
+    id: JobId,
+) -> Result<(), AllocError>
+    ensures { OnOk result (map view values.new.items ≡
+        map view values.old.items ++ known_object roster.now id ((board_reads board.now).job id)) }
+{
+    match board.job(id) {
+        Some(job) => push_object(alloc, values, roster, id, job),
+        None => Ok(()),
+    }
+}
+
+/// The array of the objects of these jobs, each as in the line that `jobs_json` has of it, in the order in which they are
+/// named, and none for an identifier that no job has. The only error is want of memory.
+pub fn job_objects(
+    alloc: Global,
+    roster: &Roster,
+    board: &Board,
+    jobs: &[JobId],
+) -> Result<Value, AllocError>
+    ensures { IfOk result (λ v. view v ≡ list_value (objects_of_jobs roster.now (board_reads board.now) jobs.now)) }
+{
+    let mut values = Vec::new(alloc);
+    for id in jobs {
+        push_named_object(alloc, &mut values, roster, board, *id)?;
+    }
+    Ok(Value::Array(values))
 }

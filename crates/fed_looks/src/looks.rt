@@ -3,9 +3,10 @@ ghost use Rattle.std.specs.Prelude.{◌≡◌, IfOk, option_map};
 ghost use Rattle.fed_words.specs.Item.{words_of as texts_of};
 ghost use Rattle.fed_script.specs.Forms.{one, two};
 ghost use Rattle.fed_script.specs.Values.{identifier, moment as moment_of};
-ghost use Rattle.fed_looks.specs.Look.{alone_of, charts, each, look_in, machines, may_be_left_out, plan_but, whys};
+ghost use Rattle.fed_looks.specs.Look.{alone_of, charts, each, look_behind, look_in, machines, machines_json, may_be_left_out, plan_asked, plan_but, whys};
 ghost use Rattle.fed_looks.specs.LookView.{asked_by};
 
+use crate::look_words::LookWord;
 use fed_lattice::NoMemory;
 use fed_record::Moment;
 use fed_script::{one_word, read_id, read_moment, two_words};
@@ -19,16 +20,26 @@ pub enum Look {
     Why { job: JobId, moment: Moment },
     /// `machine MOMENT`: the nodes, what runs on them and what is reserved.
     Machine { moment: Moment },
+    /// `machine-json MOMENT`: the same, as a JSON object.
+    MachineJson { moment: Moment },
     /// `reservations`: what is reserved at all sites.
     Reservations,
+    /// `reservations-json`: the same, as a JSON array.
+    ReservationsJson,
     /// `jobs [JOB ..]`: all that is known of these jobs, or of all where none is named.
     Jobs { jobs: Vec<JobId> },
     /// `seen`: what is seen of the sites.
     Seen,
+    /// `seen-json`: the same, as a JSON array.
+    SeenJson,
     /// `chart MOMENT`: a picture of the machine from the moment on.
     Chart { moment: Moment },
     /// `plan MOMENT but JOB ..`: the plan where these jobs, 1 to `MAX_LEFT_OUT`, are left out of the queue.
     Plan { moment: Moment, but: Vec<JobId> },
+    /// `plan-json MOMENT [but JOB ..]`: the plan where these jobs, at most `MAX_LEFT_OUT`, are left out, as a JSON object.
+    PlanJson { moment: Moment, but: Vec<JobId> },
+    /// `roster`: the roster that the site knows.
+    Roster,
 }
 
 /// The greatest number of jobs that a plan may be asked to leave out.
@@ -50,6 +61,14 @@ fn read_machine(words: &[&str]) -> Option<Look>
 {
     let moment = read_moment(one_word(words)?)?;
     Some(Look::Machine { moment })
+}
+
+/// `MOMENT`
+fn read_machine_json(words: &[&str]) -> Option<Look>
+    ensures { option_map asked_by result ≡ one moment_of machines_json (texts_of words.now) }
+{
+    let moment = read_moment(one_word(words)?)?;
+    Some(Look::MachineJson { moment })
 }
 
 /// `MOMENT`
@@ -86,14 +105,15 @@ fn may_leave_out(count: usize) -> bool
     1 <= count && count <= MAX_LEFT_OUT
 }
 
-/// `MOMENT but JOB ..`
-fn read_plan(
+/// `MOMENT but JOB ..`: the moment, and the jobs that are left out.
+fn read_but(
     alloc: Global,
     roster: &Roster,
     here: SiteId,
     words: &[&str],
-) -> Result<Option<Look>, AllocError>
-    ensures { IfOk result (λ look. option_map asked_by look ≡ plan_but roster.now here (texts_of words.now)) }
+) -> Result<Option<(Moment, Vec<JobId>)>, AllocError>
+    ensures { IfOk result (λ asked. option_map (λ p. (p.0, p.1.items)) asked ≡
+        plan_but roster.now here (texts_of words.now)) }
 {
     let Some((time, others)) = words.split_first() else {
         return Ok(None);
@@ -108,8 +128,27 @@ fn read_plan(
         return Ok(None);
     };
     match read_jobs(alloc, roster, here, jobs)? {
-        Some(but) => Ok(Some(Look::Plan { moment, but })),
+        Some(but) => Ok(Some((moment, but))),
         None => Ok(None),
+    }
+}
+
+/// `MOMENT`, or `MOMENT but JOB ..`.
+fn read_plan(
+    alloc: Global,
+    roster: &Roster,
+    here: SiteId,
+    words: &[&str],
+) -> Result<Option<(Moment, Vec<JobId>)>, AllocError>
+    ensures { IfOk result (λ asked. option_map (λ p. (p.0, p.1.items)) asked ≡
+        plan_asked roster.now here (texts_of words.now)) }
+{
+    match words {
+        [time] => match read_moment(time) {
+            Some(moment) => Ok(Some((moment, Vec::new(alloc)))),
+            None => Ok(None),
+        },
+        _ => read_but(alloc, roster, here, words),
     }
 }
 
@@ -118,6 +157,41 @@ fn alone(look: Look, words: &[&str]) -> Option<Look>
     ensures { option_map asked_by result ≡ alone_of (asked_by look) (texts_of words.now) }
 {
     if words.is_empty() { Some(look) } else { None }
+}
+
+/// What is asked for by the words behind the first.
+fn read_behind(
+    alloc: Global,
+    roster: &Roster,
+    here: SiteId,
+    asked: LookWord,
+    words: &[&str],
+) -> Result<Option<Look>, AllocError>
+    ensures { IfOk result (λ look. option_map asked_by look ≡ look_behind roster.now here asked (texts_of words.now)) }
+{
+    match asked {
+        LookWord::Why => Ok(read_why(roster, here, words)),
+        LookWord::Machine => Ok(read_machine(words)),
+        LookWord::MachineJson => Ok(read_machine_json(words)),
+        LookWord::Reservations => Ok(alone(Look::Reservations, words)),
+        LookWord::ReservationsJson => Ok(alone(Look::ReservationsJson, words)),
+        LookWord::Jobs => match read_jobs(alloc, roster, here, words)? {
+            Some(jobs) => Ok(Some(Look::Jobs { jobs })),
+            None => Ok(None),
+        },
+        LookWord::Seen => Ok(alone(Look::Seen, words)),
+        LookWord::SeenJson => Ok(alone(Look::SeenJson, words)),
+        LookWord::Chart => Ok(read_chart(words)),
+        LookWord::Plan => match read_but(alloc, roster, here, words)? {
+            Some((moment, but)) => Ok(Some(Look::Plan { moment, but })),
+            None => Ok(None),
+        },
+        LookWord::PlanJson => match read_plan(alloc, roster, here, words)? {
+            Some((moment, but)) => Ok(Some(Look::PlanJson { moment, but })),
+            None => Ok(None),
+        },
+        LookWord::Roster => Ok(alone(Look::Roster, words)),
+    }
 }
 
 /// The look that the words of a line ask the site for, or `None` where they ask for none. Jobs and moments are read as
@@ -133,24 +207,8 @@ pub fn read_look(
     let Some((word, others)) = words.split_first() else {
         return Ok(None);
     };
-    if *word == "why" {
-        Ok(read_why(roster, here, others))
-    } else if *word == "machine" {
-        Ok(read_machine(others))
-    } else if *word == "reservations" {
-        Ok(alone(Look::Reservations, others))
-    } else if *word == "jobs" {
-        match read_jobs(alloc, roster, here, others)? {
-            Some(jobs) => Ok(Some(Look::Jobs { jobs })),
-            None => Ok(None),
-        }
-    } else if *word == "seen" {
-        Ok(alone(Look::Seen, others))
-    } else if *word == "chart" {
-        Ok(read_chart(others))
-    } else if *word == "plan" {
-        Ok(read_plan(alloc, roster, here, others)?)
-    } else {
-        Ok(None)
+    match LookWord::named(word) {
+        Some(asked) => Ok(read_behind(alloc, roster, here, asked, others)?),
+        None => Ok(None),
     }
 }

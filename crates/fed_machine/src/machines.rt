@@ -16,26 +16,26 @@ use std::collections::BTreeSet;
 
 /// A job that runs. In this order jobs stand by their ends, then by their stamps.
 #[derive(Clone, Copy, PartialEq, Eq, PartialOrd, Ord, Debug)]
-pub(crate) struct RunningJob {
+pub struct RunningJob {
     /// The second at which its nodes are free.
-    pub(crate) end: u64,
+    pub end: u64,
     /// The job.
-    pub(crate) id: JobId,
+    pub id: JobId,
     /// How many nodes it has.
-    pub(crate) nodes: u64,
+    pub nodes: u64,
 }
 
 /// A reservation. In this order reservations stand by their starts, then by their stamps.
 #[derive(Clone, Copy, PartialEq, Eq, PartialOrd, Ord, Debug)]
-pub(crate) struct Reserved {
+pub struct Reserved {
     /// The first second at which it has its nodes.
-    pub(crate) start: u64,
+    pub start: u64,
     /// The reservation.
-    pub(crate) id: Stamp,
+    pub id: Stamp,
     /// The second from which on it has none.
-    pub(crate) end: u64,
+    pub end: u64,
     /// How many nodes it has.
-    pub(crate) nodes: u64,
+    pub nodes: u64,
 }
 
 /// The job, if the site has begun it and it is not finished.
@@ -67,12 +67,8 @@ fn reserved_of(here: SiteId, moment: u64, id: Stamp, reservation: &Reservation) 
     }
 }
 
-/// The jobs that run at a site, in the order of their ends.
-pub(crate) fn runs_at(
-    alloc: Global,
-    board: &Board,
-    here: SiteId,
-) -> Result<BTreeSet<RunningJob>, NoMemory>
+/// The jobs that a site has begun and that aren't finished, in the order of their ends. The only error is `NoMemory`.
+pub fn runs_at(alloc: Global, board: &Board, here: SiteId) -> Result<BTreeSet<RunningJob>, NoMemory>
     ensures { IfOk result (λ runs. runs.keys ≡ runs_in here (board_reads board.now)) }
 {
     let mut runs = BTreeSet::new(alloc);
@@ -84,8 +80,9 @@ pub(crate) fn runs_at(
     Ok(runs)
 }
 
-/// The reservations of a site that are not over at the moment, in the order of their starts.
-pub(crate) fn reserved_at(
+/// The reservations of a site that stand and aren't over at the moment, in seconds, in the order of their starts. The only
+/// error is `NoMemory`.
+pub fn reserved_at(
     alloc: Global,
     board: &Board,
     here: SiteId,
@@ -102,8 +99,8 @@ pub(crate) fn reserved_at(
     Ok(all)
 }
 
-/// How many of so many nodes nothing at the site uses at the moment.
-fn free_nodes(board: &Board, here: SiteId, moment: u64, nodes: u64) -> u64
+/// How many of so many nodes neither a job that runs at the site nor a reservation has at the moment, in seconds.
+pub fn free_nodes(board: &Board, here: SiteId, moment: u64, nodes: u64) -> u64
     ensures { result ≡ nodes - used_in here (board_reads board.now) moment }
 {
     nodes.saturating_sub(used_nodes(board, here, moment))

@@ -6,6 +6,7 @@ pub mod Replays
 pub mod Openings
 pub mod Lines
 pub mod LookCases
+pub mod LookValues
 pub mod KnownTexts
 pub mod HeardTexts
 pub mod HeardLines

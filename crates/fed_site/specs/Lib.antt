@@ -1,6 +1,8 @@
 -- What the contracts of this crate cite.
 pub mod Site
 pub mod Line
+pub mod PlanJson
+pub mod MachineJson
 pub mod LookText
 pub mod Handed
 pub mod Packets
@@ -14,3 +16,4 @@ pub mod Answered
 pub mod Told
 pub mod Journal
 pub mod Known
+pub mod Words

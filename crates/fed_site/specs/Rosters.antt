@@ -1,9 +1,12 @@
 -- The line that tells a site the roster, as `roster argonne:8 lemont:4`.
-use Rattle.std.specs.Prelude.{ℕ, ◌==◌, Bool, true, false, ◌&&◌, List, [], ◌∷◌, codes, Option, Some, None, is_some, option_map, position, unwrap_or, if◌then◌else◌}
+use Rattle.std.specs.Prelude.{ℕ, ◌==◌, Bool, true, false, ◌&&◌, List, [], ◌∷◌, ◌++◌, codes, Option, Some, None, is_some, option_map, position, unwrap_or, if◌then◌else◌}
+use Rattle.std.specs.Fmt.{decimal}
+use Rattle.std.specs.List.{join_by}
 use Rattle.std.specs.Str.{bytes_eq}
 use Rattle.fed_script.specs.Forms.{◌>>=◌}
 use Rattle.fed_script.specs.Line.{words_in}
 use Rattle.fed_script.specs.Rosters.{is_colon, roster_of}
+use Rattle.fed_qstat.specs.Outcome.{answer_line}
 
 -- ---- two rosters
 -- the names of the first stand first in the second, in their order, each with any number of nodes
@@ -46,3 +49,12 @@ roster_after known line = roster_told known (told_in line)
 abbrev pub roster_after_lines : List (List ℕ × ℕ) → List (List ℕ) → List (List ℕ × ℕ)
 roster_after_lines known [] = known
 roster_after_lines known (line ∷ lines) = roster_after_lines (roster_after known line) lines
+
+-- ---- what is told to one who asks for it
+-- a name, a colon and a number of nodes
+abbrev pub word_of_site : List ℕ × ℕ → List ℕ
+word_of_site site = site.0 ++ 58 ∷ decimal site.1
+
+-- the words that name the roster, in one line
+abbrev pub line_of_roster : List (List ℕ × ℕ) → List ℕ
+line_of_roster roster = answer_line (join_by word_of_site (codes " ") roster)

@@ -1,12 +1,13 @@
 //! Laws of what sites say and keep. Each function does nothing: its contract is the law.
-ghost use Rattle.std.specs.Prelude.{◌≡◌, ◌<◌, ◌≤◌, ℕ, List, Some, drop, false, true, length, nat_lt};
+ghost use Rattle.std.specs.Prelude.{◌≡◌, ◌<◌, ◌≤◌, ℕ, List, [], Some, drop, false, true, length, nat_lt};
 ghost use Rattle.std.specs.List.{list_any};
 ghost use Rattle.fed_stamp.specs.Roster.{IsRoster, name_at};
 ghost use Rattle.fed_lattice.specs.History.{History};
 ghost use Rattle.fed_model.specs.Body.{Body};
 ghost use Rattle.fed_model.specs.Lawful.{IsLawful};
 ghost use Rattle.fed_model.specs.Limits.{IsWithinLimits};
-ghost use Rattle.fed_model.specs.View.{view};
+ghost use Rattle.fed_model.specs.View.{View, view};
+ghost use Rattle.fed_easy.specs.RosterPlan.{plan_in, plan_in_without};
 ghost use Rattle.fed_replica.specs.State.{State, IsMadeFor};
 ghost use Rattle.fed_site.specs.Journal.{after_lines, kept_lines};
 ghost use Rattle.fed_site.specs.Known.{IsHeardOf, heard_lines, known_in, unheard};
@@ -69,3 +70,9 @@ pub fn one_packet_is_made(x: &Packet, y: &Packet)
 {
     records_that_read_the_same_are_equal(x.delta().changes(), y.delta().changes());
 }
+
+/// The plan that leaves out no job is the plan of the site: so `plan-json MOMENT` tells what `plan MOMENT` does.
+pub fn plans_without_no_job_are_plans()
+    ensures { (roster : List (List ℕ × ℕ)) (v : View) (site moment : ℕ) →
+        plan_in_without [] roster v site moment ≡ plan_in roster v site moment }
+{}

@@ -1,12 +1,17 @@
 //! What a site has seen of the others, and what they are known to have seen of it.
-ghost use Rattle.std.specs.Prelude.{◌≡◌, IfOk, string_bytes};
+ghost use Rattle.std.specs.Prelude.{◌≡◌, IfOk, length, map, string_bytes};
+ghost use Rattle.std.specs.List.{range_with_len};
+ghost use Rattle.serde_json.specs.View.{view};
+ghost use Rattle.fed_json.specs.Values.{list_value};
 ghost use Rattle.fed_replica.specs.State.{state_of};
-ghost use Rattle.fed_site.specs.Seen.{counter_known, line_of_seen, lines_of_seen};
+ghost use Rattle.fed_site.specs.Seen.{counter_known, json_of_seen, line_of_seen, lines_of_seen, seen_data};
 
 use fed_lattice::NoMemory;
+use fed_looks::json_line;
 use fed_qstat::site_text;
 use fed_replica::Replica;
 use fed_stamp::{Roster, SiteId, site_is_in_range};
+use serde_json::{Value, json};
 use std::alloc::{AllocError, Global};
 
 /// The counter of the replica's own site that a site is known to have seen.
@@ -48,4 +53,44 @@ pub fn seen_lines(alloc: Global, roster: &Roster, replica: &Replica) -> Result<S
         text.push_str(line.as_str())?;
     }
     Ok(text)
+}
+
+fn seen_value(
+    alloc: Global,
+    roster: &Roster,
+    replica: &Replica,
+    site: SiteId,
+) -> Result<Value, AllocError>
+    ensures { IfOk result (λ v. view v ≡ seen_data roster.now (state_of replica.now) site) }
+{
+    let name = site_text(alloc, roster, site)?;
+    let seen = replica.board().version().get(site);
+    let known = known_counter(replica, site);
+    json!(in alloc; { "known": seen, "site": name.as_str(), "told": known })
+}
+
+fn seen_values(alloc: Global, roster: &Roster, replica: &Replica) -> Result<Value, AllocError>
+    ensures { IfOk result (λ v. view v ≡
+        list_value (map (seen_data roster.now (state_of replica.now)) (range_with_len 0 (length roster.now)))) }
+{
+    let mut values = Vec::new(alloc);
+    for number in 0..roster.len() as u8 {
+        let site = SiteId::new(number).unwrap();
+        values.push(seen_value(alloc, roster, replica, site)?)?;
+    }
+    Ok(Value::Array(values))
+}
+
+/// What `seen_lines` tells, as one line: a JSON array with an object for each site, of its name `site`, of the counter
+/// `known` that the replica has seen of it, and of the counter `told` of the replica's own site that it is known to have
+/// seen. The only error is `NoMemory`.
+pub(crate) fn seen_json(
+    alloc: Global,
+    roster: &Roster,
+    replica: &Replica,
+) -> Result<String, NoMemory>
+    ensures { IfOk result (λ text. string_bytes text ≡ json_of_seen roster.now (state_of replica.now)) }
+{
+    let value = seen_values(alloc, roster, replica)?;
+    Ok(json_line(alloc, &value)?)
 }

@@ -45,6 +45,9 @@ keep = record (new_rule (codes "FILE")) { long = Some (codes "keep") }
 abbrev pub compact : App
 compact = with_rule (with_directory (codes "compact")) keep
 
+abbrev pub words : App
+words = new_app (codes "words")
+
 abbrev pub bare : App
 bare = record (new_app (codes "nettlebeam")) {
   top = record (new_app (codes "nettlebeam")).top { has_version = true; subcommand_required = true };
@@ -54,17 +57,22 @@ bare = record (new_app (codes "nettlebeam")) {
 abbrev pub first : App
 first = with_subcommand (with_subcommand bare init.top) at.top
 
+-- with those that do something with a directory
+abbrev pub with_directories : App
+with_directories = with_subcommand (with_subcommand (with_subcommand first serve.top) compact.top) (with_directory (codes "check")).top
+
 -- and with all of them
 abbrev pub program : App
-program = with_subcommand (with_subcommand (with_subcommand first serve.top) compact.top) (with_directory (codes "check")).top
+program = with_subcommand with_directories words.top
 
--- what the program is asked to do with a directory
+-- what the program is asked to do, with a directory but where it tells words
 pub data TaskValue : Type 0 where
   Makes : (site : Text) → (sites : List Text) → TaskValue
   Answers : (words : List Text) → TaskValue
   Serves : (frames keeps_history : Bool) → TaskValue
   Compacts : (kept : Option Text) → TaskValue
   Checks : TaskValue
+  TellsWords : TaskValue
 
 pub record AskedValue : Type 0 where
   pub directory : Text
@@ -86,7 +94,8 @@ abbrev pub task_in : Text → List Row → TaskValue
 task_in name rows = if bytes_eq name (codes "init") then Makes (value_in (codes "SITE") rows) (values_in (codes "NAME:NODES") rows)
     else (if bytes_eq name (codes "at") then Answers (values_in (codes "WORD") rows)
     else (if bytes_eq name (codes "serve") then Serves (is_set (codes "frames") rows) (is_set (codes "keep-history") rows)
-    else (if bytes_eq name (codes "compact") then Compacts (first_of (codes "FILE") rows) else Checks)))
+    else (if bytes_eq name (codes "compact") then Compacts (first_of (codes "FILE") rows)
+    else (if bytes_eq name (codes "check") then Checks else TellsWords))))
 
 -- what the command of this name is asked by its arguments
 abbrev pub asked_in : Text × List Row → AskedValue

@@ -1,14 +1,14 @@
 //! The program's own words.
 ghost use Rattle.std.specs.Prelude.{◌≡◌, ◌∷◌, [], ℕ, List, None, Some, IfErr, IfOk, OnOk, false, codes, map, option_map, string_bytes, true};
 ghost use Rattle.clap.specs.Words.{app_of, fault_of, first_of, found_of, kind_of, rows_of, rule_of, takes};
-ghost use Rattle.nettle_words.specs.CommandLine.{Answers, Asks, Checks, Compacts, Makes, Serves, asked_by as asked_by_words, asked_in, at as at_app, compact as compact_app, first as first_app, flag as flag_rule, init as init_app, keep as keep_rule, program, required as required_rule, rest as rest_rule, serve as serve_app, task_in, value_in, values_in, with_directory as app_with_directory};
+ghost use Rattle.nettle_words.specs.CommandLine.{Answers, Asks, Checks, Compacts, Makes, Serves, TellsWords, asked_by as asked_by_words, asked_in, at as at_app, compact as compact_app, first as first_app, flag as flag_rule, init as init_app, keep as keep_rule, program, required as required_rule, rest as rest_rule, serve as serve_app, task_in, value_in, values_in, with_directory as app_with_directory, words as words_app};
 ghost use Rattle.nettle_words.specs.CommandLineView.{asked_of, task_of};
 
 use clap::error::ErrorKind;
 use clap::{Arg, ArgAction, ArgMatches, Command, Error};
 use std::alloc::{AllocError, Global};
 
-/// What the program is asked to do with a directory.
+/// What the program is asked to do, with a directory but where it is `words`.
 #[derive(Drop)]
 pub enum Task<'a> {
     /// `init`: to make it the home of a site, of the roster that the words tell.
@@ -22,12 +22,16 @@ pub enum Task<'a> {
     Compact { kept: Option<&'a str> },
     /// `check`: to tell what its journal has.
     Check,
+    /// `words`: to tell the words that a line of a site may begin with.
+    Words,
 }
 
 /// What the program is asked.
 #[derive(Drop)]
 pub struct Asked<'a> {
+    /// The site's directory; empty where the task has none.
     pub directory: &'a str,
+    /// What to do.
     pub task: Task<'a>,
 }
 
@@ -53,6 +57,8 @@ const KEEP: &str = "Copies the journal first to this file, which may not be ther
 const SITES: &str = "Each site of the roster and its nodes, in the same order at all sites";
 
 const CHECK: &str = "Tells what the journal has, and changes nothing";
+
+const WORDS: &str = "Tells the words that a line of a site may begin with, each behind its kind";
 
 /// A command with a directory as its first argument.
 fn with_directory<'a>(
@@ -155,6 +161,12 @@ fn first_commands<'a>(alloc: Global) -> Result<Command<'a>, AllocError>
         .subcommand(at(alloc)?)
 }
 
+fn words<'a>(alloc: Global) -> Command<'a>
+    ensures { app_of result ≡ words_app }
+{
+    Command::new(alloc, "words").about(WORDS)
+}
+
 /// The program's command line.
 fn command<'a>(alloc: Global) -> Result<Command<'a>, AllocError>
     ensures { IfOk result (λ command. app_of command ≡ program) }
@@ -162,7 +174,8 @@ fn command<'a>(alloc: Global) -> Result<Command<'a>, AllocError>
     first_commands(alloc)?
         .subcommand(serve(alloc)?)?
         .subcommand(compact(alloc)?)?
-        .subcommand(with_directory(alloc, "check", CHECK)?)
+        .subcommand(with_directory(alloc, "check", CHECK)?)?
+        .subcommand(words(alloc))
 }
 
 /// The values of an argument.
@@ -211,7 +224,8 @@ fn task_by<'a>(alloc: Global, name: &str, found: &ArgMatches<'a>) -> Result<Task
         "compact" => Ok(Task::Compact {
             kept: given(found, "FILE"),
         }),
-        _ => Ok(Task::Check),
+        "check" => Ok(Task::Check),
+        _ => Ok(Task::Words),
     }
 }
 
@@ -225,8 +239,8 @@ fn asked_by<'a>(alloc: Global, name: &str, found: &ArgMatches<'a>) -> Result<Ask
     })
 }
 
-/// Reads the program's words: its name, and then `init`, `at`, `serve`, `compact` or `check` with its arguments. The error has the
-/// text to print, also where help or the version is asked for.
+/// Reads the program's words: its name, and then `init`, `at`, `serve`, `compact`, `check` or `words` with its arguments. The
+/// error has the text to print, also where help or the version is asked for.
 pub fn read_command_line<'a>(alloc: Global, words: &'a [String]) -> Result<Asked<'a>, Error>
     ensures asked { IfOk result (λ asked. asked_by_words (map string_bytes words.now) ≡ Some (asked_of asked)) }
     ensures whole { OnOk result (fault_of program (map string_bytes words.now) ≡ []) }
@@ -257,4 +271,5 @@ pub fn commands_are_taken()
     ensures keep { (name : List ℕ) → Asks name (codes "compact" ∷ codes "--keep" ∷ codes "f" ∷ codes "d" ∷ [])
         (record { directory = codes "d"; task = Compacts (Some (codes "f")) }) }
     ensures check { (name : List ℕ) → Asks name (codes "check" ∷ codes "d" ∷ []) (record { directory = codes "d"; task = Checks }) }
+    ensures words { (name : List ℕ) → Asks name (codes "words" ∷ []) (record { directory = []; task = TellsWords }) }
 {}

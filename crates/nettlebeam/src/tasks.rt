@@ -14,7 +14,7 @@ use fed_serve::{
     MAX_TAKE_BYTES, ServeFault, Served, answered_status, at_most_longest, line_of_words, serve,
     take_line,
 };
-use fed_site::{Answered, Site, words_beside};
+use fed_site::{Answered, Site, words_beside, words_of_lines};
 use fed_stamp::{SITES, SiteId};
 use nettle_words::{Asked, Task};
 use std::alloc::{AllocError, Global};
@@ -276,5 +276,9 @@ pub fn do_task<R: Files<File = File> + Clock + AllocGlobal + Clone + Drop>(
         } => serve_input(streams, rt, directory, *frames, *keeps_history),
         Task::Compact { kept } => compact(streams, rt, directory, *kept),
         Task::Check => check(streams, rt, directory),
+        Task::Words => {
+            print!(streams; "{}", words_of_lines()).map_err(Fault::Output)?;
+            Ok(0)
+        }
     }
 }

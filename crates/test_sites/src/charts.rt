@@ -1,7 +1,8 @@
-//! A chart of what has no plan: no packet tells of such a job, so that no site can be asked for it.
+//! What has no plan, as a chart and as JSON: no packet tells of such a job, so that no site can be asked for it.
 use fed_board::Board;
 use fed_machine::chart_svg;
 use fed_record::{Beginning, JobOperation, MAX_END, Moment, Nodes, Operation};
+use fed_site::plan_json;
 use std::process::Abort;
 use test_values::{ann, both_sites, stamp, two_sites, values};
 
@@ -47,4 +48,14 @@ fn what_has_no_plan_is_shown(rt: HostRuntime) {
         assert!(rt; chart.as_str().contains(said));
     }
     assert!(rt; !chart.as_str().contains("3.argonne"));
+}
+
+#[test]
+fn what_has_no_plan_is_null(rt: HostRuntime) {
+    let moment = Moment::new(0).unwrap();
+    let roster = two_sites();
+    let here = roster.find("argonne").expect(&rt, "a site");
+    assert!(rt; (here.get() as usize) < roster.len());
+    let plan = plan_json(rt.alloc(), &roster, &endless(&rt), here, moment, &[]);
+    assert!(rt; plan.is_ok_and(|plan| plan.as_str() == "null\n"));
 }

@@ -34,10 +34,25 @@ const FIRST_JOB: &[u8] =
     \"id\":\"1.argonne\",\"letter\":\"R\",\"limit\":3600,\"name\":\"STDIN\",\"nodes\":1,\"owner\":\"ann\",\
     \"priority\":0,\"sites\":[\"argonne\",\"lemont\"]}\n";
 
+/// The plan that begins a job while another is left out.
+const FIRST_PLAN: &[u8] =
+    b"{\"head\":null,\"starts\":[{\"account\":\"\",\"begun\":null,\"deleted\":false,\"finished\":null,\
+    \"grant\":null,\"holds\":[],\"id\":\"1.argonne\",\"letter\":\"Q\",\"limit\":3600,\"name\":\"STDIN\",\
+    \"nodes\":1,\"owner\":\"ann\",\"priority\":0,\"sites\":[\"argonne\",\"lemont\"]}]}\n";
+
+/// The machine on which the first job runs beside a reservation.
+const MACHINE: &[u8] =
+    b"{\"free\":3,\"nodes\":8,\"reserved\":[{\"end\":60,\"id\":\"6.argonne\",\"nodes\":4,\"start\":50}],\
+    \"running\":[{\"account\":\"\",\"begun\":{\"end\":3600,\"moment\":0,\"nodes\":1,\"site\":\"argonne\"},\
+    \"deleted\":false,\"finished\":null,\"grant\":{\"site\":\"argonne\",\"term\":1},\"holds\":[],\
+    \"id\":\"1.argonne\",\"letter\":\"R\",\"limit\":3600,\"name\":\"STDIN\",\"nodes\":1,\"owner\":\"ann\",\
+    \"priority\":0,\"sites\":[\"argonne\",\"lemont\"]}]}\n";
+
 /// Lines of a site with their answers.
-const LINES: [(&[u8], &[u8]); 12] = [
+const LINES: [(&[u8], &[u8]); 18] = [
     (b"ann qsub", b"1.argonne\n"),
     (b"ann qsub -h", b"2.argonne\n"),
+    (b"plan-json 0 but 2", FIRST_PLAN),
     (b"ann qdel 2 9", b"done\nrefused 1\n"),
     (b"grant 1 argonne", b"granted\n"),
     (b"begin 1 0", b"done\n"),
@@ -50,7 +65,18 @@ const LINES: [(&[u8], &[u8]); 12] = [
     (b"reservations", b""),
     (b"jobs 1", FIRST_JOB),
     (b"seen", b"argonne 5 5\nlemont 0 0\n"),
+    (
+        b"seen-json",
+        b"[{\"known\":5,\"site\":\"argonne\",\"told\":5},{\"known\":0,\"site\":\"lemont\",\"told\":0}]\n",
+    ),
+    (b"roster", b"argonne:8 lemont:4\n"),
     (b"take {}", b"unread 3 whole 0\n"),
+    (b"oz/operator reserve argonne 50 60 4", b"6.argonne\n"),
+    (
+        b"reservations-json",
+        b"[{\"end\":60,\"id\":\"6.argonne\",\"nodes\":4,\"site\":\"argonne\",\"start\":50}]\n",
+    ),
+    (b"machine-json 50", MACHINE),
 ];
 
 #[test]

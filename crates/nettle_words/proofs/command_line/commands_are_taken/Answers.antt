@@ -1,7 +1,7 @@
 use Rattle.std.proofs.Common.{ℕ, true, false, List, [], ◌∷◌, codes, refl}
 use Rattle.std.specs.Prelude.{None, Some}
 use Rattle.clap.proofs.OnLiterals.{clap_on_literals}
-use Rattle.nettle_words.specs.CommandLine.{Answers, Asks, Checks, Compacts, Makes, Serves}
+use Rattle.nettle_words.specs.CommandLine.{Answers, Asks, Checks, Compacts, Makes, Serves, TellsWords}
 use Rattle.nettle_words.proofs.command_line.commands_are_taken.Goals as goal
 
 made : (name : List ℕ) → Asks name (codes "init" ∷ codes "d" ∷ codes "a" ∷ codes "a:8" ∷ codes "b:4" ∷ [])
@@ -38,5 +38,9 @@ checked : (name : List ℕ) → Asks name (codes "check" ∷ codes "d" ∷ []) (
 unfolding clap_on_literals
 checked name = (refl, refl)
 
+told : (name : List ℕ) → Asks name (codes "words" ∷ []) (record { directory = []; task = TellsWords })
+unfolding clap_on_literals
+told name = (refl, refl)
+
 pub returns : goal.returns
-returns c = record { init = made; at = answered; serve = served; frames = framed; history = unforgotten; compact = compacted; keep = kept; check = checked }
+returns c = record { init = made; at = answered; serve = served; frames = framed; history = unforgotten; compact = compacted; keep = kept; check = checked; words = told }

@@ -1,7 +1,7 @@
 use Rattle.std.proofs.Common.{sym, ◌∙◌}
 use Rattle.fed_looks.proofs.PlanWords.{no_but, no_job, no_moment, no_words, plan_asked, time_alone, wrong_count}
-use Rattle.fed_looks.proofs.looks.read_plan.Goals as goal
-use Rattle.fed_looks.proofs.looks.read_plan.Goals.{then-ne-via-then-ne, then-ne-via-else-ne+then-not-may_leave_out}
+use Rattle.fed_looks.proofs.looks.read_but.Goals as goal
+use Rattle.fed_looks.proofs.looks.read_but.Goals.{then-ne-via-then-ne, then-ne-via-else-ne+then-not-may_leave_out}
 
 pub returns-in_default : goal.returns-in_default
 returns-in_default c = no_words c.args.roster.now c.args.here (λ word. word.now) c.args.words.now c.in_default.ensures.cases
