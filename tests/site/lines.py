@@ -152,7 +152,7 @@ def lines(tally: Any, sites: Any) -> None:
         asked(tally, sites, name, rows)
 
 
-def words(tally: Any, sites: Any) -> None:
+def line_words(tally: Any, sites: Any) -> None:
     """The words that a line may begin with are told. Each is read as it is told: a line of a site's own words names no user."""
     told = "".join(f"{kind} {word}\n" for kind, all_words in WORDS.items() for word in all_words.split())
     tally.same("the words", sites.run("words"), (0, told, ""))
@@ -188,4 +188,4 @@ def random_plans(tally: Any, sites: Any) -> None:
         tally.same(name, found, (0, "".join(f"{answer}\n" for _, answer in rows), ""))
 
 
-SCENES = {"lines": lines, "words": words, "random_plans": random_plans}
+SCENES = {"lines": lines, "line_words": line_words, "random_plans": random_plans}
