@@ -7,7 +7,7 @@ import subprocess
 import time
 
 from tests.playing import TOP, call
-from tests.service.keeping import write
+from tests.service.keeping import shim, write
 from tests.service.pbs import work_in
 from tests.service.scenes import ME, read
 from tests.service.sites import until
@@ -44,6 +44,18 @@ LIMITED = """#!/bin/bash
 trap '' XFSZ
 ulimit -f 4
 exec {program} "$@"
+"""
+# a program with a packet of so many bytes, which keeps one that is taken in a file
+LONG_BYTES = 96 * 2**20
+LONG = """
+def hook(line, ask):
+    if line.startswith(b"ship "):
+        return b"0 %d 0\\n" % ({size} + 1) + b"x" * {size} + b"\\n"
+    if line.startswith(b"take "):
+        with open(os.path.dirname(sys.argv[0]) + "/taken", "wb") as file:
+            file.write(line)
+        return b"0 6 0\\ntaken\\n"
+    return ask(line)
 """
 CLUSTER = "qsub -q batch -l nodes=1:ppn={threads},walltime={resources.time} -j oe -o logs/{rule}.{jobid}.log"
 
@@ -144,4 +156,17 @@ def statuses(tally, federation):
     tally.same("a look is answered all the same", site.ask("qstat").status, 0)
 
 
-SCENES = {it.__name__: it for it in (pbs_examples, snakemake, statuses)}
+def long_packets(tally, federation):
+    """A packet that is long, as where a centre joins, goes out and comes in by the socket, and the daemon holds few copies of it."""
+    federation.program = shim(f"{federation.folder}/long", federation.program, LONG.format(size=LONG_BYTES))
+    site, other = federation.make("argonne:4", "lemont:4", jobs="run = no")
+    told = site.ask("ship", "lemont")
+    tally.same("it goes out whole", (told.status, told.answer == b"x" * LONG_BYTES + b"\n"), (0, True))
+    tally.same("and comes in", (other.ask("take", body=told.answer).answer, os.path.getsize(f"{federation.folder}/taken")), (b"taken\n", LONG_BYTES + 6))
+    for name, daemon in (("ships", site), ("takes", other)):
+        most = int(re.search(r"VmHWM:\s*([0-9]+)", read(f"/proc/{daemon.process.pid}/status")).group(1)) * 1024
+        print(f"tests/service/rows: long_packets: the daemon that {name} {LONG_BYTES} bytes had {most} at most")
+        tally.true(f"the daemon that {name} it has no more than four copies", most < 4 * LONG_BYTES + 64 * 2**20)
+
+
+SCENES = {it.__name__: it for it in (pbs_examples, snakemake, statuses, long_packets)}
