@@ -46,7 +46,7 @@ ulimit -f 4
 exec {program} "$@"
 """
 # a program with a packet of so many bytes, which keeps one that is taken in a file
-LONG_BYTES = 96 * 2**20
+LONG_BYTES = 200 * 2**20
 LONG = """
 def hook(line, ask):
     if line.startswith(b"ship "):
