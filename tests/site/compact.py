@@ -145,10 +145,10 @@ def keeping(tally, sites):
     tally.true("which leaves no file", not os.path.exists(f"{sites.folder}/older"))
     refused(tally, sites, "the name of a new journal", "argonne", "nettlebeam: argonne/journal.new: ", "--keep", "argonne/journal.new")
     tally.true("which isn't made", not os.path.exists(f"{sites.folder}/argonne/journal.new"))
-    os.mkdir(f"{sites.folder}/argonne/journal.new")
+    os.rename(f"{sites.folder}/argonne/journal", f"{sites.folder}/elsewhere")
+    os.symlink(f"{sites.folder}/elsewhere", f"{sites.folder}/argonne/journal")
     refused(tally, sites, "a copy of a journal that stays", "argonne", ": not compacted: ", "--keep", "older")
     tally.true("which doesn't stay", not os.path.exists(f"{sites.folder}/older"))
-    os.rmdir(f"{sites.folder}/argonne/journal.new")
 
 
 def obstacles(tally, sites):
@@ -172,23 +172,66 @@ def obstacles(tally, sites):
     tally.same(f"and tells once that it isn't compacted: {serve[2]!r}", (serve[2].count("not compacted: "), serve[2].count("\n")), (1, 1))
     os.remove(path)
     os.rename(f"{sites.folder}/elsewhere", path)
-    for number, stale in enumerate((b"", b"+ half of a new journal", os.urandom(3_000_000))):
+    os.chmod(f"{sites.folder}/lemont/journal", 0o640)
+    compacted(tally, sites, "lemont", "a file that a group may read")
+    tally.same("its mode stays", os.stat(f"{sites.folder}/lemont/journal").st_mode & 0o7777, 0o640)
+
+
+def left_by_a_crash(tally, sites):
+    """What a crash has left of a compaction is removed by the next one."""
+    busy(sites)
+    path = f"{sites.folder}/argonne/journal"
+    compacted(tally, sites, "argonne", "the first")
+    new = sites.journal("argonne")
+    sectors = bytes(512) + new[512:]
+    for number, stale in enumerate((b"", b"+ ", new[:40], new[:700], new, sectors, bytes(3_000_000), new.replace(b"nettlebeam 4", b"nettlebeam 2", 1))):
         with open(f"{path}.new", "wb") as file:
             file.write(stale)
         tally.same("what a crash has left says nothing", sites.run("check", "argonne")[0], 0)
         sites.run("serve", "--keep-history", "argonne", text=ALTERATIONS)
         compacted(tally, sites, "argonne", f"over what a crash has left, {number}")
         tally.same("and is gone then", sorted(os.listdir(f"{sites.folder}/argonne")), ["journal"])
+
+
+def others_files(tally, sites):
+    """Another file that has the name of a new journal stays, and the journal isn't compacted: it isn't a file, it doesn't begin
+    as a journal of this site, or it is another user's. `serve` says so once, and goes on."""
+    busy(sites)
+    path = f"{sites.folder}/argonne/journal.new"
+    part = "argonne/journal: not compacted: journal.new is there, and no compaction of this site has left it; nothing is changed"
+    lemont = sites.journal("lemont")
+
+    def stays(what, *options):
+        refused(tally, sites, what, "argonne", part, *options)
+        tally.true(f"{what} is there", os.path.lexists(path))
+
+    for what, other in (("a text", b"another file\n"), ("half a line", b"+ half of a new journal"), ("a word", b"-"), ("random bytes", os.urandom(3_000_000)), ("another site's journal", lemont), ("a site of a longer name", lemont.replace(b" lemont ", b" argonne2 ", 1))):
+        with open(path, "wb") as file:
+            file.write(other)
+        stays(what)
+        stays(f"{what}, and a copy", "--keep", "old")
+        tally.true("of which there is none", not os.path.exists(f"{sites.folder}/old"))
+        with open(path, "rb") as file:
+            tally.same(f"{what} is as it was", file.read(), other)
+    found = sites.run("serve", "argonne", text=long_lines())
+    tally.same("serve answers all", (found[0], found[1].count("\n\n")), (0, LONG))
+    tally.same(f"and tells it once: {found[2]!r}", (found[2].count(part), found[2].count("\n")), (1, 1))
+    os.remove(path)
+    os.mkdir(path)
+    stays("a folder")
+    os.rmdir(path)
     with open(f"{sites.folder}/precious", "wb") as file:
-        file.write(b"another file")
-    os.symlink(f"{sites.folder}/precious", f"{path}.new")
-    sites.run("serve", "--keep-history", "argonne", text=ALTERATIONS)
-    compacted(tally, sites, "argonne", "over a link of the new file's name")
-    with open(f"{sites.folder}/precious", "rb") as file:
-        tally.same("what it leads to", (file.read(), os.path.islink(path)), (b"another file", False))
-    os.chmod(f"{sites.folder}/lemont/journal", 0o640)
-    compacted(tally, sites, "lemont", "a file that a group may read")
-    tally.same("its mode stays", os.stat(f"{sites.folder}/lemont/journal").st_mode & 0o7777, 0o640)
+        file.write(b"")
+    os.symlink(f"{sites.folder}/precious", path)
+    stays("a symbolic link")
+    os.remove(path)
+    with open(path, "wb") as file:
+        file.write(sites.journal("argonne").replace(b"nettlebeam 3", b"nettlebeam 4", 1)[:100])
+    if not os.getuid():
+        os.chown(path, 12345, 12345)
+        stays("another user's file")
+        os.chown(path, 0, 0)
+    compacted(tally, sites, "argonne", "over this site's own")
 
 
 def renames_that_fail(tally, sites):
@@ -439,4 +482,4 @@ def damage_of(file, whole, status, output, errors):
     return "" if status == 0 and right else (len(entries), output, errors)
 
 
-SCENES = {it.__name__: it for it in (compact, young, keeping, obstacles, renames_that_fail, other_owners, compact_full, serve_compacts, compact_at_once, unknown_texts, heard_texts, compact_damage)}
+SCENES = {it.__name__: it for it in (compact, young, keeping, obstacles, left_by_a_crash, others_files, renames_that_fail, other_owners, compact_full, serve_compacts, compact_at_once, unknown_texts, heard_texts, compact_damage)}

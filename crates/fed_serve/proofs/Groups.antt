@@ -6,7 +6,7 @@ use Rattle.std.proofs.Common.{◌≡◌, ◌⊎◌, ◌≤◌, inl, inr, ℕ, Li
 use Rattle.std.proofs.lemmas.Grind.{flat_map-append}
 use Rattle.std.proofs.lemmas.List.{map-append}
 use Rattle.std.proofs.lemmas.List.Elements.{All-append, All-nil}
-use Rattle.std.specs.Prelude.{Bool}
+use Rattle.std.specs.Prelude.{Bool, true, false}
 use Rattle.fed_replica.specs.State.{State}
 use Rattle.fed_site.specs.Journal.{after_lines, kept_lines}
 use Rattle.fed_site.specs.Rosters.{roster_after, roster_after_lines}
@@ -27,7 +27,7 @@ use Rattle.fed_home.proofs.Replays.{after_both, kept_both, roster_after_both}
 use Rattle.fed_serve.specs.Inputs.{HasNoLineFeed, IsKnownAs, cut_line, lines_in}
 use Rattle.fed_serve.proofs.Writing.{appends_kept, appends_more, appends_none}
 use Rattle.fed_serve.proofs.InputLines.{Takes, lines_in-begun}
-use Rattle.fed_serve.specs.Served.{HasAnswered, HasKept, HasServed, IsDone, KeepsFrom, KeepsSome, ServesAs, StopsAt, StopsBehind}
+use Rattle.fed_serve.specs.Served.{HasAnswered, HasKept, HasServed, IsDone, KeepsFrom, KeepsSome, Serves, ServesAs, StopsAt, StopsBehind}
 use Rattle.fed_serve.specs.Written.{told_bytes, told_text}
 use Rattle.fed_serve.specs.declared.faults.ServeFault.{ServeFault}
 use Rattle.fed_serve.specs.declared.faults.ServeFault.TheVariants as serve
@@ -44,7 +44,7 @@ pub consumes_start : (had : Option (List ℕ)) → Consumes had had []
 consumes_start None = tt
 consumes_start (Some xs) = refl
 
-consumes_more : (had has now : Option (List ℕ)) (read chunk : List ℕ) → Consumes had has read → Consumes has now chunk → Consumes had now (read ++ chunk)
+pub consumes_more : (had has now : Option (List ℕ)) (read chunk : List ℕ) → Consumes had has read → Consumes has now chunk → Consumes had now (read ++ chunk)
 consumes_more None has now read chunk first more = tt
 consumes_more (Some xs) None now read chunk first more = absurd first
 consumes_more (Some xs) (Some ys) None read chunk first more = absurd more
@@ -73,13 +73,13 @@ known_input None now read came = tt
 known_input (Some xs) None read came = absurd came
 known_input (Some xs) (Some ys) read came = came
 
-known_rest : (now : Option (List ℕ)) → IsKnownAs now (rest_of now)
-known_rest None = tt
-known_rest (Some xs) = refl
-
 pub rest_at_end : (now : Option (List ℕ)) → IsAtEnd now → rest_of now ≡ []
 rest_at_end None ended = refl
 rest_at_end (Some xs) ended = ended
+
+-- an input that goes on
+never_ended : {P : Type 0} → false ≡ true → P
+never_ended e = cc
 
 -- ---- lines after lines
 replies_both : (roster : List (List ℕ × ℕ)) (s : State) (first second : List (List ℕ)) (xs ys : List Answered) → AreReplies roster s first xs → AreReplies (roster_after_lines roster first) (after_lines roster s first) second ys
@@ -246,12 +246,7 @@ module _ {D : Type 0} (frames : Bool) (seen : D → List ℕ) (may_leave : D →
     }
 
     -- ---- how it ends
-    -- the clauses of `serve` on what was served and on what a crash leaves
-    abbrev pub Serves : (errors : D → List Error) → Home D → Home D → Option (List ℕ) → Option (List ℕ) → (start begun : List ℕ) → Option (List ℕ) → Option (List ℕ) → Result Served ServeFault → Type 0
-    Serves errors old new had now start begun before after result =
-        (read : List ℕ) × (unread : List ℕ) × IsKnownAs had (read ++ unread) × IsKnownAs now unread
-        × ServesAs frames seen may_leave errors old new (lines_in (start ++ (read ++ unread))) (lines_in (begun ++ unread)) before after result
-
+    -- the clause of `serve` on what a crash leaves
     abbrev pub AnyMoment : Home D → Home D → Option (List ℕ) → List ℕ → Type 0
     AnyMoment old new had start = (input : List ℕ) × IsKnownAs had input × LeavesSome old new (lines_in (start ++ input))
 
@@ -307,48 +302,43 @@ module _ {D : Type 0} (frames : Bool) (seen : D → List ℕ) (may_leave : D →
 
       -- no memory for the input, behind lines that are served
       pub served_memory : (old mid : Home D) (had has now : Option (List ℕ)) (start begun chunk left : List ℕ) (a b : Option (List ℕ)) (r : Result Served ServeFault) → IsServing old mid had has start begun a b → Consumes has now chunk
-          → IsErrAnd r (λ fault. fault ≡ serve.Home home.NoMemory) → Serves errors old mid had now start left a b r
+          → IsErrAnd r (λ fault. fault ≡ serve.Home home.NoMemory) → Serves frames seen may_leave errors old mid had now start left a b r
       served_memory old mid had has now start begun chunk left a b (Ok done) run consumed e = absurd e
-      served_memory old mid had has now start begun chunk left a b (Err fault) run consumed e =
-          let others = lines_in (begun ++ (chunk ++ rest_of now)) in
-          let behind : StopsBehind frames seen may_leave errors old mid run.given others (lines_in (left ++ rest_of now)) a b (serve.Home home.NoMemory) = (
-            run.served.answered,
-            λ c now_left. ([], others, refl, kept_nil old run.given c (left_open mid c run.served.done.is_open now_left ∙ (λ i. Ok (entries_of (run.served.done.kept i))))),
-          ) in (
-            run.read ++ chunk,
-            rest_of now,
-            known_input had now (run.read ++ chunk) (consumes_more had has now run.read chunk run.came consumed),
-            known_rest now,
-            (
+      served_memory old mid had has now start begun chunk left a b (Err fault) run consumed e = (
+        run.read ++ chunk,
+        false,
+        consumes_more had has now run.read chunk run.came consumed,
+        never_ended,
+        λ more behind.
+            let others = lines_in (begun ++ (chunk ++ more)) in
+            let stopped : StopsBehind frames seen may_leave errors old mid run.given others (lines_in (left ++ more)) a b (serve.Home home.NoMemory) = (
+              run.served.answered,
+              λ c now_left. ([], others, refl, kept_nil old run.given c (left_open mid c run.served.done.is_open now_left ∙ (λ i. Ok (entries_of (run.served.done.kept i))))),
+            ) in (
               run.given,
               others,
-              ap (λ (bs : List ℕ). lines_in (start ++ bs)) (append_assoc run.read chunk (rest_of now)) ∙ run.lines (chunk ++ rest_of now),
-              subst (StopsBehind frames seen may_leave errors old mid run.given others (lines_in (left ++ rest_of now)) a b) (sym e) behind,
+              ap (λ (bs : List ℕ). lines_in (start ++ bs)) (append_assoc run.read chunk more) ∙ run.lines (chunk ++ more),
+              subst (StopsBehind frames seen may_leave errors old mid run.given others (lines_in (left ++ more)) a b) (sym e) stopped,
             ),
-          )
+      )
 
       -- a journal that is long
-      pub served_long : (old mid : Home D) (had now : Option (List ℕ)) (start begun : List ℕ) (a b : Option (List ℕ)) → IsServing old mid had now start begun a b → Serves errors old mid had now start begun a b (Ok Long)
-      served_long old mid had now start begun a b run = (
-        run.read,
-        rest_of now,
-        known_input had now run.read run.came,
-        known_rest now,
-        (run.given, run.lines (rest_of now), run.served),
-      )
+      pub served_long : (old mid : Home D) (had now : Option (List ℕ)) (start begun : List ℕ) (a b : Option (List ℕ)) → IsServing old mid had now start begun a b → Serves frames seen may_leave errors old mid had now start begun a b (Ok Long)
+      served_long old mid had now start begun a b run = (run.read, false, run.came, never_ended, λ more behind. (run.given, run.lines more, run.served))
 
       -- an input that can't be read further
       pub served_read : (old mid : Home D) (had has now : Option (List ℕ)) (start begun : List ℕ) (a b : Option (List ℕ)) (fault : ServeFault) → IsServing old mid had has start begun a b → Keeps has now
-          → ((error : Error) × (fault ≡ serve.Read error)) → Serves errors old mid had now start begun a b (Err fault)
-      served_read old mid had has now start begun a b fault run same is =
-          let others = lines_in (begun ++ rest_of now) in
-          let behind : StopsBehind frames seen may_leave errors old mid run.given others others a b (serve.Read is.0) = (run.served, refl) in (
-            run.read,
-            rest_of now,
-            known_input had now run.read (consumes_kept had has now run.read run.came same),
-            known_rest now,
-            (run.given, others, run.lines (rest_of now), subst (StopsBehind frames seen may_leave errors old mid run.given others others a b) (sym is.1) behind),
-          )
+          → ((error : Error) × (fault ≡ serve.Read error)) → Serves frames seen may_leave errors old mid had now start begun a b (Err fault)
+      served_read old mid had has now start begun a b fault run same is = (
+        run.read,
+        false,
+        consumes_kept had has now run.read run.came same,
+        never_ended,
+        λ more behind.
+            let others = lines_in (begun ++ more) in
+            let stopped : StopsBehind frames seen may_leave errors old mid run.given others others a b (serve.Read is.0) = (run.served, refl) in
+            (run.given, others, run.lines more, subst (StopsBehind frames seen may_leave errors old mid run.given others others a b) (sym is.1) stopped),
+      )
 
       module _ (counts : CountsNow) where
         -- a group that isn't served, behind lines that are
@@ -372,39 +362,41 @@ module _ {D : Type 0} (frames : Bool) (seen : D → List ℕ) (may_leave : D →
         stops_behind old mid new given group unread a b c (serve.Read error) one stopped more = absurd stopped
 
         pub served_stop : (old mid new : Home D) (had has now : Option (List ℕ)) (start begun chunk taken left : List ℕ) (a b c : Option (List ℕ)) (fault : ServeFault) → IsServing old mid had has start begun a b → Takes begun chunk taken left
-            → Consumes has now chunk → StopsAt frames seen errors moment left_since mid new (lines_in taken) b c fault → LeavesGroup mid new (lines_in taken) → Serves errors old new had now start left a c (Err fault)
+            → Consumes has now chunk → StopsAt frames seen errors moment left_since mid new (lines_in taken) b c fault → LeavesGroup mid new (lines_in taken) → Serves frames seen may_leave errors old new had now start left a c (Err fault)
         served_stop old mid new had has now start begun chunk taken left a b c fault run takes consumed stopped more = (
           run.read ++ chunk,
-          rest_of now,
-          known_input had now (run.read ++ chunk) (consumes_more had has now run.read chunk run.came consumed),
-          known_rest now,
-          (
+          false,
+          consumes_more had has now run.read chunk run.came consumed,
+          never_ended,
+          λ rest behind. (
             run.given,
-            lines_in taken ++ lines_in (left ++ rest_of now),
-            taken_lines start run.read begun chunk taken left (rest_of now) run.given run.lines takes,
-            stops_behind old mid new run.given (lines_in taken) (lines_in (left ++ rest_of now)) a b c fault run.served stopped more,
+            lines_in taken ++ lines_in (left ++ rest),
+            taken_lines start run.read begun chunk taken left rest run.given run.lines takes,
+            stops_behind old mid new run.given (lines_in taken) (lines_in (left ++ rest)) a b c fault run.served stopped more,
           ),
         )
 
         pub served_at_the_end : (old mid new : Home D) (had has now : Option (List ℕ)) (start begun left : List ℕ) (a b c : Option (List ℕ)) (r : Result Served ServeFault) → IsServing old mid had has start begun a b
             → Consumes has now [] → IsAtEnd now → left ≡ [] → IfOk r (λ served. served ≡ Ended) → OnOk r (HasServed frames seen may_leave mid new (cut_line begun) b c) → IfErr r (StopsAt frames seen errors moment left_since mid new (cut_line begun) b c)
-            → LeavesGroup mid new (cut_line begun) → Serves errors old new had now start left a c r
+            → LeavesGroup mid new (cut_line begun) → Serves frames seen may_leave errors old new had now start left a c r
         served_at_the_end old mid new had has now start begun left a b c r run consumed ended empty whole two stopped more = (
           run.read,
-          rest_of now,
-          known_input had now run.read (read_all had has now run.read run.came consumed),
-          known_rest now,
-          ends r whole two stopped,
+          true,
+          read_all had has now run.read run.came consumed,
+          λ e. (ended, empty),
+          λ rest behind. subst
+              (λ (bs : List ℕ). ServesAs frames seen may_leave errors old new (lines_in (start ++ (run.read ++ bs))) (lines_in (left ++ bs)) a c r)
+              (sym (behind refl)) (ends r whole two stopped),
         )
           where
-            is : lines_in (start ++ (run.read ++ rest_of now)) ≡ run.given ++ cut_line begun
-            is = ended_lines now start run.read begun run.given run.lines run.none ended
+            is : lines_in (start ++ (run.read ++ [])) ≡ run.given ++ cut_line begun
+            is = run.lines [] ∙ ap (λ (bs : List ℕ). run.given ++ lines_in bs) (append-nil begun) ∙ ap (λ ls. run.given ++ ls) (lines_in-begun begun run.none)
 
-            unread : lines_in (left ++ rest_of now) ≡ []
-            unread = (λ i. lines_in (empty i ++ rest_at_end now ended i))
+            unread : lines_in (left ++ []) ≡ []
+            unread = ap (λ (bs : List ℕ). lines_in (bs ++ [])) empty
 
             ends : (r : Result Served ServeFault) → IfOk r (λ served. served ≡ Ended) → OnOk r (HasServed frames seen may_leave mid new (cut_line begun) b c) → IfErr r (StopsAt frames seen errors moment left_since mid new (cut_line begun) b c)
-                → ServesAs frames seen may_leave errors old new (lines_in (start ++ (run.read ++ rest_of now))) (lines_in (left ++ rest_of now)) a c r
+                → ServesAs frames seen may_leave errors old new (lines_in (start ++ (run.read ++ []))) (lines_in (left ++ [])) a c r
             ends (Ok Long) whole two stopped = absurd (other whole)
               where
                 other : Long ≡ Ended → ⊥
@@ -412,7 +404,7 @@ module _ {D : Type 0} (frames : Bool) (seen : D → List ℕ) (may_leave : D →
             ends (Ok Ended) whole two stopped = subst (λ (ls : List (List ℕ)). HasServed frames seen may_leave old new ls a c) (sym is) (served_both old mid new run.given (cut_line begun) a b c run.served two)
             ends (Err fault) whole two stopped = (
               run.given,
-              cut_line begun ++ lines_in (left ++ rest_of now),
+              cut_line begun ++ lines_in (left ++ []),
               is ∙ ap (λ ls. run.given ++ ls) (sym (append-nil (cut_line begun))) ∙ ap (λ ls. run.given ++ (cut_line begun ++ ls)) (sym unread),
               subst (λ (ls : List (List ℕ)). StopsBehind frames seen may_leave errors old new run.given (cut_line begun ++ ls) ls a c fault) (sym unread)
                   (stops_behind old mid new run.given (cut_line begun) [] a b c fault run.served stopped more),

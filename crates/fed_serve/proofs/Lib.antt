@@ -3,4 +3,5 @@ pub mod Writing
 pub mod InputLines
 pub mod Stops
 pub mod Groups
+pub mod GoingOn
 pub mod WordLines

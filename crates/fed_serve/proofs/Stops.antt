@@ -57,9 +57,13 @@ whatever_fault (Ok done) P p = tt
 whatever_fault (Err fault) P p = λ cause is. p
 
 -- an input that is answered to its end didn't stop before
-apart : Long ≡ Ended → ⊥
+pub apart : Long ≡ Ended → ⊥
 apart e = cc
 
 pub never_long : (r : Result Served ServeFault) (P : Type 0) → IfOk r (λ served. served ≡ Ended) → IfOk r (λ served. served ≡ Long → P)
 never_long (Ok served) P ended = λ long. absurd (apart (sym long ∙ ended))
 never_long (Err fault) P ended = tt
+
+pub at_the_end : (r : Result Served ServeFault) (P : Type 0) → P → IfOk r (λ served. served ≡ Ended → P)
+at_the_end (Ok served) P p = λ is. p
+at_the_end (Err fault) P p = tt

@@ -1,7 +1,7 @@
 -- What is written to the lines of an input, and what the journal then has.
-use Rattle.std.specs.Prelude.{◌≡◌, ℕ, Bool, true, false, List, ◌∷◌, ◌++◌, length, Option, None, Result, Ok, Err, ⊤}
+use Rattle.std.specs.Prelude.{◌≡◌, ℕ, Bool, true, false, List, [], ◌∷◌, ◌++◌, length, Option, None, Result, Ok, Err, ⊤}
 use Rattle.std.specs.List.{All}
-use Rattle.std.specs.Io.KnownBytes.{Appends, Keeps}
+use Rattle.std.specs.Io.KnownBytes.{Appends, Consumes, IsAtEnd, Keeps}
 use Rattle.std.specs.declared.io.Error.{Error}
 use Rattle.fed_replica.specs.State.{State}
 use Rattle.fed_site.specs.Journal.{after_lines, kept_lines}
@@ -17,6 +17,7 @@ use Rattle.fed_home.specs.Replay.{AreReplies}
 use Rattle.fed_home.specs.declared.faults.HomeFault.{HomeFault}
 use Rattle.fed_home.specs.declared.faults.HomeFault.TheVariants as home
 use Rattle.fed_home.specs.declared.homes.Home.{Home}
+use Rattle.fed_serve.specs.Inputs.{lines_in}
 use Rattle.fed_serve.specs.Written.{not_kept_text, told_text}
 use Rattle.fed_serve.specs.declared.faults.ServeFault.{ServeFault}
 use Rattle.fed_serve.specs.declared.faults.ServeFault.TheVariants as serve
@@ -104,6 +105,13 @@ module _ {D : Type 0} (frames : Bool) (seen : D → List ℕ) (may_leave : D →
         (first : List (List ℕ)) × (given ≡ first ++ unread) × HasServed old new first before after
     ServesAs old new given unread before after (Err fault) =
         (first : List (List ℕ)) × (others : List (List ℕ)) × (given ≡ first ++ others) × StopsBehind old new first others unread before after fault
+
+    -- By what was read, behind what had begun of a line before it, and by what is left of a line that has begun: so it ends,
+    -- whatever comes behind it. Behind an input that is at its end nothing comes, and nothing is left.
+    abbrev pub Serves : Home D → Home D → Option (List ℕ) → Option (List ℕ) → (begun left : List ℕ) → Option (List ℕ) → Option (List ℕ) → Result Served ServeFault → Type 0
+    Serves old new had has begun left before after result =
+        (read : List ℕ) × (ended : Bool) × Consumes had has read × (ended ≡ true → IsAtEnd has × (left ≡ []))
+        × ((more : List ℕ) → (ended ≡ true → more ≡ []) → ServesAs old new (lines_in (begun ++ (read ++ more))) (lines_in (left ++ more)) before after result)
 
 module _ {D : Type 0} (frames : Bool) (seen : D → List ℕ) (errors : D → List Error) (moment : D → ℕ) (left_since : D → ℕ → List ℕ → Type 0) where
   -- what is left where a group isn't served

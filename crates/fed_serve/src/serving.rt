@@ -14,7 +14,7 @@ ghost use Rattle.fed_home.specs.Home.{IsOpen, state_in, home_device, site_of};
 ghost use Rattle.fed_home.specs.Replay.{AreReplies};
 ghost use Rattle.fed_home.specs.declared.faults.HomeFault.{HomeFault};
 ghost use Rattle.fed_serve.specs.Inputs.{EndsLines, HasNoLineFeed, IsKnownAs, cut_line, lines_in};
-ghost use Rattle.fed_serve.specs.Served.{HasServed, IsDone, IsStop, KeepsSome, ServesAs, StopsAt, StopsServing, bytes_with};
+ghost use Rattle.fed_serve.specs.Served.{HasServed, IsDone, IsStop, KeepsSome, Serves, StopsAt, StopsServing, bytes_with};
 
 use crate::faults::ServeFault;
 use crate::inputs::{given_lines, take_lines};
@@ -195,9 +195,9 @@ pub fn serve<D: Device + Drop, R: Read, W: Write>(
 ) -> Result<Served, ServeFault>
     requires open { IsOpen D.seen D.may_leave home.old }
     requires begun { HasNoLineFeed begun.old.items }
-    ensures served { (read : List ℕ) × (unread : List ℕ) × IsKnownAs (R.remaining reader.old) (read ++ unread) × IsKnownAs (R.remaining reader.new) unread
-        × ServesAs frames D.seen D.may_leave D.errors home.old home.new (lines_in (begun.old.items ++ (read ++ unread))) (lines_in (begun.new.items ++ unread))
+    ensures served { Serves frames D.seen D.may_leave D.errors home.old home.new (R.remaining reader.old) (R.remaining reader.new) begun.old.items begun.new.items
         (W.contents writer.old) (W.contents writer.new) result }
+    ensures ended { IfOk result (λ served. served ≡ Served.Ended → IsAtEnd (R.remaining reader.new)) }
 
     // A crash at any moment of the call leaves the entries from before it and, behind them, what some first lines keep.
     ensures any_moment { (input : List ℕ) × IsKnownAs (R.remaining reader.old) input

@@ -1,2 +1,4 @@
 -- What the contracts of this crate cite.
+pub mod Copy
+pub mod Openings
 pub mod Status

@@ -30,13 +30,17 @@ const PAUSE_MILLISECONDS: u64 = 20;
 /// How many files of what was cut there may be.
 const CUTS: u32 = 1_000_000;
 
-/// Waits until the disk has the name of a file or directory.
-pub fn sync_parent(rt: &impl Files<File = File>, name: &str) -> io::Result<()> {
-    let parent = match Path::new(name).parent() {
+/// The directory that a file or directory of this name is in.
+pub fn parent_of(name: &str) -> Path<'_> {
+    match Path::new(name).parent() {
         Some(parent) if !parent.as_str().is_empty() => parent,
         _ => Path::new("."),
-    };
-    File::open(rt, parent)?.sync_all()
+    }
+}
+
+/// Waits until the disk has the name of a file or directory.
+pub fn sync_parent(rt: &impl Files<File = File>, name: &str) -> io::Result<()> {
+    File::open(rt, parent_of(name))?.sync_all()
 }
 
 /// The journal's file. Where another process has it, it is waited for, up to ten seconds.

@@ -4,7 +4,7 @@ ghost use Rattle.std.specs.Prelude.{◌≡◌};
 use fed_home::HomeFault;
 use fed_journal::{DeviceFault, JournalFault, OpenFault};
 use fed_lattice::NoMemory;
-use fed_serve::ServeFault;
+use fed_serve::{NotCompacted, ServeFault, Stop};
 use std::alloc::AllocError;
 use std::fmt::{self, Display, Formatter};
 use std::io::{self, ErrorKind};
@@ -26,6 +26,8 @@ pub enum Fault {
     Home(HomeFault),
     /// No second file can be made beside the journal, so that it isn't compacted.
     NotCompacted(io::Error),
+    /// A file has the name of a new journal that no compaction of the site has left, so that the journal isn't compacted.
+    Taken,
     /// The disk failed as the compacted journal took the place of the old one: the file is the one or the other.
     Replaced(io::Error),
     /// The journal isn't compacted, since what would be written isn't read as what the site has.
@@ -74,6 +76,33 @@ impl From<DeviceFault> for Fault {
         match fault {
             DeviceFault::NoMemory => Fault::Home(HomeFault::NoMemory),
             DeviceFault::Failed(error) => Fault::Home(HomeFault::Failed(error)),
+        }
+    }
+}
+
+/// Why a journal may be the old one or the compacted one, or isn't compacted.
+pub fn fault_of_compacting(fault: HomeFault) -> Fault {
+    match fault {
+        HomeFault::Failed(error) => Fault::Replaced(error),
+        _ => Fault::Home(fault),
+    }
+}
+
+impl From<NotCompacted> for Fault {
+    fn from(cause: NotCompacted) -> Fault {
+        match cause {
+            NotCompacted::Refused(error) => Fault::NotCompacted(error),
+            NotCompacted::Unread => Fault::Uncompactable,
+            NotCompacted::Stopped(fault) => fault_of_compacting(fault),
+        }
+    }
+}
+
+impl From<Stop<Fault>> for Fault {
+    fn from(stop: Stop<Fault>) -> Fault {
+        match stop {
+            Stop::Served(fault) => Fault::from(fault),
+            Stop::Unopened(fault) => fault,
         }
     }
 }
@@ -132,6 +161,10 @@ impl Display for FaultAt<'_> {
             Fault::NotCompacted(error) => write!(
                 f,
                 "{directory}/journal: not compacted: {error}; nothing is changed"
+            ),
+            Fault::Taken => write!(
+                f,
+                "{directory}/journal: not compacted: journal.new is there, and no compaction of this site has left it; nothing is changed: move it away"
             ),
             Fault::Replaced(error) => write!(
                 f,

@@ -1,18 +1,17 @@
 //! What the program does with a site.
-ghost use Rattle.std.specs.Prelude.{◌≡◌};
-ghost use Rattle.std.specs.Prelude.{List, ℕ};
+ghost use Rattle.std.specs.Prelude.{◌≡◌, List, ℕ};
 ghost use Rattle.fed_journal.specs.Files.{file_may_leave, file_seen};
 ghost use Rattle.fed_home.specs.Home.{IsOpen, IsReplayed};
 
-use crate::compacting::{GROWTH, LEAST_BYTES, compact, compact_long, tell_not_compacted};
-use crate::directories::{find_home, keep_tail, open_device, open_home, open_home_again};
-use crate::faults::{Fault, FaultAt};
+use crate::compacting::compact;
+use crate::directories::{find_home, keep_tail, open_device, open_home};
+use crate::faults::Fault;
 use crate::making::make_home;
-use fed_home::{Home, HomeFault, read_header, replay};
+use crate::places::Directory;
+use fed_home::{Home, read_header, replay};
 use fed_journal::{FileDevice, Journal};
 use fed_serve::{
-    MAX_TAKE_BYTES, ServeFault, Served, answered_status, at_most_longest, line_of_words, serve,
-    take_line,
+    MAX_TAKE_BYTES, answered_status, at_most_longest, line_of_words, serve_all, take_line,
 };
 use fed_site::{Answered, Site, words_beside, words_of_lines};
 use fed_stamp::{SITES, SiteId};
@@ -131,15 +130,6 @@ fn answer_at<R: Files<File = File> + Clock + AllocGlobal + Clone + Drop>(
     }
 }
 
-/// Tells on standard error why lines are answered `not kept`.
-fn tell_not_kept(streams: &impl Eprint, directory: &str, fault: HomeFault) {
-    let cause = FaultAt {
-        directory,
-        fault: Fault::Home(fault),
-    };
-    let _ = eprintln!(streams; "nettlebeam: {cause}; they are answered `not kept`");
-}
-
 /// The bytes of answers that are written at once.
 const OUTPUT_BYTES: usize = 65_536;
 
@@ -153,49 +143,26 @@ fn serve_input<R: Files<File = File> + Clock + AllocGlobal + Clone + Drop>(
     frames: bool,
     keeps_history: bool,
 ) -> Result<u8, Fault> {
-    let alloc = rt.alloc();
-    let mut home = open_home(streams, rt, directory)?;
-    let mut reader = streams.reader();
-    let mut writer = BufWriter::with_capacity(alloc, OUTPUT_BYTES, io::writer(streams)).map_err(
-        Fault::Output,
-    )?;
-    let mut begun = Vec::new(alloc);
-    let mut most_bytes = if keeps_history {
-        usize::MAX
-    } else {
-        LEAST_BYTES
-    };
-    for _ in 0..u64::MAX {
-        let end = serve(
-            alloc,
-            &mut home,
-            &mut begun,
-            &mut reader,
-            &mut writer,
-            frames,
-            most_bytes,
-        );
-        match end {
-            Ok(Served::Ended) => return Ok(0),
-            Ok(Served::Long) => match compact_long(streams, directory, &mut home) {
-                Ok(longest) => {
-                    most_bytes = longest;
-                    continue;
-                }
-                Err(fault) => {
-                    most_bytes = most_bytes.saturating_mul(GROWTH);
-                    tell_not_compacted(streams, directory, fault);
-                }
-            },
-            Err(ServeFault::NotKept(fault)) => tell_not_kept(streams, directory, fault),
-            Err(fault) => return Err(Fault::from(fault)),
-        }
-        let gate = home.gate();
-        // the lock ends with the home that has it
-        drop(home);
-        home = open_home_again(streams, rt, directory, gate)?;
+    let home = open_home(streams, rt, directory)?;
+    let mut writer = BufWriter::with_capacity(
+        rt.alloc(),
+        OUTPUT_BYTES,
+        io::writer(streams),
+    ).map_err(Fault::Output)?;
+    let mut place = Directory::new(streams, rt, directory);
+    let ended = serve_all(
+        rt.alloc(),
+        &mut place,
+        home,
+        &mut streams.reader(),
+        &mut writer,
+        frames,
+        keeps_history,
+    );
+    match ended {
+        Ok(_) => Ok(0),
+        Err(stop) => Err(Fault::from(stop)),
     }
-    Ok(0)
 }
 
 /// Whether a journal of these entries was compacted.

@@ -13,7 +13,7 @@ use std::process::Abort;
 use std::test::Fail;
 
 /// What the disk has once a home is made. The digest is by sha256sum, of sixteen zeros and the text.
-const MADE: &[u8] = b"+ f935701589470944 nettlebeam 1 argonne argonne:8 lemont:4\n-";
+pub(crate) const MADE: &[u8] = b"+ f935701589470944 nettlebeam 1 argonne argonne:8 lemont:4\n-";
 
 /// The last line lacks its line feed: it may be the front of another.
 const INPUT: &[u8] =
@@ -57,7 +57,7 @@ fn stopping(alloc: Global, file: &[u8], calls: usize) -> Result<Memory, HomeFaul
 }
 
 /// A home in memory is opened and brought to rest. Its file stops after so many calls more.
-fn opened(alloc: Global, file: &[u8], calls: usize) -> Result<Home<Memory>, HomeFault>
+pub(crate) fn opened(alloc: Global, file: &[u8], calls: usize) -> Result<Home<Memory>, HomeFault>
     ensures { IfOk result (λ home. IsOpen memory_seen memory_may_leave home) }
 {
     match Home::open(alloc, stopping(alloc, file, calls)?) {
@@ -71,7 +71,7 @@ fn opened(alloc: Global, file: &[u8], calls: usize) -> Result<Home<Memory>, Home
 
 /// An input that comes in pieces of so many bytes, each behind a call that is interrupted, and may end in an error.
 #[derive(Drop)]
-struct Pieces<'a> {
+pub(crate) struct Pieces<'a> {
     rest: &'a [u8],
     most: usize,
     is_interrupted: bool,
@@ -94,7 +94,7 @@ impl Read for Pieces<'_> {
     }
 }
 
-fn in_pieces(input: &[u8], most: usize) -> Pieces<'_> {
+pub(crate) fn in_pieces(input: &[u8], most: usize) -> Pieces<'_> {
     Pieces {
         rest: input,
         most,

@@ -14,3 +14,6 @@ mod inputs;
 /// Journals in memory.
 #[cfg(test)]
 mod journals;
+/// Inputs that are served over openings.
+#[cfg(test)]
+mod openings;

@@ -1,4 +1,4 @@
-use Rattle.std.specs.Io.KnownBytes.{Consumes}
+use Rattle.std.specs.Io.KnownBytes.{Consumes, IsAtEnd}
 use Rattle.std.proofs.Common.{◌≡◌, ◌∙◌, ◌<◌, sym, subst, ℕ, List, [], ◌==◌, false, take, length, refl, rules}
 use Rattle.std.proofs.lemmas.List.{take_at}
 use Rattle.std.proofs.lemmas.List.Elements.{All-nil}
@@ -11,7 +11,7 @@ use Rattle.fed_serve.specs.Served.{HasServed, StopsAt}
 use Rattle.fed_serve.specs.declared.faults.ServeFault.TheVariants.{Read}
 use Rattle.fed_serve.proofs.Groups.{consumes_none, consumes_start, keeps_same, moments_at_the_end, moments_kept, moments_of_a_chunk, moments_so_far, served_at_the_end, served_long, served_memory, served_open, served_read, served_stop, serving_more, serving_none}
 use Rattle.fed_serve.proofs.InputLines.{Takes}
-use Rattle.fed_serve.proofs.Stops.{never_long, whatever_fault}
+use Rattle.fed_serve.proofs.Stops.{at_the_end, never_long, whatever_fault}
 use Rattle.fed_serve.proofs.serving.serve.Goals as goal
 
 pub loop-init : goal.loop-init
@@ -47,6 +47,9 @@ returns-in-Ok-eq0-clause-paused g c = never_long c.answer_cut.result (HasNoLineF
 
 pub returns-in-Ok-eq0-clause-long : goal.returns-in-Ok-eq0-clause-long
 returns-in-Ok-eq0-clause-long g c = never_long c.answer_cut.result (c.args.most_bytes < length (g.D.Device.seen (home_device c.answer_cut.new.home))) c.answer_cut.ensures.ended
+
+pub returns-in-Ok-eq0-clause-ended : goal.returns-in-Ok-eq0-clause-ended
+returns-in-Ok-eq0-clause-ended g c = at_the_end c.answer_cut.result (IsAtEnd (g.R.Read.remaining c.read_chunk.new.reader)) (c.in-Ok-eq0.ensures.read.2 (search rules))
 
 pub returns-in-Ok-eq0-clause-open : goal.returns-in-Ok-eq0-clause-open
 returns-in-Ok-eq0-clause-open g c =
