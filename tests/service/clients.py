@@ -144,7 +144,8 @@ def statuses(tally, federation):
         tally.same(f"{line} by at", [status, output, errors.partition("nettlebeam: ")[2].strip()], wanted)
         told = site.ask(*line.split())
         tally.same(f"{line} by the service", [told.status, told.answer.decode(), told.words], wanted)
-    call([limited, "serve", alone], "".join(f"{own} qalter -p {number} 1\n" for number in range(200)).encode())
+    while call([limited, "at", alone, own, "qsub"])[0] == 0:
+        pass  # a line that is shorter than the one for which no room is left then
     for number in range(200):
         site.ask("qalter", "-p", str(number), "1")
     status, output, errors = call([limited, "at", alone, own, "qdel", "1"])

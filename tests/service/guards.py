@@ -112,11 +112,13 @@ def priorities(tally, federation):
         how = {"environment": {"NETTLEBEAM_ROLE": role} if role else {}, "before": as_user(user), "cwd": "/"}
         return site.utility(*words, given="#PBS -N named\ntrue\n", **how)
 
-    wanted = (2, "", "qsub: a priority above 0 is asked as operator or admin\n")
+    def refused(options):
+        return 2, "", f"qsub: a priority above 0 is asked as operator or admin\nqsub: the options are {options}\n"
+
     for words in (("-p", "1023"), ("-p1",), ("-p", "+5"), ("-hp9",), ("-p", "-1", "-p", "7")):
-        tally.same(f"another user can't submit by {' '.join(words)}", asked(OTHER, "qsub", *words)[:2], wanted[:2])
-    tally.same("and reads why", asked(OTHER, "qsub", "-p", "9"), wanted)
-    tally.same("that of a directive as little", site.utility("qsub", given="#PBS -p 9\ntrue\n", before=as_user(OTHER), cwd="/"), wanted)
+        tally.same(f"another user can't submit by {' '.join(words)}", asked(OTHER, "qsub", *words)[:2], (2, ""))
+    tally.same("and reads why", asked(OTHER, "qsub", "-p", "9"), refused("-N named -p 9"))
+    tally.same("that of a directive as little", site.utility("qsub", given="#PBS -p 9\ntrue\n", before=as_user(OTHER), cwd="/"), refused("-p 9"))
     tally.same("0 and less are everybody's", [asked(OTHER, "qsub", "-p", it)[0] for it in ("0", "-1024")], [0, 0])
     tally.same("qalter can't either", asked(OTHER, "qalter", "-p", "1", "1")[0], 2)
     tally.same("an operator can", asked(OPERATOR, "qalter", "-p", "1", "1", role="operator")[0], 0)
