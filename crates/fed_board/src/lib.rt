@@ -1,31 +1,18 @@
 //! Boards, which stand for sets of operations: each reads as the view of its set.
 #![tactic(auto)]
 
-/// Boards, what is read of them, and how they change and merge.
-pub mod boards;
-/// The jobs that were touched beyond a version.
+mod boards;
 mod changed_jobs;
-/// Which job a change was of.
 mod changes;
-/// How many identifiers each site gave.
-pub mod counts;
-/// Facts that the types keep.
-pub mod facts;
-/// The laws of merging, on all boards.
-pub mod merging;
-/// How the changes of jobs are listed.
+mod counts;
+mod facts;
+mod merging;
 mod noting;
-/// That boards are told apart by what they read as.
-pub mod readings;
-/// The records of a board, or of a part of one.
-pub mod records;
-/// How what is retired is dropped.
+mod readings;
+mod records;
 mod retiring;
-/// By which changes jobs are behind records of them.
 mod rises;
-/// Whether values are identical.
 mod same;
-/// The changes of jobs that one site made.
 mod site_changes;
 
 pub use boards::Board;

@@ -1,18 +1,12 @@
 //! A site on a disk. What the site says rests on the entries of its journal, which the disk has before anything is said.
 #![tactic(auto)]
 
-/// What comes of compacting a journal.
-pub mod compactions;
-/// Why a site on a disk fails.
-pub mod faults;
-/// The first entry of a journal.
-pub mod headers;
-/// Sites on a disk.
-pub mod homes;
-/// Laws of what a crash leaves.
+mod compactions;
+mod faults;
+mod headers;
+mod homes;
 pub mod laws;
-/// What entries and lines come to at a site.
-pub mod runs;
+mod runs;
 
 pub use compactions::Compaction;
 pub use faults::HomeFault;

@@ -2,28 +2,17 @@
 //! acknowledged once the disk has it. Each entry's digest covers the entries before it, so that damage is told.
 #![tactic(auto)]
 
-/// Calls on a file in memory.
 mod calls;
-/// The disk as the journal sees it.
-pub mod devices;
-/// Digests of entries.
+mod devices;
 pub mod digests;
-/// Why a disk or a journal fails.
-pub mod faults;
-/// Files on the machine's disk.
-pub mod files;
-/// Journals.
-pub mod journals;
-/// Laws of what files stand for.
+mod faults;
+mod files;
+mod journals;
 pub mod laws;
-/// What the bytes of a journal say.
-pub mod lines;
-/// Files in memory, for tests.
-pub mod memory;
-/// Steps on a disk that end with a sync.
+mod lines;
+mod memory;
 mod steps;
-/// What a journal cuts.
-pub mod tails;
+mod tails;
 
 pub use devices::{Device, Replacement};
 pub use faults::{DeviceFault, JournalFault, OpenFault};

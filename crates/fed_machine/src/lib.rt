@@ -2,17 +2,11 @@
 //! the board reads as, of the site and of the moment.
 #![tactic(auto)]
 
-/// A picture of a site's machine.
 mod chart;
-/// What a chart shows.
-pub mod chart_bars;
-/// How the bars of a chart are drawn.
+mod chart_bars;
 mod chart_marks;
-/// What is said of a site's machine.
 mod machines;
-/// The text of a plan.
-pub mod plan_texts;
-/// What is said of the plan of a site.
+mod plan_texts;
 mod planned_texts;
 
 pub use chart::chart_svg;

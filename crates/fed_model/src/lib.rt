@@ -3,58 +3,32 @@
 //! of boards or replicas is below it.
 #![tactic(auto)]
 
-/// What jobs are charged to.
-pub mod accounts;
-/// Who asks, and what they may do.
-pub mod askers;
-/// That jobs begin and finish.
-pub mod beginnings;
-/// How many jobs and reservations a site may name.
+mod accounts;
+mod askers;
+mod beginnings;
 pub mod capacities;
-/// What a site is asked to do.
-pub mod commands;
-/// What a job's origin decides where a site asks for the job.
-pub mod decisions;
-/// What may happen next in a federation.
-pub mod events;
-/// That the orders of the values tell all of them apart.
-pub mod exacts;
-/// Facts that the types keep.
+mod commands;
+mod decisions;
+mod events;
+mod exacts;
 pub mod facts;
-/// Something of each field of a job, side by side.
-pub mod fields;
-/// How far a job's grants have come.
-pub mod grants;
-/// Kinds of holds, and sets of them.
-pub mod holds;
-/// Values that are never refused memory.
-pub mod inlines;
-/// The states of jobs.
-pub mod letters;
-/// Time limits.
-pub mod limits;
-/// Moments, in seconds.
-pub mod moments;
-/// Numbers of nodes.
-pub mod node_counts;
-/// What is answered to an event.
-pub mod outcomes;
-/// How soon jobs are wanted.
-pub mod priorities;
-/// Why commands are refused.
-pub mod refusals;
-/// What a site replies to commands.
-pub mod replies;
-/// Something of each stage of a job, side by side.
-pub mod stages;
-/// That a packet was taken.
-pub mod taken;
-/// The terms of grants.
-pub mod terms;
-/// What jobs are submitted with, and alterations of it.
-pub mod values;
-/// When and where nodes are reserved.
-pub mod windows;
+mod fields;
+mod grants;
+mod holds;
+mod inlines;
+mod letters;
+mod limits;
+mod moments;
+mod node_counts;
+mod outcomes;
+mod priorities;
+mod refusals;
+mod replies;
+mod stages;
+mod taken;
+mod terms;
+mod values;
+mod windows;
 
 pub use accounts::Account;
 pub use askers::{Role, Who};

@@ -2,14 +2,10 @@
 //! sets join to their union.
 #![tactic(auto)]
 
-/// Laws of lists of ranges.
-pub mod laws;
-/// Sets of numbers, as ranges.
+mod laws;
 pub mod ranges;
-/// What is retired of all sites.
-pub mod retired;
-/// What one site has retired.
-pub mod retirements;
+mod retired;
+mod retirements;
 
 pub use laws::{
     joins_are_unions, ranges_are_counted_by_their_starts, ranges_are_one_for_each_set,

@@ -1,24 +1,15 @@
 //! Operations as the code holds them, and the records of jobs and of reservations that they change.
 #![tactic(auto)]
 
-/// Whether the version of a job's operations covers the stamps that are read of it.
-pub mod covered_stamps;
-/// Facts that the types keep.
-pub mod facts;
-/// Records of jobs made of what they read as.
-pub mod job_parts;
-/// What is read of the record of a job.
-pub mod job_readers;
-/// What records of jobs and of reservations read as.
+mod covered_stamps;
+mod facts;
+mod job_parts;
+mod job_readers;
 pub mod laws;
-/// What an operation changes in each part of a job's record.
-pub mod operation_changes;
-/// What is done to jobs and reservations.
-pub mod operations;
-/// Records of jobs, and how they change and join.
-pub mod records;
-/// What is read of the operations of one reservation.
-pub mod reservations;
+mod operation_changes;
+mod operations;
+mod records;
+mod reservations;
 
 pub use facts::tags_are_covered;
 pub use fed_model::{

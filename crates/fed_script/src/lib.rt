@@ -1,23 +1,14 @@
 //! What the lines of a script say.
 #![tactic(auto)]
 
-/// Who asks.
 mod askers;
-/// Commands that the words of a script say outside of the utilities.
 mod commands;
-/// Words that stand in a fixed number.
 mod forms;
-/// Laws of the lines of a script.
 pub mod laws;
-/// Cutting a script into lines, and a line into words.
 mod lines;
-/// The words of a script that name the sites.
 mod rosters;
-/// What a line of a script says.
 mod script_lines;
-/// What single words say.
 mod values;
-/// Verbs.
 mod verbs;
 
 pub use forms::{one_word, two_words};

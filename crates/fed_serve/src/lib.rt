@@ -1,19 +1,12 @@
 //! What a site on a disk says to an input of lines, group by group, and to one line whose words are given apart.
 #![tactic(auto)]
 
-/// Why an input is not served to its end.
-pub mod faults;
-/// The lines of an input.
+mod faults;
 mod inputs;
-/// Laws of what is written.
 pub mod laws;
-/// Lines whose words are given apart.
-pub mod lines;
-/// Answering an input over several openings.
+mod lines;
 pub mod openings;
-/// Answering an input.
-pub mod serving;
-/// What is written to lines.
+mod serving;
 mod written;
 
 pub use faults::ServeFault;

@@ -3,21 +3,13 @@
 //! tag are kept: a pair that one side of a join lacks was removed there if that side's version covers its stamp.
 #![tactic(auto)]
 
-/// The elements of a tag set, one after another.
-pub mod elements;
-/// The elements with their tags, as a tag set keeps them.
+mod elements;
 mod groups;
-/// How far a pair has come in a join.
-pub mod laws;
-/// How tag sets change, join and stand for histories.
-pub mod merges;
-/// The pairs of a tag set, one after another.
-pub mod pairs;
-/// Tag sets.
-pub mod sets;
-/// Changes of tag sets.
-pub mod tag_changes;
-/// The tags of one element.
+mod laws;
+mod merges;
+mod pairs;
+mod sets;
+mod tag_changes;
 mod tags;
 
 pub use elements::Elements;

@@ -3,11 +3,7 @@
 //! nothing: its contract is the law.
 #![tactic(auto)]
 
-/// Laws of what sites answer.
 pub mod answer_laws;
-/// Laws of what is read of the operations of one job.
 pub mod job_laws;
-/// Laws of whole runs.
 pub mod run_laws;
-/// Laws of what is read of sets of operations.
 pub mod set_laws;

@@ -2,34 +2,20 @@
 //! of events that their journals are settled to, where they are.
 #![tactic(auto)]
 
-/// What calls do to a site whose lock is held, and to the seat.
 mod calls;
-/// Which claims of the seats fit the journals.
 mod claims;
-/// Closed federations.
-pub mod closing;
-/// Runs of an order's entries.
+mod closing;
 mod course;
-/// Faults.
-pub mod fault;
-/// Federations whose sites run at the same time.
-pub mod federation;
-/// Gates.
-pub mod gate;
-/// What sites were asked, and what they answered.
-pub mod journal;
-/// Laws of settled lists.
+mod fault;
+mod federation;
+mod gate;
+mod journal;
 pub mod laws;
-/// What lies under a site's lock.
 mod locked_sites;
-/// Parcels.
 mod parcel;
-/// The order of the entries.
 mod placing;
-/// Seats.
-pub mod seat;
-/// The entries of all journals as one list of events.
-pub mod settling;
+mod seat;
+mod settling;
 
 pub use closing::Run;
 pub use fault::{CallFault, CloseFault};

@@ -2,32 +2,19 @@
 //! 12.2), and the readers of their values.
 #![tactic(auto)]
 
-/// Why words ask nothing.
-pub mod faults;
-/// Identifiers of jobs.
+mod faults;
 pub mod identifiers;
-/// The jobs that operands name.
-pub mod jobs;
-/// Kinds of holds.
-pub mod kinds;
-/// Laws of words.
+mod jobs;
+mod kinds;
 pub mod laws;
-/// Words that are numbers.
-pub mod numbers;
-/// Priorities.
-pub mod priorities;
-/// What words ask.
-pub mod requests;
-/// Lists of resources.
+mod numbers;
+mod priorities;
+mod requests;
 pub mod resources;
-/// What options set.
 pub mod settings;
-/// Names of sites.
-pub mod sites;
-/// What words spell: options and operands.
+mod sites;
 mod spelling;
-/// The utilities and their options.
-pub mod utilities;
+mod utilities;
 
 pub use faults::UsageFault;
 pub use identifiers::read_identifier;

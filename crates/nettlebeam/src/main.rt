@@ -1,21 +1,13 @@
 //! The program `nettlebeam`: one site of a federation of batch queues, on a disk.
 #![tactic(auto)]
 
-/// Compacting a site's journal.
 mod compacting;
-/// The copy of a journal that is to be compacted.
 mod copies;
-/// A site's directory: its journal, and the files of what was cut from it.
 mod directories;
-/// Why the program doesn't do what it is asked.
 mod faults;
-/// A file that is where a compaction makes the new journal.
 mod leftovers;
-/// Making the home of a site.
 mod making;
-/// The directory of a site that answers an input.
 mod places;
-/// What the program does with a site.
 mod tasks;
 
 use clap::error::ErrorKind;
