@@ -6,7 +6,7 @@
 mod accounts;
 mod askers;
 mod beginnings;
-pub mod capacities;
+mod capacities;
 mod commands;
 mod decisions;
 mod events;

@@ -8,7 +8,7 @@ use crate::ranges::{are_apart_before, read_ranges};
 use fed_job_json::read_site;
 use fed_json::{Flaw, both, elements, natural};
 use fed_lattice::NoMemory;
-use fed_model::capacities::MAX_RANGES;
+use fed_model::MAX_RANGES;
 use fed_ranges::{Range, Ranges, Retirements};
 use fed_stamp::{MAX_COUNTER, SiteId};
 use serde_json::Value;

@@ -2,7 +2,7 @@
 
 use crate::site::Site;
 use fed_board::Board;
-use fed_model::capacities::MAX_RANGES;
+use fed_model::MAX_RANGES;
 use fed_qstat::{identifier_text, site_text};
 use fed_record::JobRecord;
 use fed_replica::retire_steps::{is_named, is_settled};
