@@ -30,9 +30,9 @@ use Rattle.fed_words.specs.Kinds.{kinds_in}
 use Rattle.fed_words.specs.Last.{last_of}
 use Rattle.fed_words.specs.Number.{number_in}
 use Rattle.fed_words.specs.Priority.{priority_in}
-use Rattle.fed_words.specs.Request.{Asked, acts, list, changes_of, jobs_in, kinds_given, request_in, request_of, resources_given, values_of}
+use Rattle.fed_words.specs.Request.{Asked, acts, list, jobs_in, kinds_given, request_in, request_of, values_of}
 use Rattle.fed_words.specs.Resource.{is_comma, is_equals, last_resources, limit_in, nodes_in, resource_in, resources_in, sites_in, value_in}
-use Rattle.fed_words.specs.Setting.{account_in, last_settings, name_in, priority_of, resources_of, setting_in, settings_in}
+use Rattle.fed_words.specs.Setting.{account_in, last_list, last_settings, name_in, priority_of, resources_of, setting_in, settings_in}
 use Rattle.fed_words.specs.Spelling.{spelling}
 use Rattle.fed_words.specs.Utility.{utility_named}
 use Rattle.fed_words.proofs.Given.{when_some}
@@ -124,11 +124,8 @@ IsRangedSetting (Setting.Name name) = IsName name
 IsRangedSetting (Setting.Priority priority) = IsPriority priority
 IsRangedSetting Setting.Full = Unit {0}
 
-record AreRangedSettings (s : Settings) : Type 0 where
-  name : IfSome s.name IsName
-  priority : IfSome s.priority IsPriority
-  account : IfSome s.account IsAccount
-  resources : IfSome s.resources AreRangedResources
+abbrev AreRangedSettings : Settings → Type 0
+AreRangedSettings s = AreChanges s.changes
 
 name_ranged : (s : Setting) → IsRangedSetting s → IfSome (name_in s) IsName
 name_ranged (Setting.Account account) h = tt
@@ -166,12 +163,17 @@ given_ranged (Setting.Name name) h = tt
 given_ranged (Setting.Priority priority) h = tt
 given_ranged Setting.Full h = tt
 
+list_ranged : (given : List Setting) → AllByRecursion IsRangedSetting given → AreRangedResources (last_list given)
+list_ranged given all =
+    or_else AreRangedResources (last_of resources_of given) (last_resources []) (last_is resources_of IsRangedSetting AreRangedResources given_ranged given all) (record { nodes = tt; limit = tt })
+
 all_ranged : (given : List Setting) → AllByRecursion IsRangedSetting given → AreRangedSettings (last_settings given)
 all_ranged given all = record {
   name = last_is name_in IsRangedSetting IsName name_ranged given all;
   priority = last_is priority_of IsRangedSetting IsPriority priority_ranged given all;
+  nodes = (list_ranged given all).nodes;
+  limit = (list_ranged given all).limit;
   account = last_is account_in IsRangedSetting IsAccount account_ranged given all;
-  resources = last_is resources_of IsRangedSetting AreRangedResources given_ranged given all;
 }
 
 named_setting : (b : Bool) (y s : Setting) → (b ≡ true → IsRangedSetting y) → (if b then Ok y else Err BadValue) ≡ Ok s → IsRangedSetting s
@@ -205,24 +207,18 @@ default_name = refl
 
 module _ (roster : List (List ℕ × ℕ)) (who : Who) (named : IsName who.user) where
   module _ (s : Settings) (ranged : AreRangedSettings s) where
-    given : AreRangedResources (resources_given s)
-    given = or_else AreRangedResources s.resources (last_resources []) ranged.resources (record { nodes = tt; limit = tt })
-
-    values_ranged : AreValues (values_of roster s)
+    values_ranged : AreValues (values_of roster s.changes)
     values_ranged = record {
-      name = or_else IsName s.name (codes "STDIN") ranged.name default_name;
-      priority = or_else IsPriority s.priority _ ranged.priority refl;
-      nodes = or_else (IsFrom 1 MAX_NODES) (resources_given s).nodes 1 given.nodes (omega arith, omega arith);
-      limit = or_else (IsFrom 1 MAX_LIMIT) (resources_given s).limit 3600 given.limit (omega arith, omega arith);
-      account = or_else IsAccount s.account None ranged.account tt;
+      name = or_else IsName s.changes.name (codes "STDIN") ranged.name default_name;
+      priority = or_else IsPriority s.changes.priority _ ranged.priority refl;
+      nodes = or_else (IsFrom 1 MAX_NODES) s.changes.nodes 1 ranged.nodes (omega arith, omega arith);
+      limit = or_else (IsFrom 1 MAX_LIMIT) s.changes.limit 3600 ranged.limit (omega arith, omega arith);
+      account = or_else IsAccount s.changes.account None ranged.account tt;
     }
 
-    changes_ranged : AreChanges (changes_of s)
-    changes_ranged = record { name = ranged.name; priority = ranged.priority; nodes = given.nodes; limit = given.limit; account = ranged.account }
-
     of_utility : (utility : Utility) (jobs : List StampValue) → IsRangedAsked who (Ok (request_of roster utility s jobs))
-    of_utility Qsub jobs = All-cons (IsRanged who) (Submit (values_of roster s) s.held) [] (named, values_ranged) (All-nil (IsRanged who))
-    of_utility Qalter jobs = All-map (IsRanged who) (λ job. Alter job (changes_of s)) jobs (λ k d h. changes_ranged)
+    of_utility Qsub jobs = All-cons (IsRanged who) (Submit (values_of roster s.changes) s.held) [] (named, values_ranged) (All-nil (IsRanged who))
+    of_utility Qalter jobs = All-map (IsRanged who) (λ job. Alter job s.changes) jobs (λ k d h. ranged)
     of_utility Qhold jobs = All-map (IsRanged who) (λ job. Hold job (kinds_given s)) jobs (λ k d h. tt)
     of_utility Qrls jobs = All-map (IsRanged who) (λ job. Release job (kinds_given s)) jobs (λ k d h. tt)
     of_utility Qdel jobs = All-map (IsRanged who) Delete jobs (λ k d h. tt)

@@ -1,10 +1,12 @@
 -- What words set, found option by option.
 use Rattle.std.proofs.Common.{◌≡◌, ℕ, ◌+◌, ◌<◌, Bool, true, false, ◌||◌, List, [], ◌∷◌, ◌++◌, length, get_or, drop, codes, Option, Some, None, Ok, Err, refl, ap, sym, ◌∙◌, append-nil, append_assoc}
-use Rattle.std.specs.Prelude.{if◌then◌else◌, option_map}
+use Rattle.std.specs.Prelude.{if◌then◌else◌, option_map, unwrap_or}
 use Rattle.std.specs.Option.{ok_or, option_or}
 use Rattle.std.specs.Str.{bytes_eq}
 use Rattle.fed_lattice.specs.Results.{◌>>=◌, mapped, each}
 use Rattle.fed_words.specs.declared.faults.UsageFault.{UsageFault}
+use Rattle.fed_model.specs.declared.values.Changes.{Changes}
+use Rattle.fed_words.specs.declared.resources.Resources.{Resources}
 use Rattle.fed_words.specs.declared.settings.Setting.{Setting}
 use Rattle.fed_words.specs.declared.settings.Settings.{Settings}
 use Rattle.fed_words.specs.declared.utilities.Choice.{Choice}
@@ -19,15 +21,22 @@ use Rattle.fed_words.proofs.Spellings.{Words, not_dashes, word_here}
 
 -- ---- one option more
 
+abbrev resources_set : Changes → Resources
+resources_set set = record { nodes = set.nodes; limit = set.limit; sites = set.sites }
+
 -- what is set, and then this
 abbrev pub put : Setting → Settings → Settings
 put s old = record {
-  account = option_or (account_in s) old.account;
+  changes = record {
+    name = option_or (name_in s) old.changes.name;
+    priority = option_or (priority_of s) old.changes.priority;
+    nodes = (unwrap_or (resources_of s) (resources_set old.changes)).nodes;
+    limit = (unwrap_or (resources_of s) (resources_set old.changes)).limit;
+    account = option_or (account_in s) old.changes.account;
+    sites = (unwrap_or (resources_of s) (resources_set old.changes)).sites;
+  };
   held = is_held s || old.held;
   kinds = option_or (kinds_of s) old.kinds;
-  resources = option_or (resources_of s) old.resources;
-  name = option_or (name_in s) old.name;
-  priority = option_or (priority_of s) old.priority;
   full = is_full s || old.full;
 }
 

@@ -13,13 +13,11 @@ use Rattle.fed_model.specs.declared.values.JobValues.{JobValues}
 use Rattle.fed_model.specs.Hold.{sum_of_bits}
 use Rattle.fed_words.specs.declared.faults.UsageFault.TheVariants.{UnknownUtility, MissingOperand}
 use Rattle.fed_words.specs.declared.requests.TheConstants.{DEFAULT_PRIORITY, DEFAULT_NODES, DEFAULT_LIMIT}
-use Rattle.fed_words.specs.declared.resources.Resources.{Resources}
 use Rattle.fed_words.specs.declared.settings.Settings.{Settings}
 use Rattle.fed_words.specs.declared.utilities.Utility.{Utility}
 use Rattle.fed_words.specs.declared.utilities.Utility.TheVariants.{Qsub, Qalter, Qhold, Qrls, Qdel, Qstat}
 use Rattle.fed_words.specs.Fault.{OrFault}
 use Rattle.fed_words.specs.Identifier.{job_in}
-use Rattle.fed_words.specs.Resource.{last_resources}
 use Rattle.fed_words.specs.Setting.{settings_in}
 use Rattle.fed_words.specs.Spelling.{spelling}
 use Rattle.fed_words.specs.Utility.{utility_named}
@@ -32,29 +30,15 @@ pub data Asked : Type 0 where
 abbrev pub all_sites : List (List ℕ × ℕ) → List Bool
 all_sites roster = set_of (range_with_len 0 (length roster))
 
-abbrev pub resources_given : Settings → Resources
-resources_given s = unwrap_or s.resources (last_resources [])
-
--- what a job is submitted with
-abbrev pub values_of : List (List ℕ × ℕ) → Settings → JobValues
-values_of roster s = record {
-  name = unwrap_or s.name (codes "STDIN");
-  priority = unwrap_or s.priority DEFAULT_PRIORITY;
-  nodes = unwrap_or (resources_given s).nodes DEFAULT_NODES;
-  limit = unwrap_or (resources_given s).limit DEFAULT_LIMIT;
-  account = unwrap_or s.account None;
-  sites = unwrap_or (resources_given s).sites (all_sites roster);
-}
-
--- what is set of a job
-abbrev pub changes_of : Settings → Changes
-changes_of s = record {
-  name = s.name;
-  priority = s.priority;
-  nodes = (resources_given s).nodes;
-  limit = (resources_given s).limit;
-  account = s.account;
-  sites = (resources_given s).sites;
+-- what a job is submitted with, of which this is set
+abbrev pub values_of : List (List ℕ × ℕ) → Changes → JobValues
+values_of roster set = record {
+  name = unwrap_or set.name (codes "STDIN");
+  priority = unwrap_or set.priority DEFAULT_PRIORITY;
+  nodes = unwrap_or set.nodes DEFAULT_NODES;
+  limit = unwrap_or set.limit DEFAULT_LIMIT;
+  account = unwrap_or set.account None;
+  sites = unwrap_or set.sites (all_sites roster);
 }
 
 -- kinds of holds, by default a user hold
@@ -63,8 +47,8 @@ kinds_given s = unwrap_or s.kinds (record { 0 = sum_of_bits true false false })
 
 -- the request of a utility
 abbrev pub request_of : List (List ℕ × ℕ) → Utility → Settings → List StampValue → Asked
-request_of roster Qsub s jobs = acts (Submit (values_of roster s) s.held ∷ [])
-request_of roster Qalter s jobs = acts (map (λ job. Alter job (changes_of s)) jobs)
+request_of roster Qsub s jobs = acts (Submit (values_of roster s.changes) s.held ∷ [])
+request_of roster Qalter s jobs = acts (map (λ job. Alter job s.changes) jobs)
 request_of roster Qhold s jobs = acts (map (λ job. Hold job (kinds_given s)) jobs)
 request_of roster Qrls s jobs = acts (map (λ job. Release job (kinds_given s)) jobs)
 request_of roster Qdel s jobs = acts (map Delete jobs)

@@ -1,9 +1,10 @@
 -- What options set.
-use Rattle.std.specs.Prelude.{ℕ, ℤ, Bool, true, false, List, Option, Some, None, option_map, Ok, Err, if◌then◌else◌}
+use Rattle.std.specs.Prelude.{ℕ, ℤ, Bool, true, false, List, [], Option, Some, None, option_map, unwrap_or, Ok, Err, if◌then◌else◌}
 use Rattle.std.specs.List.{list_any}
 use Rattle.std.specs.Option.{ok_or}
 use Rattle.fed_lattice.specs.Results.{mapped, each}
 use Rattle.fed_model.specs.declared.holds.HoldKinds.{HoldKinds}
+use Rattle.fed_model.specs.declared.values.Changes.{Changes}
 use Rattle.fed_stamp.specs.Word.{is_name}
 use Rattle.fed_words.specs.declared.faults.UsageFault.TheVariants.{BadValue}
 use Rattle.fed_words.specs.declared.resources.Resources.{Resources}
@@ -14,7 +15,7 @@ use Rattle.fed_words.specs.Fault.{OrFault}
 use Rattle.fed_words.specs.Kinds.{kinds_in}
 use Rattle.fed_words.specs.Last.{last_of}
 use Rattle.fed_words.specs.Priority.{priority_in}
-use Rattle.fed_words.specs.Resource.{resources_in}
+use Rattle.fed_words.specs.Resource.{last_resources, resources_in}
 
 -- what an option with its argument sets
 abbrev pub setting_in : List (List ℕ × ℕ) → Choice → List ℕ → OrFault Setting
@@ -54,15 +55,23 @@ abbrev pub is_full : Setting → Bool
 is_full Setting.Full = true
 is_full _ = false
 
+-- the resources of the last list of them, and none without one
+abbrev pub last_list : List Setting → Resources
+last_list given = unwrap_or (last_of resources_of given) (last_resources [])
+
 -- of an option given twice the last counts
 abbrev pub last_settings : List Setting → Settings
 last_settings given = record {
-  account = last_of account_in given;
+  changes = record {
+    name = last_of name_in given;
+    priority = last_of priority_of given;
+    nodes = (last_list given).nodes;
+    limit = (last_list given).limit;
+    account = last_of account_in given;
+    sites = (last_list given).sites;
+  };
   held = list_any is_held given;
   kinds = last_of kinds_of given;
-  resources = last_of resources_of given;
-  name = last_of name_in given;
-  priority = last_of priority_of given;
   full = list_any is_full given;
 }
 

@@ -4,12 +4,11 @@ ghost use Rattle.fed_lattice.specs.Results.{mapped};
 ghost use Rattle.fed_model.specs.declared.commands.Command.{Command};
 ghost use Rattle.fed_words.specs.Fault.{Gives};
 ghost use Rattle.fed_words.specs.Item.{words_of};
-ghost use Rattle.fed_words.specs.Request.{all_sites as set_of_all, changes_of, jobs_in, kinds_given, request_in, request_of, resources_given, values_of};
+ghost use Rattle.fed_words.specs.Request.{all_sites as set_of_all, jobs_in, kinds_given, request_in, request_of, values_of};
 ghost use Rattle.fed_words.specs.RequestView.{asked_by};
 
 use crate::faults::UsageFault;
 use crate::jobs::read_jobs;
-use crate::resources::Resources;
 use crate::settings::Settings;
 use crate::spelling::read_options;
 use crate::utilities::Utility;
@@ -54,53 +53,23 @@ fn all_sites(roster: &Roster) -> SiteSet
     SiteSet::new(&sites[..count]).unwrap()
 }
 
-/// What is set of resources.
-fn resources_of(settings: &Settings) -> Resources
-    ensures { result ≡ resources_given settings.now }
+/// What a job is submitted with, of which this is set.
+fn values(roster: &Roster, set: &Changes) -> JobValues
+    ensures { result ≡ values_of roster.now set.now }
 {
-    match settings.resources {
-        Some(resources) => resources,
-        None => Resources::none(),
-    }
-}
-
-/// What a job is submitted with.
-fn values(roster: &Roster, settings: &Settings) -> JobValues
-    ensures { result ≡ values_of roster.now settings.now }
-{
-    let resources = resources_of(settings);
-    let sites = match resources.sites {
+    let sites = match set.sites {
         Some(sites) => sites,
         None => all_sites(roster),
     };
     JobValues {
-        name: settings.name.unwrap_or(Word::new("STDIN").unwrap()),
-        priority: settings
+        name: set.name.unwrap_or(Word::new("STDIN").unwrap()),
+        priority: set
             .priority
             .unwrap_or(Priority::new(DEFAULT_PRIORITY).unwrap()),
-        nodes: resources
-            .nodes
-            .unwrap_or(Nodes::new(DEFAULT_NODES).unwrap()),
-        limit: resources
-            .limit
-            .unwrap_or(Limit::new(DEFAULT_LIMIT).unwrap()),
-        account: settings.account.unwrap_or(Account::EMPTY),
+        nodes: set.nodes.unwrap_or(Nodes::new(DEFAULT_NODES).unwrap()),
+        limit: set.limit.unwrap_or(Limit::new(DEFAULT_LIMIT).unwrap()),
+        account: set.account.unwrap_or(Account::EMPTY),
         sites,
-    }
-}
-
-/// What is set of a job.
-fn changes(settings: &Settings) -> Changes
-    ensures { result ≡ changes_of settings.now }
-{
-    let resources = resources_of(settings);
-    Changes {
-        name: settings.name,
-        priority: settings.priority,
-        nodes: resources.nodes,
-        limit: resources.limit,
-        account: settings.account,
-        sites: resources.sites,
     }
 }
 
@@ -150,9 +119,9 @@ fn submission(
     settings: &Settings,
 ) -> Result<Vec<Command>, AllocError>
     ensures { IfOk result (λ commands.
-        commands.items ≡ Command.Submit (values_of roster.now settings.now) settings.now.held ∷ []) }
+        commands.items ≡ Command.Submit (values_of roster.now settings.now.changes) settings.now.held ∷ []) }
 {
-    let values = values(roster, settings);
+    let values = values(roster, &settings.changes);
     Ok(vec![in alloc;
         Command::Submit {
             values,
@@ -173,7 +142,7 @@ fn make_request(
 {
     match utility {
         Utility::Qsub => Ok(Request::Acts(submission(alloc, roster, settings)?)),
-        Utility::Qalter => Ok(Request::Acts(alterations(alloc, jobs, changes(settings))?)),
+        Utility::Qalter => Ok(Request::Acts(alterations(alloc, jobs, settings.changes)?)),
         Utility::Qhold => Ok(Request::Acts(holds(alloc, jobs, kinds(settings))?)),
         Utility::Qrls => Ok(Request::Acts(releases(alloc, jobs, kinds(settings))?)),
         Utility::Qdel => Ok(Request::Acts(deletions(alloc, jobs)?)),

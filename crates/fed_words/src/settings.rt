@@ -11,7 +11,7 @@ use crate::kinds::read_kinds;
 use crate::priorities::read_priority;
 use crate::resources::{Resources, read_resources};
 use crate::utilities::Choice;
-use fed_model::{Account, HoldKinds, Priority};
+use fed_model::{Account, Changes, HoldKinds, Priority};
 use fed_stamp::{Roster, Word};
 use std::alloc::Global;
 
@@ -37,18 +37,12 @@ pub enum Setting {
 /// What the options of a line set.
 #[derive(Clone, Copy, PartialEq, Eq, Debug)]
 pub struct Settings {
-    /// The account.
-    pub account: Option<Account>,
+    /// What they set of a job.
+    pub changes: Changes,
     /// Whether `-h` of `qsub` is given.
     pub held: bool,
     /// The kinds of holds.
     pub kinds: Option<HoldKinds>,
-    /// The resources.
-    pub resources: Option<Resources>,
-    /// The name.
-    pub name: Option<Word>,
-    /// The priority.
-    pub priority: Option<Priority>,
     /// Whether `-f` is given.
     pub full: bool,
 }
@@ -59,12 +53,16 @@ impl Settings {
         ensures { result ≡ last_settings [] }
     {
         Settings {
-            account: None,
+            changes: Changes {
+                name: None,
+                priority: None,
+                nodes: None,
+                limit: None,
+                account: None,
+                sites: None,
+            },
             held: false,
             kinds: None,
-            resources: None,
-            name: None,
-            priority: None,
             full: false,
         }
     }
@@ -83,13 +81,20 @@ impl Settings {
             Gives (λ _. self.new) result (settings_in roster.now (items ++ (option, argument.now) ∷ [])) }
     {
         match option {
-            Choice::Account => self.account = Some(read_account(argument)?),
+            Choice::Account => self.changes.account = Some(read_account(argument)?),
             Choice::Held => self.held = true,
             Choice::Kinds => self.kinds = Some(read_kinds(argument).ok_or(UsageFault::BadValue)?),
-            Choice::Resources => self.resources = Some(read_resources(alloc, roster, argument)?),
-            Choice::Name => self.name = Some(Word::new(argument).ok_or(UsageFault::BadValue)?),
+            Choice::Resources => {
+                let resources = read_resources(alloc, roster, argument)?;
+                self.changes.nodes = resources.nodes;
+                self.changes.limit = resources.limit;
+                self.changes.sites = resources.sites;
+            }
+            Choice::Name => {
+                self.changes.name = Some(Word::new(argument).ok_or(UsageFault::BadValue)?)
+            }
             Choice::Priority => {
-                self.priority = Some(read_priority(argument).ok_or(UsageFault::BadValue)?)
+                self.changes.priority = Some(read_priority(argument).ok_or(UsageFault::BadValue)?)
             }
             Choice::Full => self.full = true,
         }
