@@ -1,7 +1,9 @@
 //! The fields of a job read from JSON values.
 ghost use Rattle.std.specs.Prelude.{◌≡◌, Some};
+ghost use Rattle.serde_json.specs.Data.{Data};
 ghost use Rattle.serde_json.specs.View.{view};
 ghost use Rattle.fed_lattice.specs.Results.{mapped};
+ghost use Rattle.fed_json.specs.Reading.{Reading};
 ghost use Rattle.fed_job_json.specs.Fields.{field_of, name_of, priority_of, nodes_of, limit_of, account_in};
 ghost use Rattle.fed_job_json.specs.Job.{account_of, fields_of};
 ghost use Rattle.fed_job_json.specs.Members.{members_value};
@@ -17,96 +19,69 @@ use fed_record::{
 use fed_stamp::{MAX_NODES, Stamp, Word};
 use serde_json::Value;
 
-fn name(value: &Value) -> Result<Word, Flaw>
-    ensures { result ≡ name_of (view value.now) }
-{
-    Word::new(text(value)?).ok_or(Flaw::Range)
+/// A value that a field of a job has.
+trait FieldValue: Sized + Copy {
+    // What is read of a JSON value.
+    ghost reading: { Data → Reading Self };
+
+    /// What is read of a JSON value: `Shape` where it has another form, else `Range` where it is out of its range.
+    fn read(value: &Value) -> Result<Self, Flaw>
+        ensures { result ≡ reading (view value.now) };
 }
 
-fn priority(value: &Value) -> Result<Priority, Flaw>
-    ensures { result ≡ priority_of (view value.now) }
-{
-    let number = integer(value)?;
-    if i128::from(MIN_PRIORITY) <= number && number <= i128::from(MAX_PRIORITY) {
-        Priority::new(number as i16).ok_or(Flaw::Range)
-    } else {
-        Err(Flaw::Range)
+impl FieldValue for Word {
+    ghost reading = { name_of };
+
+    fn read(value: &Value) -> Result<Word, Flaw> {
+        Word::new(text(value)?).ok_or(Flaw::Range)
     }
 }
 
-fn nodes(value: &Value) -> Result<Nodes, Flaw>
-    ensures { result ≡ nodes_of (view value.now) }
-{
-    Nodes::new(natural(value, 1, MAX_NODES)?).ok_or(Flaw::Range)
-}
+impl FieldValue for Priority {
+    ghost reading = { priority_of };
 
-fn limit(value: &Value) -> Result<Limit, Flaw>
-    ensures { result ≡ limit_of (view value.now) }
-{
-    Limit::new(natural(value, 1, MAX_LIMIT)?).ok_or(Flaw::Range)
-}
-
-fn account(value: &Value) -> Result<Account, Flaw>
-    ensures { result ≡ account_in (view value.now) }
-{
-    Account::new(text(value)?).ok_or(Flaw::Range)
-}
-
-fn name_field(value: &Value) -> Result<(Stamp, Word), Flaw>
-    ensures { mapped (λ f. Some f) result ≡ field_of name_of (view value.now) }
-{
-    match elements(value)? {
-        [text, at] => {
-            let (name, stamp) = both(name(text), read_stamp(at))?;
-            Ok((stamp, name))
+    fn read(value: &Value) -> Result<Priority, Flaw> {
+        let number = integer(value)?;
+        if i128::from(MIN_PRIORITY) <= number && number <= i128::from(MAX_PRIORITY) {
+            Priority::new(number as i16).ok_or(Flaw::Range)
+        } else {
+            Err(Flaw::Range)
         }
-        _ => Err(Flaw::Shape),
     }
 }
 
-fn priority_field(value: &Value) -> Result<(Stamp, Priority), Flaw>
-    ensures { mapped (λ f. Some f) result ≡ field_of priority_of (view value.now) }
-{
-    match elements(value)? {
-        [number, at] => {
-            let (priority, stamp) = both(priority(number), read_stamp(at))?;
-            Ok((stamp, priority))
-        }
-        _ => Err(Flaw::Shape),
+impl FieldValue for Nodes {
+    ghost reading = { nodes_of };
+
+    fn read(value: &Value) -> Result<Nodes, Flaw> {
+        Nodes::new(natural(value, 1, MAX_NODES)?).ok_or(Flaw::Range)
     }
 }
 
-fn nodes_field(value: &Value) -> Result<(Stamp, Nodes), Flaw>
-    ensures { mapped (λ f. Some f) result ≡ field_of nodes_of (view value.now) }
-{
-    match elements(value)? {
-        [number, at] => {
-            let (nodes, stamp) = both(nodes(number), read_stamp(at))?;
-            Ok((stamp, nodes))
-        }
-        _ => Err(Flaw::Shape),
+impl FieldValue for Limit {
+    ghost reading = { limit_of };
+
+    fn read(value: &Value) -> Result<Limit, Flaw> {
+        Limit::new(natural(value, 1, MAX_LIMIT)?).ok_or(Flaw::Range)
     }
 }
 
-fn limit_field(value: &Value) -> Result<(Stamp, Limit), Flaw>
-    ensures { mapped (λ f. Some f) result ≡ field_of limit_of (view value.now) }
-{
-    match elements(value)? {
-        [number, at] => {
-            let (limit, stamp) = both(limit(number), read_stamp(at))?;
-            Ok((stamp, limit))
-        }
-        _ => Err(Flaw::Shape),
+impl FieldValue for Account {
+    ghost reading = { account_in };
+
+    fn read(value: &Value) -> Result<Account, Flaw> {
+        Account::new(text(value)?).ok_or(Flaw::Range)
     }
 }
 
-fn account_field(value: &Value) -> Result<(Stamp, Account), Flaw>
-    ensures { mapped (λ f. Some f) result ≡ field_of account_in (view value.now) }
+/// A value beside its stamp: an array of the two.
+fn field<T: FieldValue>(value: &Value) -> Result<(Stamp, T), Flaw>
+    ensures { mapped (λ f. Some f) result ≡ field_of T.reading (view value.now) }
 {
     match elements(value)? {
-        [text, at] => {
-            let (account, stamp) = both(account(text), read_stamp(at))?;
-            Ok((stamp, account))
+        [set, at] => {
+            let (set, stamp) = both(T::read(set), read_stamp(at))?;
+            Ok((stamp, set))
         }
         _ => Err(Flaw::Shape),
     }
@@ -119,7 +94,7 @@ fn account_member(members: &JobMembers<'_>, format: Format) -> Result<(Stamp, Ac
 {
     match format {
         Format::One => Ok((read_stamp(members.id)?, Account::EMPTY)),
-        Format::Two => account_field(members.account.ok_or(Flaw::Shape)?),
+        Format::Two => field(members.account.ok_or(Flaw::Shape)?),
     }
 }
 
@@ -128,10 +103,10 @@ fn account_member(members: &JobMembers<'_>, format: Format) -> Result<(Stamp, Ac
 pub fn fields(members: &JobMembers<'_>, format: Format) -> Result<FieldParts, Flaw>
     ensures { mapped fields_set result ≡ fields_of format (members_value members.now) }
 {
-    let names = both(name_field(members.owner), name_field(members.name));
-    let numbers = both(nodes_field(members.nodes), limit_field(members.limit));
+    let names = both(field(members.owner), field(members.name));
+    let numbers = both(field(members.nodes), field(members.limit));
     let others = both(numbers, account_member(members, format));
-    match both(names, both(priority_field(members.priority), others)) {
+    match both(names, both(field(members.priority), others)) {
         Ok(read) => {
             let (names, (priority, (numbers, account))) = read;
             Ok(Fields {

@@ -21,11 +21,11 @@ returns-in_err-ok_or-in-Kinds c = λ items e.
     let wrong : settings_in c.args.roster.now (items ++ (c.args.option, c.args.argument.now) ∷ []) ≡ Err c.in_err-ok_or-in-Kinds.field-0.0 = rw c.in-Kinds.is (set-fault c.args.roster.now items c.args.self.now e Choice.Kinds c.args.argument.now c.in_err-ok_or-in-Kinds.field-0.0 (made-err Setting.Kinds (kinds_in c.args.argument.now) BadValue c.in_err-ok_or-in-Kinds.field-0.0 (rw c.read_kinds.ensures at c.in_err-ok_or-in-Kinds.ensures.value))) in
     gives-either _ c.from_residual-in_err-ok_or-in-Kinds.result _ c.in_err-ok_or-in-Kinds.field-0.0 c.from_residual-in_err-ok_or-in-Kinds.ensures.1 (inr wrong)
 
-pub returns-in_err-read_resources-in-Resources : goal.returns-in_err-read_resources-in-Resources
-returns-in_err-read_resources-in-Resources c = λ items e.
-    gives-either _ c.from_residual-in_err-read_resources-in-Resources.result _ c.in_err-read_resources-in-Resources.field-0.0 c.from_residual-in_err-read_resources-in-Resources.ensures.1 (elim c.in_err-read_resources-in-Resources.ensures [
+pub returns-in_err-resources-in-Resources : goal.returns-in_err-resources-in-Resources
+returns-in_err-resources-in-Resources c = λ items e.
+    gives-either _ c.from_residual-in_err-resources-in-Resources.result _ c.in_err-resources-in-Resources.field-0.0 c.from_residual-in_err-resources-in-Resources.ensures.1 (elim c.in_err-resources-in-Resources.ensures [
       | inl refused ↦ inl refused
-      | inr wrong ↦ inr (rw c.in-Resources.is (set-fault c.args.roster.now items c.args.self.now e Choice.Resources c.args.argument.now c.in_err-read_resources-in-Resources.field-0.0 (ap (mapped Setting.Resources) wrong)))
+      | inr wrong ↦ inr (rw c.in-Resources.is (set-fault c.args.roster.now items c.args.self.now e Choice.Resources c.args.argument.now c.in_err-resources-in-Resources.field-0.0 (ap (mapped Setting.Resources) wrong)))
     ])
 
 pub returns-in_err-ok_or-in-Name : goal.returns-in_err-ok_or-in-Name
@@ -47,8 +47,8 @@ returns-in-Held c = λ items e. rw c.in-Held.is (set-more c.args.roster.now item
 pub returns-in_ok-ok_or-in-Kinds : goal.returns-in_ok-ok_or-in-Kinds
 returns-in_ok-ok_or-in-Kinds c = λ items e. rw c.in-Kinds.is (set-more c.args.roster.now items c.args.self.now e Choice.Kinds c.args.argument.now (Setting.Kinds c.in_ok-ok_or-in-Kinds.field-0) (made-ok Setting.Kinds (kinds_in c.args.argument.now) BadValue c.in_ok-ok_or-in-Kinds.field-0 (rw c.read_kinds.ensures at c.in_ok-ok_or-in-Kinds.ensures.value)))
 
-pub returns-in_ok-read_resources-in-Resources : goal.returns-in_ok-read_resources-in-Resources
-returns-in_ok-read_resources-in-Resources c = λ items e. rw c.in-Resources.is (set-more c.args.roster.now items c.args.self.now e Choice.Resources c.args.argument.now (Setting.Resources c.in_ok-read_resources-in-Resources.field-0) (ap (mapped Setting.Resources) c.in_ok-read_resources-in-Resources.ensures))
+pub returns-in_ok-resources-in-Resources : goal.returns-in_ok-resources-in-Resources
+returns-in_ok-resources-in-Resources c = λ items e. rw c.in-Resources.is (set-more c.args.roster.now items c.args.self.now e Choice.Resources c.args.argument.now (Setting.Resources c.in_ok-resources-in-Resources.resources) (ap (mapped Setting.Resources) c.in_ok-resources-in-Resources.ensures))
 
 pub returns-in_ok-ok_or-in-Name : goal.returns-in_ok-ok_or-in-Name
 returns-in_ok-ok_or-in-Name c = λ items e. rw c.in-Name.is (set-more c.args.roster.now items c.args.self.now e Choice.Name c.args.argument.now (Setting.Name c.in_ok-ok_or-in-Name.field-0) (name-ok (is_name c.args.argument.now) c.args.argument.now c.in_ok-ok_or-in-Name.field-0 BadValue (rw c.new.ensures at c.in_ok-ok_or-in-Name.ensures.value)))
