@@ -17,7 +17,7 @@ use fed_lattice::NoMemory;
 use fed_qstat::identifier_text;
 use fed_record::{HoldKind, JobRecord};
 use fed_stamp::{JobId, Roster};
-use serde_json::{Map, Value, json, put};
+use serde_json::{Map, Value, put};
 use std::alloc::{AllocError, Global};
 
 #[tactic(auto, unfolding(crate::specs::JobMembers::with_names))]
@@ -37,20 +37,25 @@ fn put_names(
         members,
         alloc,
         "account",
-        json!(in alloc; job.account().1.as_str())?,
+        Value::try_from_str(alloc, job.account().1.as_str())?,
     )?;
-    put(members, alloc, "id", json!(in alloc; id.as_str())?)?;
+    put(
+        members,
+        alloc,
+        "id",
+        Value::try_from_str(alloc, id.as_str())?,
+    )?;
     put(
         members,
         alloc,
         "name",
-        json!(in alloc; job.name().1.as_str())?,
+        Value::try_from_str(alloc, job.name().1.as_str())?,
     )?;
     put(
         members,
         alloc,
         "owner",
-        json!(in alloc; job.owner().1.as_str())?,
+        Value::try_from_str(alloc, job.owner().1.as_str())?,
     )?;
     Ok(())
 }

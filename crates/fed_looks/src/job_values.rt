@@ -3,7 +3,7 @@ ghost use Rattle.std.specs.Prelude.{◌≡◌, ◌++◌, ◌∷◌, [], IfOk, On
 ghost use Rattle.serde_json.specs.View.{view};
 ghost use Rattle.fed_record.specs.JobRecord.{job_reads};
 ghost use Rattle.fed_model.specs.Letter.{has_site};
-ghost use Rattle.fed_looks.specs.JobObject.{begun_data, finished_data, grant_data, holder_data, kinds_data, letter_data, site_data, sites_data};
+ghost use Rattle.fed_looks.specs.JobObject.{begun_data, finished_data, grant_data, hold_data, holder_data, kinds_data, letter_data, site_data, sites_data};
 
 use fed_qstat::{letter_sign, site_text};
 use fed_record::{Beginning, Ending, GrantStage, JobRecord, Letter};
@@ -16,7 +16,7 @@ pub(crate) fn letter(alloc: Global, letter: Option<Letter>) -> Result<Value, All
     ensures { IfOk result (λ v. view v ≡ letter_data letter) }
 {
     match letter {
-        Some(letter) => json!(in alloc; letter_sign(letter)),
+        Some(letter) => Value::try_from_str(alloc, letter_sign(letter)),
         None => Ok(Value::Null),
     }
 }
@@ -26,7 +26,7 @@ fn site(alloc: Global, roster: &Roster, site: SiteId) -> Result<Value, AllocErro
     ensures { IfOk result (λ v. view v ≡ site_data roster.now site) }
 {
     let name = site_text(alloc, roster, site)?;
-    json!(in alloc; name.as_str())
+    Value::try_from_str(alloc, name.as_str())
 }
 
 /// The Begin, or null where there is none.
@@ -90,7 +90,23 @@ pub(crate) fn grant(
     }
 }
 
+/// Adds the letter of a kind of holds, if one of them is present.
+fn push_kind(
+    alloc: Global,
+    values: &mut Vec<Value>,
+    is_present: bool,
+    letter: &str,
+) -> Result<(), AllocError>
+    ensures { OnOk result (map view values.new.items ≡ map view values.old.items ++ hold_data is_present letter.now) }
+{
+    if is_present {
+        values.push(Value::try_from_str(alloc, letter)?)?;
+    }
+    Ok(())
+}
+
 /// The kinds of holds that are present, in the order u, o, s.
+#[tactic(auto, using(std::proofs::Common::append_assoc))]
 pub(crate) fn kinds(
     alloc: Global,
     user: bool,
@@ -99,16 +115,11 @@ pub(crate) fn kinds(
 ) -> Result<Value, AllocError>
     ensures { IfOk result (λ v. view v ≡ kinds_data user operator system) }
 {
-    match (user, operator, system) {
-        (false, false, false) => Ok(Value::Array(Vec::new(alloc))),
-        (true, false, false) => json!(in alloc; ["u"]),
-        (false, true, false) => json!(in alloc; ["o"]),
-        (true, true, false) => json!(in alloc; ["u", "o"]),
-        (false, false, true) => json!(in alloc; ["s"]),
-        (true, false, true) => json!(in alloc; ["u", "s"]),
-        (false, true, true) => json!(in alloc; ["o", "s"]),
-        (true, true, true) => json!(in alloc; ["u", "o", "s"]),
-    }
+    let mut kinds = Vec::new(alloc);
+    push_kind(alloc, &mut kinds, user, "u")?;
+    push_kind(alloc, &mut kinds, operator, "o")?;
+    push_kind(alloc, &mut kinds, system, "s")?;
+    Ok(Value::Array(kinds))
 }
 
 /// Adds the name of the site, if the job may run there.
