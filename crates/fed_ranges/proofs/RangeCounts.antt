@@ -4,6 +4,7 @@ use Rattle.std.specs.List.{range_with_len}
 use Rattle.std.proofs.Common.{◌≡◌, ℕ, zero, suc, ◌+◌, ◌≤◌, ◌<◌, ◌==◌, List, [], ◌∷◌, length, Bool, true, false, not, ◌||◌, refl, sym, ap, subst, ◌∙◌, inl, inr, arith}
 use Rattle.std.proofs.lemmas.Bool.{cases_Bool, cases_eq, cases_lt, eq-eqb, ne_eqb}
 use Rattle.std.proofs.lemmas.List.Sums.{sum_by-cons}
+use Rattle.std.proofs.Math.Bool.{or-false, and-false}
 use Rattle.fed_ranges.specs.declared.ranges.Range.{Range}
 use Rattle.fed_ranges.specs.Ranges.{is_in, has, AreApart, EndBy, starts_after}
 use Rattle.fed_ranges.specs.RangeLaws.{in_low, in_high, in_from, none_below}
@@ -33,11 +34,7 @@ beyond_first r rs n far = ap (λ b. b || has rs n) (out (is_in r n) refl)
 
 -- up to its end the first range alone is counted
 within_first : (r : Range) (rs : List Range) (n : ℕ) → AreApart (r.last + 2) rs → n ≤ r.last + 1 → has (r ∷ rs) n ≡ is_in r n
-within_first r rs n a near = ap (λ b. is_in r n || b) (none_below (r.last + 2) rs n a (omega arith)) ∙ or_none (is_in r n)
-  where
-    or_none : (b : Bool) → (b || false) ≡ b
-    or_none true = refl
-    or_none false = refl
+within_first r rs n a near = ap (λ b. is_in r n || b) (none_below (r.last + 2) rs n a (omega arith)) ∙ or-false (is_in r n)
 
 -- up to its end a range starts after the number before its first alone
 start_is : (r : Range) (k : ℕ) → r.first ≤ r.last → k ≤ r.last → (not (is_in r k) && is_in r (suc k)) ≡ (r.first == suc k)
@@ -47,15 +44,11 @@ start_is r k some near = elim (cases_eq r.first (suc k)) [
       let b : is_in r (suc k) ≡ true = in_from r (suc k) (omega arith) (omega arith) in
       (λ i. not (a i) && b i) ∙ sym (eq-eqb r.first (suc k) e))
   | inr d ↦ elim (cases_lt (suc k) r.first) [
-    | inl l ↦ (let b : is_in r (suc k) ≡ false = out (suc k) l in ap (λ x. not (is_in r k) && x) b ∙ and_none (not (is_in r k)) ∙ sym (ne_eqb r.first (suc k) d))
+    | inl l ↦ (let b : is_in r (suc k) ≡ false = out (suc k) l in ap (λ x. not (is_in r k) && x) b ∙ and-false (not (is_in r k)) ∙ sym (ne_eqb r.first (suc k) d))
     | inr l ↦ (let a : is_in r k ≡ true = in_from r k (omega arith) near in ap (λ x. not x && is_in r (suc k)) a ∙ sym (ne_eqb r.first (suc k) d))
   ]
 ]
   where
-    and_none : (b : Bool) → (b && false) ≡ false
-    and_none true = refl
-    and_none false = refl
-
     out : (n : ℕ) → n < r.first → is_in r n ≡ false
     out n below = elim (cases_Bool (is_in r n)) [ inl e ↦ (let h = in_low r n e in absurd (omega arith)) | inr e ↦ e ]
 

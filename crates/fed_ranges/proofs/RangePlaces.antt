@@ -1,8 +1,8 @@
 -- At which range a number is looked for: the first that doesn't end below it.
 use Rattle.std.specs.Prelude.{nat_le, nat_lt}
 use Rattle.std.specs.List.Sorted.{IsPartitionedBy, IsPartitionPoint}
-use Rattle.std.proofs.Common.{◌≡◌, ℕ, zero, suc, length, slice_index_or, ◌+◌, ◌≤◌, ◌<◌, List, [], ◌∷◌, Bool, true, false, ◌||◌, ◌&&◌, sym, ap, ◌∙◌, inl, inr, arith}
-use Rattle.std.proofs.lemmas.Bool.{cases_Bool, le-leb, le-ltb, leb-true, lt-ltb, ltb-true, ltb-false}
+use Rattle.std.proofs.Common.{◌≡◌, ℕ, zero, suc, length, slice_index_or, ◌+◌, ◌≤◌, ◌<◌, List, [], ◌∷◌, Bool, true, false, ◌||◌, ◌&&◌, sym, ap, ◌∙◌, arith}
+use Rattle.std.proofs.lemmas.Bool.{le-leb, le-ltb, lt-ltb, ltb-true, ltb-false, lt-leb}
 use Rattle.fed_ranges.specs.declared.ranges.Range.{Range}
 use Rattle.fed_ranges.specs.Ranges.{has, AreApart}
 use Rattle.fed_ranges.specs.RangeLaws.{none_below, same_bits}
@@ -47,12 +47,9 @@ found_at low n (r ∷ rs) zero d a le below above =
     if_only (nat_le r.first n) (nat_le n r.last) (has rs n) (nat_lt 0 (suc (length rs))) (le-leb n r.last reach) (none_below (r.last + 2) rs n a.2 (omega arith)) (lt-ltb 0 (suc (length rs)) (omega arith))
 found_at low n (r ∷ rs) (suc i) d a le below above =
     let out : r.last < n = below 0 (omega arith) in
-    if_later (nat_le r.first n) (nat_le n r.last) (has rs n) (not_upto n r.last out)
+    if_later (nat_le r.first n) (nat_le n r.last) (has rs n) (lt-leb n r.last out)
     ∙ found_at (r.last + 2) n rs i d a.2 (omega arith) (λ k l. below (suc k) (omega arith)) (λ k l m. above (suc k) (omega arith) (omega arith))
     ∙ ap (λ b. b && nat_le (slice_index_or rs i d).first n) (lt_both i (length rs))
-  where
-    not_upto : (n m : ℕ) → m < n → nat_le n m ≡ false
-    not_upto n m less = elim (cases_Bool (nat_le n m)) [ inr e ↦ e | inl e ↦ (let f = leb-true n m e in absurd (omega arith)) ]
 
 pub found_by : (n : ℕ) (rs : List Range) (i : ℕ) (d : Range) → AreApart 0 rs → i ≤ length rs
     → IsPartitionPoint (λ (r : Range). nat_lt r.last n ≡ true) (λ (r : Range). nat_lt r.last n ≡ false) rs i → has rs n ≡ (nat_lt i (length rs) && nat_le (slice_index_or rs i d).first n)
