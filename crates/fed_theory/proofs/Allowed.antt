@@ -23,6 +23,8 @@ use Rattle.fed_model.specs.declared.beginnings.Ending.{Ending}
 use Rattle.fed_model.specs.declared.refusals.Refusal.{Refusal}
 use Rattle.fed_model.specs.declared.replies.Reply.{Reply}
 use Rattle.fed_model.specs.declared.windows.Window.{Window}
+use Rattle.fed_model.specs.declared.capacities.TheConstants.{MAX_JOBS, MAX_RANGES, MAX_RESERVATIONS}
+use Rattle.fed_model.specs.declared.terms.TheConstants.{MAX_TERM}
 use Rattle.fed_model.specs.Body.{Body, Body.Submit, Body.OfJob, Body.Reserve, JobBody.Grant, JobBody.HandBack, JobBody.Begin, JobBody.Finish, JobBody.Delete, is_of_job, is_of_reservation, of_job, of_reservation, Body.Cancel, Body.Retire}
 use Rattle.fed_model.specs.Field.{begin_in, deletion_in, finish_in, window_in, field}
 use Rattle.fed_lattice.specs.Flag.{has_changes}
@@ -57,10 +59,10 @@ IsPlaced ops t _ = Unit {0}
 
 -- what the limits ask: the site is not full, nor has it too many ranges, terms are at most 1,000,000,000, and windows are as they may be
 abbrev pub IsWithin : History Body → StampValue → Body → Type 0
-IsWithin ops t (Submit owner values held) = jobs_of (view ops) t.site < 10_000
-IsWithin ops t (OfJob job (Grant site term)) = term ≤ 1_000_000_000
-IsWithin ops t (Reserve window) = (is_bad_window window ≡ false) × (reservations_of (view ops) t.site < 1_000)
-IsWithin ops t (Retire first last) = (ranges_with (view ops) t.site first last ≤ 1_000) × (last ≤ counter_of (version_of ops) t.site)
+IsWithin ops t (Submit owner values held) = jobs_of (view ops) t.site < MAX_JOBS
+IsWithin ops t (OfJob job (Grant site term)) = term ≤ MAX_TERM
+IsWithin ops t (Reserve window) = (is_bad_window window ≡ false) × (reservations_of (view ops) t.site < MAX_RESERVATIONS)
+IsWithin ops t (Retire first last) = (ranges_with (view ops) t.site first last ≤ MAX_RANGES) × (last ≤ counter_of (version_of ops) t.site)
 IsWithin ops t _ = Unit {0}
 
 -- no job begins or is granted that is retired
@@ -235,12 +237,12 @@ module _ (ops : History Body) (l : IsLawful ops) (here : ℕ) (t : StampValue) (
   next_term job (suc term) s h = (s, (h, before s (OfJob job (HandBack (suc term))) h))
 
   grant_follows : (job : StampValue) (asker : ℕ) (g : Option GrantStage) → (job_view (of_job job ops)).stages.grant ≡ g → is_taken asker (job_view (of_job job ops)) ≡ false → is_granted_to (job_view (of_job job ops)) asker ≡ false → is_last_term g ≡ false
-      → (IsNextTerm ops t job (term_in g + 1)) × (MayFollow ops t (OfJob job (Grant asker (term_in g + 1)))) × (term_in g + 1 ≤ 1_000_000_000)
+      → (IsNextTerm ops t job (term_in g + 1)) × (MayFollow ops t (OfJob job (Grant asker (term_in g + 1)))) × (term_in g + 1 ≤ MAX_TERM)
   grant_follows job asker None is free not_mine last = (tt, λ s other h. no_grants ops job is s other 1 h, omega arith)
   grant_follows job asker (Some (Open term s holder)) is free not_mine last =
       let a = rw is at free in let b = rw is at not_mine in let c = rw b at a in cc
   grant_follows job asker (Some (Returned term s)) is free not_mine last =
-      let below = leb-false 1_000_000_000 term last in (
+      let below = leb-false MAX_TERM term last in (
         subst (IsNextTerm ops t job) (sym (add-one term)) (next_term job term s (returned_made ops job term s is)),
         λ u other h. let le : term + 1 ≤ term = grants_below ops job (Returned term s) is u other (term + 1) h in omega arith,
         omega arith,
@@ -343,7 +345,7 @@ module _ (ops : History Body) (l : IsLawful ops) (here : ℕ) (t : StampValue) (
     grounded = tt;
     may = tt;
     placed = tt;
-    limited = subst (λ (site : ℕ). jobs_of (view ops) site < 10_000) (sym next.site) (leb-false 10_000 (jobs_of (view ops) here) r.0);
+    limited = subst (λ (site : ℕ). jobs_of (view ops) site < MAX_JOBS) (sym next.site) (leb-false MAX_JOBS (jobs_of (view ops) here) r.0);
     live = tt;
     closing = tt;
   })
@@ -403,7 +405,7 @@ module _ (ops : History Body) (l : IsLawful ops) (here : ℕ) (t : StampValue) (
     grounded = tt;
     may = tt;
     placed = tt;
-    limited = (r.1.0, subst (λ (site : ℕ). reservations_of (view ops) site < 1_000) (sym next.site) (leb-false 1_000 (reservations_of (view ops) here) r.1.1.0));
+    limited = (r.1.0, subst (λ (site : ℕ). reservations_of (view ops) site < MAX_RESERVATIONS) (sym next.site) (leb-false MAX_RESERVATIONS (reservations_of (view ops) here) r.1.1.0));
     live = tt;
     closing = tt;
   })
@@ -411,7 +413,7 @@ module _ (ops : History Body) (l : IsLawful ops) (here : ℕ) (t : StampValue) (
       is_body _ new e (record { grounded = standing id ((view ops).reservation id) refl (not-false _ r.1.0); may = tt; placed = tt; limited = tt; live = tt; closing = tt })
   effect_allowed who (Command.Retire first last) new r e =
       let a = or_parts _ (has_unsettled (view ops) here first last) r.1.1.0 in
-      let few : nat_lt 1_000 (ranges_with (view ops) here first last) ≡ false = ap (λ bad. not bad && nat_lt 1_000 (ranges_with (view ops) here first last)) (sym a.0) ∙ r.0 in
+      let few : nat_lt MAX_RANGES (ranges_with (view ops) here first last) ≡ false = ap (λ bad. not bad && nat_lt MAX_RANGES (ranges_with (view ops) here first last)) (sym a.0) ∙ r.0 in
       let b = or_parts (nat_le first 0) _ a.0 in
       let c = or_parts (nat_lt last first) _ b.1 in
       let one = leb-false first 0 b.0 in
@@ -423,7 +425,7 @@ module _ (ops : History Body) (l : IsLawful ops) (here : ℕ) (t : StampValue) (
         grounded = (omega arith, omega arith, omega arith);
         may = tt;
         placed = tt;
-        limited = subst (λ (site : ℕ). (ranges_with (view ops) site first last ≤ 1_000) × (last ≤ counter_of (version_of ops) site)) (sym next.site) (ltb-false 1_000 (ranges_with (view ops) here first last) few, far);
+        limited = subst (λ (site : ℕ). (ranges_with (view ops) site first last ≤ MAX_RANGES) × (last ≤ counter_of (version_of ops) site)) (sym next.site) (ltb-false MAX_RANGES (ranges_with (view ops) here first last) few, far);
         live = tt;
         closing = (
           λ job at within sub. elim (cases_Bool (is_retired ops job)) [

@@ -2,10 +2,13 @@
 use Rattle.std.specs.Prelude.{count_by, filter, is_some, if◌then◌else◌, nat_lt, not, ◌&&◌, ◌||◌, map, Some, None, Ok}
 use Rattle.std.specs.List.{range_with_len}
 use Rattle.std.proofs.Common.{◌≡◌, ◌⊎◌, ℕ, suc, ◌+◌, ◌-◌, ◌≤◌, ◌<◌, List, [], ◌∷◌, ◌++◌, length, Bool, true, false, refl, sym, ap, subst, ◌∙◌, inl, inr, append_assoc, append-nil, length-append, arith}
-use Rattle.std.proofs.lemmas.Bool.{and_from, and_parts, cases_Bool, cases_eq, cond-true, both_ways, eq-eqb, le-leb, lt-ltb, or_left, or_right, or_cases, or_parts}
+use Rattle.std.proofs.lemmas.Bool.{and_from, and_parts, cases_Bool, cases_eq, cond-true, both_ways, eq-eqb, le-leb, lt-ltb, or_left, or_right, or_cases, or_parts, or_from}
 use Rattle.std.proofs.lemmas.List.{map-append}
 use Rattle.std.proofs.lemmas.List.Elements.{All-from_get_or}
 use Rattle.std.proofs.lemmas.List.Folds.{list_any-append}
+use Rattle.std.proofs.lemmas.List.Filters.{length-filter_both}
+use Rattle.std.proofs.Math.Bool.{or-false}
+use Rattle.fed_stamp.specs.declared.stamps.TheConstants.{MAX_COUNTER}
 use Rattle.fed_stamp.specs.Stamp.{StampValue}
 use Rattle.fed_stamp.specs.Version.{counter_of, greatest, next_stamp, raised}
 use Rattle.fed_stamp.proofs.VersionLaws.{covered_counter_le_greatest, greatest_bound}
@@ -31,12 +34,13 @@ use Rattle.fed_model.specs.Answer.{Answer.Replies, answer}
 use Rattle.fed_model.specs.declared.events.Event.{Event}
 use Rattle.fed_model.specs.declared.events.Event.TheVariants.{Do}
 use Rattle.fed_model.specs.declared.outcomes.Outcome.TheVariants as Outcome
+use Rattle.fed_model.specs.declared.capacities.TheConstants.{MAX_RANGES}
 use Rattle.fed_model.specs.Run.{World, does, outcomes, run, step, with_operation}
 use Rattle.fed_theory.specs.Retirements.{CanRetireSettled, retires_at, unsettled_of}
 use Rattle.fed_theory.specs.ViewSteps.{add_to_view}
 use Rattle.fed_theory.proofs.Emptying.{retire_done}
 use Rattle.fed_theory.proofs.FoundLaws.{none_found}
-use Rattle.fed_theory.proofs.Gaps.{IsGap, each_gap, covered, few_gaps, few_starts, gaps, in_range, in_some, in_some_by, in_some_found, parts_length, range_ends, starts_kept, start_in, with_range}
+use Rattle.fed_theory.proofs.Gaps.{IsGap, each_gap, covered, few_gaps, few_starts, gaps, in_range, in_some, in_some_by, in_some_found, range_ends, starts_kept, start_in, with_range}
 use Rattle.fed_theory.proofs.JobRoom.{room_left}
 use Rattle.fed_theory.proofs.NextStamps.{next_is, next_uncovered}
 use Rattle.fed_theory.proofs.OriginCounts.{fewer, shorter, identifier, lawful_countable, retired_reached}
@@ -155,16 +159,12 @@ module _ (n : ℕ) (few : n ≤ 16) (events : List Event) (site : ℕ) (small : 
       record {
         done = ap (outcomes n) same_start ∙ sym (append-nil (outcomes n events));
         each = λ r h. absurd h;
-        retired = λ k. ap (λ xs. is_retired xs (id k)) is ∙ or_none (is_retired first (id k));
+        retired = λ k. ap (λ xs. is_retired xs (id k)) is ∙ sym (or-false (is_retired first (id k)));
         jobs = λ k. ap (λ xs. (view xs).job (id k)) is;
         reservations = λ k. ap (λ xs. (view xs).reservation (id k)) is;
         reach = reach;
         clock = clock;
       }
-    where
-      or_none : (a : Bool) → a ≡ (a || false)
-      or_none true = refl
-      or_none false = refl
 
   -- ---- one range more
   module _ (ranges : List (ℕ × ℕ)) (s : Stage ranges) where
@@ -196,13 +196,13 @@ module _ (n : ℕ) (few : n ≤ 16) (events : List Event) (site : ℕ) (small : 
     ]
 
     -- the ranges that are retired are few enough
-    few_ranges : ranges_of (view ops) site ≤ 1_000
+    few_ranges : ranges_of (view ops) site ≤ MAX_RANGES
     few_ranges =
         let now = then_events ranges in
         let g = run_good n now few in
         cut_ranges g.0 g.1.lawful g.1.ranges ops (g.1.cuts site) site
 
-    module _ (r : ℕ × ℕ) (g : IsGap u most r) (fits : ranges_with (view ops) site r.0 r.1 ≤ 1_000) (left : greatest (version_of ops) < 1_000_000_000) where
+    module _ (r : ℕ × ℕ) (g : IsGap u most r) (fits : ranges_with (view ops) site r.0 r.1 ≤ MAX_RANGES) (left : greatest (version_of ops) < MAX_COUNTER) where
       abbrev t : StampValue
       t = record { counter = greatest (version_of ops) + 1; site = site }
 
@@ -210,7 +210,7 @@ module _ (n : ℕ) (few : n ≤ 16) (events : List Event) (site : ℕ) (small : 
       asked = Do site who (Command.Retire r.0 r.1)
 
       next : next_stamp (version_of ops) site ≡ Ok t
-      next = cond-true (nat_lt (greatest (version_of ops)) 1_000_000_000) _ _ (lt-ltb (greatest (version_of ops)) 1_000_000_000 left)
+      next = cond-true (nat_lt (greatest (version_of ops)) MAX_COUNTER) _ _ (lt-ltb (greatest (version_of ops)) MAX_COUNTER left)
 
       said : answer ops site who (Command.Retire r.0 r.1) ≡ Replies Reply.Done (Some (t, Retire r.0 r.1))
       said =
@@ -295,6 +295,10 @@ module _ (n : ℕ) (few : n ≤ 16) (events : List Event) (site : ℕ) (small : 
             clock = omega arith;
           }
 
+  -- nothing beyond the version is unsettled
+  beyond : (k : ℕ) → 0 + suc most ≤ k → u k ≡ false
+  beyond k far = elim (cases_Bool (u k)) [ inr f ↦ f | inl t ↦ absurd (let h = (named first first_lawful site (id k) t).reached in omega arith) ]
+
   -- ---- ranges that have something retired already come first
   -- the range has an identifier that is retired
   hit : ℕ × ℕ → Bool
@@ -306,7 +310,7 @@ module _ (n : ℕ) (few : n ≤ 16) (events : List Event) (site : ℕ) (small : 
     | inr f ↦ f
     | inl t ↦ absurd (let w = (retired_within (held ranges) (lawful_then ranges) k t).0 in omega arith)
   ]
-  unretired_behind ranges s k (inr e) = s.retired k ∙ both (is_retired first (id k)) (in_some ranges k) (named first first_lawful site (id k) e).live out
+  unretired_behind ranges s k (inr e) = s.retired k ∙ or_from (is_retired first (id k)) (in_some ranges k) (named first first_lawful site (id k) e).live out
     where
       out : in_some ranges k ≡ false
       out = elim (cases_Bool (in_some ranges k)) [
@@ -317,10 +321,7 @@ module _ (n : ℕ) (few : n ≤ 16) (events : List Event) (site : ℕ) (small : 
             both_ways (u k) ((s.each f.0 f.1).free k ends.0 ends.1) e)
       ]
 
-      both : (a b : Bool) → a ≡ false → b ≡ false → (a || b) ≡ false
-      both a b e f = grind (arith, e, f)
-
-  room_of_hits : (ranges : List (ℕ × ℕ)) → Stage ranges → (r : ℕ × ℕ) → IsGap u most r → hit r ≡ true → ranges_with (view (held ranges)) site r.0 r.1 ≤ 1_000
+  room_of_hits : (ranges : List (ℕ × ℕ)) → Stage ranges → (r : ℕ × ℕ) → IsGap u most r → hit r ≡ true → ranges_with (view (held ranges)) site r.0 r.1 ≤ MAX_RANGES
   unfolding hit
   room_of_hits ranges s r g e =
       let f = any_below_found (suc most) (λ k. is_within r.0 r.1 k && is_retired first (id k)) e in
@@ -337,23 +338,20 @@ module _ (n : ℕ) (few : n ≤ 16) (events : List Event) (site : ℕ) (small : 
       starts_kept here (r.0 - 1) r.1 f.0 n out (omega arith) to on (omega arith) in
       let same : count_by (start_in (with_range here (r.0, r.1))) (range_with_len 0 n) ≤ count_by (start_in here) (range_with_len 0 n) =
       subst (λ (a : ℕ). count_by (start_in (with_range here (a, r.1))) (range_with_len 0 n) ≤ count_by (start_in here) (range_with_len 0 n)) one kept in
-      let few_now : count_by (start_in here) (range_with_len 0 n) ≤ 1_000 = few_ranges ranges s in
-      let least : count_by (start_in (with_range here (r.0, r.1))) (range_with_len 0 n) ≤ 1_000 = omega arith in
+      let few_now : count_by (start_in here) (range_with_len 0 n) ≤ MAX_RANGES = few_ranges ranges s in
+      let least : count_by (start_in (with_range here (r.0, r.1))) (range_with_len 0 n) ≤ MAX_RANGES = omega arith in
       least
 
   -- where all that is retired is in these gaps
-  room_of_gaps : (ranges : List (ℕ × ℕ)) → Stage ranges → ((k : ℕ) → is_retired first (id k) ≡ true → in_some ranges k ≡ true) → unsettled_of (view first) site < 1_000 → (r : ℕ × ℕ) → IsGap u most r → ranges_with (view (held ranges)) site r.0 r.1 ≤ 1_000
+  room_of_gaps : (ranges : List (ℕ × ℕ)) → Stage ranges → ((k : ℕ) → is_retired first (id k) ≡ true → in_some ranges k ≡ true) → unsettled_of (view first) site < MAX_RANGES → (r : ℕ × ℕ) → IsGap u most r → ranges_with (view (held ranges)) site r.0 r.1 ≤ MAX_RANGES
   room_of_gaps ranges s whole some r g =
       let n : ℕ = suc (counter_of (version_of (held ranges)) site) in
       let here : ℕ → Bool = λ k. is_retired (held ranges) (id k) in
       let starts : count_by (start_in (with_range here r)) (range_with_len 0 n) ≤ count_by u (range_with_len 0 n) + 1 = few_starts u (with_range here r) most n behind in
       let counted_then : count_by u (range_with_len 0 n) ≤ unsettled_of (view first) site = shorter u n (suc most) 0 (λ k far. beyond k far) in
-      let least : count_by (start_in (with_range here r)) (range_with_len 0 n) ≤ 1_000 = omega arith in
+      let least : count_by (start_in (with_range here r)) (range_with_len 0 n) ≤ MAX_RANGES = omega arith in
       least
     where
-      beyond : (k : ℕ) → 0 + suc most ≤ k → u k ≡ false
-      beyond k far = elim (cases_Bool (u k)) [ inr f ↦ f | inl t ↦ absurd (let h = (named first first_lawful site (id k) t).reached in omega arith) ]
-
       -- a number in a gap whose predecessor isn't
       edge : (h : ℕ × ℕ) (k : ℕ) → IsGap u most h → is_within h.0 h.1 (suc k) ≡ true → is_within h.0 h.1 k ≡ false → (k ≡ 0) ⊎ (u k ≡ true)
       edge h k gap e out =
@@ -385,8 +383,8 @@ module _ (n : ℕ) (few : n ≤ 16) (events : List Event) (site : ℕ) (small : 
           ]
 
   -- ---- all of them
-  module _ (some : unsettled_of (view first) site < 1_000) (time : greatest (version_of first) + (unsettled_of (view first) site + 1) ≤ 1_000_000_000) where
-    time_left : (ranges : List (ℕ × ℕ)) → Stage ranges → length ranges < unsettled_of (view first) site + 1 → greatest (version_of (held ranges)) < 1_000_000_000
+  module _ (some : unsettled_of (view first) site < MAX_RANGES) (time : greatest (version_of first) + (unsettled_of (view first) site + 1) ≤ MAX_COUNTER) where
+    time_left : (ranges : List (ℕ × ℕ)) → Stage ranges → length ranges < unsettled_of (view first) site + 1 → greatest (version_of (held ranges)) < MAX_COUNTER
     time_left ranges s short = let c = s.clock in omega arith
 
     hits_done : (rest ranges : List (ℕ × ℕ)) → Stage ranges → ((r : ℕ × ℕ) → Has rest r → IsGap u most r × (hit r ≡ true)) → length ranges + length rest ≤ unsettled_of (view first) site + 1 → Stage (ranges ++ rest)
@@ -420,7 +418,7 @@ module _ (n : ℕ) (few : n ≤ 16) (events : List Event) (site : ℕ) (small : 
 
     number : length hits + length others ≤ unsettled_of (view first) site + 1
     number =
-        let a = parts_length hit all_gaps in
+        let a = length-filter_both hit (λ r. not (hit r)) (λ r. refl) all_gaps in
         let b : length all_gaps ≤ count_by u (range_with_len 0 (suc most)) + 1 = few_gaps u most (suc most) (omega arith) in omega arith
 
     -- a counter at which nothing is unsettled is in a gap
@@ -495,9 +493,6 @@ module _ (n : ℕ) (few : n ≤ 16) (events : List Event) (site : ℕ) (small : 
         let b : count_by u (range_with_len 0 n) ≤ unsettled_of (view first) site = shorter u n (suc most) 0 (λ k far. beyond k far) in
         omega arith
       where
-        beyond : (k : ℕ) → 0 + suc most ≤ k → u k ≡ false
-        beyond k far = elim (cases_Bool (u k)) [ inr f ↦ f | inl t ↦ absurd (let h = (named first first_lawful site (id k) t).reached in omega arith) ]
-
         known : (k : ℕ) (b : Bool) → u k ≡ b → is_submitted (if b then (view first).job (id k) else unknown) ≡ true → u k ≡ true
         known k true e t = e
         known k false e t = cc

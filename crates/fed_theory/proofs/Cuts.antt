@@ -1,6 +1,7 @@
 -- Sets that were made from one history of operations.
-use Rattle.std.proofs.Common.{◌≡◌, ◌⊎◌, ℕ, zero, suc, ◌≤◌, ◌<◌, [], ◌++◌, true, ◌||◌, sym, ap, subst, ◌∙◌, inl, inr, arith}
+use Rattle.std.proofs.Common.{◌≡◌, ℕ, zero, suc, ◌≤◌, ◌<◌, [], ◌++◌, true, ◌||◌, sym, ap, subst, ◌∙◌, inl, inr, arith}
 use Rattle.std.proofs.lemmas.Bool.{cases_eq, cases_lt, leb-true, or_cases}
+use Rattle.fed_stamp.specs.declared.stamps.TheConstants.{MAX_COUNTER}
 use Rattle.fed_stamp.specs.Stamp.{StampValue}
 use Rattle.fed_stamp.specs.Version.{counter_of, covers, is_below}
 use Rattle.fed_stamp.proofs.VersionLaws.{below_from_each, covers-joined}
@@ -11,22 +12,13 @@ use Rattle.fed_lattice.specs.VersionOf.{version_of, HasSites}
 use Rattle.fed_lattice.proofs.VersionOfLaws.{version_of-append, version_of-origin, version_of-Has}
 use Rattle.fed_model.specs.declared.beginnings.Beginning.{Beginning}
 use Rattle.fed_model.specs.Body.{Body, Body.OfJob, JobBody.Grant, JobBody.HandBack, JobBody.Begin, JobBody.Finish}
-use Rattle.fed_model.specs.Lawful.{IsNextTerm, IsGrounded, IsHolder, IsLawful, AreKin}
+use Rattle.fed_model.specs.Lawful.{IsGrounded, IsHolder, IsLawful, AreKin}
 use Rattle.fed_theory.proofs.LawfulLaws.{grounded_more}
 use Rattle.fed_theory.proofs.Allowed.{IsPlaced}
+use Rattle.fed_theory.proofs.GrowthLaws.{term_positive}
 
 -- ---- terms in a lawful set
-body_of : StampValue × Body → Body
-body_of e = e.1
-
 module _ (ops : History Body) (l : IsLawful ops) where
-  positive : (t job : StampValue) (n : ℕ) → IsNextTerm ops t job n → 1 ≤ n
-  positive t job zero n = absurd n
-  positive t job (suc k) n = omega arith
-
-  pub term_positive : (job s : StampValue) (site term : ℕ) → Has ops (s, OfJob job (Grant site term)) → 1 ≤ term
-  term_positive job s site term h = positive s job term (l.grounded (s, OfJob job (Grant site term)) h).1
-
   -- of one term there is one grant
   pub same_grant : (job s t : StampValue) (a b term : ℕ) → Has ops (s, OfJob job (Grant a term)) → Has ops (t, OfJob job (Grant b term)) → a ≡ b
   same_grant job s t a b term h k =
@@ -53,13 +45,10 @@ module _ (ops : History Body) (l : IsLawful ops) where
 
   -- of two grants that are not handed back neither term is above the other
   pub same_term : (job s t : StampValue) (a b k m : ℕ) → Has ops (s, OfJob job (Grant a k)) → Has ops (t, OfJob job (Grant b m)) → ((u : StampValue) → Has ops (u, OfJob job (HandBack k)) → ⊥) → m ≤ k
-  same_term job s t a b k m g h kept = elim (cases_le m k) [
-    | inl p ↦ p
-    | inr p ↦ (let r = returned_below job t b m k h (term_positive job s a k g) p in absurd (kept r.0 r.1))
+  same_term job s t a b k m g h kept = elim (cases_lt k m) [
+    | inr p ↦ p
+    | inl p ↦ (let r = returned_below job t b m k h (term_positive ops l job s a k g) p in absurd (kept r.0 r.1))
   ]
-    where
-      cases_le : (x y : ℕ) → (x ≤ y) ⊎ (y < x)
-      cases_le x y = elim (cases_lt y x) [ inl p ↦ inr p | inr p ↦ inl p ]
 
 -- ---- what is placed in a set is placed in a larger one
 module _ (ops more : History Body) (includes : Includes more ops) where
@@ -97,7 +86,7 @@ pub record IsCut (history ops : History Body) : Type 0 where
 
 -- each operation has a counter in the range of counters
 abbrev pub AreCounted : History Body → Type 0
-AreCounted history = (e : StampValue × Body) → Has history e → (0 < e.0.counter) × (e.0.counter ≤ 1_000_000_000)
+AreCounted history = (e : StampValue × Body) → Has history e → (0 < e.0.counter) × (e.0.counter ≤ MAX_COUNTER)
 
 pub cut_nothing : (history : History Body) → AreCounted history → IsCut history []
 cut_nothing history counted = record {

@@ -2,9 +2,10 @@
 use Rattle.std.specs.Prelude.{count_by, is_some, cond, if◌then◌else◌, nat_le, nat_lt, not, ◌&&◌, ◌||◌, ◌==◌, Some, None, Result, Ok, Err}
 use Rattle.std.specs.List.{range_with_len}
 use Rattle.std.proofs.Common.{◌≡◌, ℕ, zero, suc, ◌+◌, ◌≤◌, ◌<◌, [], ◌∷◌, ◌++◌, Bool, true, false, refl, ap, inl, inr, arith}
-use Rattle.std.proofs.lemmas.Bool.{and_from, cases_Bool, both_ways, eq-eqb, le-leb, leb-true, or_right, ltb-true}
+use Rattle.std.proofs.lemmas.Bool.{and_from, cases_Bool, both_ways, eq-eqb, le-leb, or_right, le-ltb, lt-leb, or_from}
 use Rattle.fed_stamp.specs.Stamp.{StampValue}
 use Rattle.fed_stamp.specs.declared.versions.ClockFull.{ClockFull}
+use Rattle.fed_stamp.specs.declared.stamps.TheConstants.{MAX_COUNTER}
 use Rattle.fed_stamp.specs.Version.{counter_of, greatest, next_stamp}
 use Rattle.fed_lattice.specs.Sets.{Has}
 use Rattle.fed_lattice.specs.SetLaws.{Has-last, Has-push}
@@ -15,6 +16,7 @@ use Rattle.fed_model.specs.declared.askers.Who.{Who}
 use Rattle.fed_model.specs.declared.commands.Command.{Command}
 use Rattle.fed_model.specs.declared.refusals.Refusal.{Refusal}
 use Rattle.fed_model.specs.declared.replies.Reply.{Reply}
+use Rattle.fed_model.specs.declared.capacities.TheConstants.{MAX_RANGES}
 use Rattle.fed_model.specs.Body.{Body, Body.Submit, Body.Reserve, Body.Retire}
 use Rattle.fed_model.specs.Letter.{is_submitted}
 use Rattle.fed_model.specs.Lawful.{IsLawful}
@@ -24,7 +26,7 @@ use Rattle.fed_model.specs.View.{view}
 use Rattle.fed_model.specs.Answer.{Answer.Replies, answer, answer_to, answer_unless, replies, effect}
 use Rattle.fed_model.specs.Desk.{first_of}
 use Rattle.fed_model.specs.Refusals.{refusals, is_bad_range, is_clock_full, has_unsettled}
-use Rattle.fed_theory.proofs.OriginCounts.{first_counted, identifier}
+use Rattle.fed_theory.proofs.OriginCounts.{first_counted, identifier, bit_most}
 use Rattle.fed_theory.proofs.RetiredLaws.{retired_by}
 use Rattle.fed_theory.proofs.SubmitLaws.{submit_of, unretired, reserve_of, standing_whole}
 
@@ -36,10 +38,6 @@ none_counted p (suc n) a none =
     let head : ◌≡◌ {A = ℕ} (cond (p a) 1 0) 0 = ap (λ b. cond {A = ℕ} b 1 0) (none a (omega arith) (omega arith)) in
     omega (arith, first_counted p a n)
 
-at_most_one : (b : Bool) → cond b 1 0 ≤ 1
-at_most_one true = omega arith
-at_most_one false = omega arith
-
 module _ (ops : History Body) (l : IsLawful ops) (here : ℕ) where
   abbrev most : ℕ
   most = counter_of (version_of ops) here
@@ -49,7 +47,7 @@ module _ (ops : History Body) (l : IsLawful ops) (here : ℕ) where
   one_range =
       let p : ℕ → Bool = λ k. starts (λ id. is_retired ops id || is_within 1 most id.counter) (identifier here k) in
       let rest : count_by p (range_with_len 1 most) ≡ 0 = none_counted p most 1 inside in
-      let head = at_most_one (p 0) in omega (arith, first_counted p 0 most)
+      let head = bit_most (p 0) in omega (arith, first_counted p 0 most)
     where
       inside : (k : ℕ) → 1 ≤ k → k < 1 + most → starts (λ id. is_retired ops id || is_within 1 most id.counter) (identifier here k) ≡ false
       inside k low high =
@@ -57,32 +55,23 @@ module _ (ops : History Body) (l : IsLawful ops) (here : ℕ) where
           let r : (is_retired ops (identifier here k) || is_within 1 most k) ≡ true = or_right (is_retired ops (identifier here k)) (is_within 1 most k) w in
           ap (λ b. not b && (is_retired ops (identifier here (suc k)) || is_within 1 most (suc k))) r
 
-  not_above : (n m : ℕ) → m ≤ n → nat_lt n m ≡ false
-  not_above n m le = elim (cases_Bool (nat_lt n m)) [ inr e ↦ e | inl e ↦ absurd (let h = ltb-true n m e in omega arith) ]
-
-  not_below : (n : ℕ) → 1 ≤ n → nat_le n 0 ≡ false
-  not_below n le = elim (cases_Bool (nat_le n 0)) [ inr e ↦ e | inl e ↦ absurd (let h = leb-true n 0 e in omega arith) ]
-
-  or_both : (a b : Bool) → a ≡ false → b ≡ false → (a || b) ≡ false
-  or_both a b e f = grind (arith, e, f)
-
   -- where a stamp is left
   clock_left : (t : StampValue) → next_stamp (version_of ops) here ≡ Ok t → is_clock_full (view ops) ≡ false
-  clock_left t e = go (nat_lt (greatest (version_of ops)) 1_000_000_000) e
+  clock_left t e = go (nat_lt (greatest (version_of ops)) MAX_COUNTER) e
     where
       go : (b : Bool) → ◌≡◌ {A = Result StampValue ClockFull} (cond b (Ok (record { counter = greatest (version_of ops) + 1; site = here })) (Err (record {}))) (Ok t) → not b ≡ false
       go true f = refl
       go false f = cc
 
   -- a Retire that isn't refused
-  pub retire_done : (who : Who) (first last : ℕ) (t : StampValue) → next_stamp (version_of ops) here ≡ Ok t → 1 ≤ first → first ≤ last → last ≤ most → ranges_with (view ops) here first last ≤ 1_000 → has_unsettled (view ops) here first last ≡ false
+  pub retire_done : (who : Who) (first last : ℕ) (t : StampValue) → next_stamp (version_of ops) here ≡ Ok t → 1 ≤ first → first ≤ last → last ≤ most → ranges_with (view ops) here first last ≤ MAX_RANGES → has_unsettled (view ops) here first last ≡ false
       → answer ops here who (Command.Retire first last) ≡ Replies Reply.Done (Some (t, Retire first last))
   unfolding answer_to
   retire_done who first last t next low some high few settled =
-      let room : nat_lt 1_000 (ranges_with (view ops) here first last) ≡ false = not_above 1_000 (ranges_with (view ops) here first last) few in
-      let good : is_bad_range (view ops) here first last ≡ false = or_both (nat_le first 0) (nat_lt last first || nat_lt most last) (not_below first low) (or_both (nat_lt last first) (nat_lt most last) (not_above last first some) (not_above most last high)) in
+      let room : nat_lt MAX_RANGES (ranges_with (view ops) here first last) ≡ false = le-ltb MAX_RANGES (ranges_with (view ops) here first last) few in
+      let good : is_bad_range (view ops) here first last ≡ false = or_from (nat_le first 0) (nat_lt last first || nat_lt most last) (lt-leb first 0 (omega arith)) (or_from (nat_lt last first) (nat_lt most last) (le-ltb last first some) (le-ltb most last high)) in
       let clear : first_of (refusals (view ops) here who (Command.Retire first last)) ≡ None =
-      (λ i. if not (good i) && room i then Some Refusal.SiteFull else if clock_left t next i then Some Refusal.ClockFull else if or_both (is_bad_range (view ops) here first last) (has_unsettled (view ops) here first last) good settled i then Some Refusal.NotSettled else None) in
+      (λ i. if not (good i) && room i then Some Refusal.SiteFull else if clock_left t next i then Some Refusal.ClockFull else if or_from (is_bad_range (view ops) here first last) (has_unsettled (view ops) here first last) good settled i then Some Refusal.NotSettled else None) in
       (λ i. answer_unless (clear i) (replies (next i) (Command.Retire first last) (effect (view ops) who (Command.Retire first last))))
 
   -- the Retire of all is not refused

@@ -1,7 +1,6 @@
 -- Worked answers at the ends of the ranges, each computed by the definitions.
 use Rattle.std.proofs.Common.{◌≡◌, ℕ, [], ◌∷◌, ◌++◌, true, false, refl}
 use Rattle.std.specs.Prelude.{pos, ◌==◌, Some, None, replicate, if◌then◌else◌}
-use Rattle.fed_stamp.specs.Stamp.{StampValue}
 use Rattle.fed_lattice.specs.History.{History}
 use Rattle.fed_model.specs.declared.askers.Role.TheVariants as Role
 use Rattle.fed_model.specs.declared.askers.Who.{Who}
@@ -16,18 +15,13 @@ use Rattle.fed_model.specs.Letter.{any_below}
 use Rattle.fed_model.specs.View.{View, view}
 use Rattle.fed_model.specs.Answer.{Answer.Refuses, Answer.Replies, answer, answer_to}
 use Rattle.fed_model.specs.Packet.{missing}
-
-abbrev at : ℕ → ℕ → StampValue
-at counter site = record { counter = counter; site = site }
+use Rattle.fed_theory.proofs.Scenes.{at, job}
 
 abbrev ann : Who
 ann = record { user = 97 ∷ 110 ∷ 110 ∷ []; role = Role.Operator }
 
 abbrev values : JobValues
 values = record { name = 74 ∷ []; priority = pos 0; nodes = 1; limit = 3600; account = None; sites = true ∷ replicate 15 false }
-
-abbrev job : StampValue
-job = at 1 0
 
 abbrev submitted : History Body
 submitted = (job, Submit (97 ∷ 110 ∷ 110 ∷ []) values false) ∷ []

@@ -1,12 +1,13 @@
 -- The ranges between numbers that pass a test: what they leave out, and how many there are.
-use Rattle.std.specs.Prelude.{count_by, cond, filter, not, ◌&&◌, ◌||◌, ◌==◌, nat_le}
+use Rattle.std.specs.Prelude.{count_by, cond, not, ◌&&◌, ◌||◌, ◌==◌, nat_le}
 use Rattle.std.specs.List.{range_with_len, list_any}
 use Rattle.std.proofs.Common.{◌≡◌, ◌⊎◌, ℕ, zero, suc, ◌+◌, ◌-◌, ◌≤◌, ◌<◌, List, [], ◌∷◌, length, Bool, true, false, refl, sym, ap, subst, ◌∙◌, inl, inr, arith}
 use Rattle.std.proofs.lemmas.Bool.{cases_Bool, cases_eq, cases_lt, cond-true, cond-false, ne_eqb, or_parts, both_ways, and_parts, and_from, or_cases, or_right, leb-true, le-leb, not-true, eqb-true, eq-eqb}
+use Rattle.std.proofs.Math.Bool.{and-false}
 use Rattle.fed_lattice.specs.Sets.{Has}
 use Rattle.fed_lattice.specs.SetLaws.{any_from, found}
 use Rattle.fed_model.specs.Retired.{is_within}
-use Rattle.fed_theory.proofs.OriginCounts.{first_counted, fewer, one_more, longer}
+use Rattle.fed_theory.proofs.OriginCounts.{first_counted, fewer, one_more, longer, bit_more}
 
 -- ---- where one number passes that does no more
 one_less : (q p : ℕ → Bool) (c : ℕ) (n a : ℕ) → a ≤ c → c < a + n → p c ≡ true → q c ≡ false → ((k : ℕ) → q k ≡ true → p k ≡ true) → count_by q (range_with_len a n) + 1 ≤ count_by p (range_with_len a n)
@@ -19,13 +20,9 @@ one_less q p c (suc n) a low high there out more = elim (cases_eq a c) [
       omega (arith, first_counted q a n, first_counted p a n))
   | inr apart ↦ (
       let rest : count_by q (range_with_len (a + 1) n) + 1 ≤ count_by p (range_with_len (a + 1) n) = one_less q p c n (a + 1) (omega arith) (omega arith) there out more in
-      let head : cond (q a) 1 0 ≤ cond (p a) 1 0 = bit (q a) (p a) (more a) in
+      let head : cond (q a) 1 0 ≤ cond (p a) 1 0 = bit_more (q a) (p a) (more a) in
       omega (arith, first_counted q a n, first_counted p a n))
 ]
-  where
-    bit : (b c : Bool) → (b ≡ true → c ≡ true) → cond b 1 0 ≤ cond c 1 0
-    bit true c h = rw (h refl) (omega arith)
-    bit false c h = omega arith
 
 -- ---- sets of numbers, and where their ranges start
 abbrev pub start_in : (ℕ → Bool) → ℕ → Bool
@@ -55,7 +52,7 @@ start_below s a (suc d) out there = elim (cases_Bool (s (a + d))) [
 moved : (p q : ℕ → Bool) (a c n : ℕ) → c < n → p c ≡ true → q c ≡ false → ((k : ℕ) → q k ≡ true → (p k ≡ true) ⊎ (k ≡ a)) → count_by q (range_with_len 0 n) ≤ count_by p (range_with_len 0 n)
 moved p q a c n small there out old =
     let rest : ℕ → Bool = λ k. p k && not (k == c) in
-    let none : rest c ≡ false = ap (λ b. p c && not b) (eq-eqb c c refl) ∙ and_none (p c) in
+    let none : rest c ≡ false = ap (λ b. p c && not b) (eq-eqb c c refl) ∙ and-false (p c) in
     let fewer_then : count_by rest (range_with_len 0 n) + 1 ≤ count_by p (range_with_len 0 n) =
     one_less rest p c n 0 (omega arith) (omega arith) there none (λ k t. (and_parts (p k) (not (k == c)) t).0) in
     let more : count_by q (range_with_len 0 n) ≤ count_by rest (range_with_len 0 n) + 1 = one_more q rest a n 0 (λ k t. elim (old k t) [
@@ -66,10 +63,6 @@ moved p q a c n small there out old =
       ]
     ]) in
     omega arith
-  where
-    and_none : (b : Bool) → (b && false) ≡ false
-    and_none true = refl
-    and_none false = refl
 
 -- what starts with a range more
 starts_with : (s : ℕ → Bool) (a b k : ℕ) → start_in (with_range s (suc a, b)) k ≡ true → (start_in s k ≡ true) ⊎ (k ≡ a)
@@ -272,22 +265,6 @@ in_some_by ranges r k h e = any_from (λ r. is_within r.0 r.1 k) ranges r h e
 
 pub in_some_found : (ranges : List (ℕ × ℕ)) (k : ℕ) → in_some ranges k ≡ true → (r : ℕ × ℕ) × Has ranges r × (is_within r.0 r.1 k ≡ true)
 in_some_found ranges k e = found (λ r. is_within r.0 r.1 k) ranges e
-
--- a list in two parts
-pub parts_length : (p : ℕ × ℕ → Bool) (xs : List (ℕ × ℕ)) → length (filter p xs) + length (filter (λ x. not (p x)) xs) ≡ length xs
-parts_length p [] = omega arith
-parts_length p (x ∷ xs) = elim (cases_Bool (p x)) [
-  | inl t ↦ (
-      let rest = parts_length p xs in
-      let a : length (filter p (x ∷ xs)) ≡ suc (length (filter p xs)) = ap (λ b. length (cond b (x ∷ filter p xs) (filter p xs))) t in
-      let b : length (filter (λ x. not (p x)) (x ∷ xs)) ≡ length (filter (λ x. not (p x)) xs) = ap (λ b. length (cond (not b) (x ∷ filter (λ x. not (p x)) xs) (filter (λ x. not (p x)) xs))) t in
-      omega arith)
-  | inr f ↦ (
-      let rest = parts_length p xs in
-      let a : length (filter p (x ∷ xs)) ≡ length (filter p xs) = ap (λ b. length (cond b (x ∷ filter p xs) (filter p xs))) f in
-      let b : length (filter (λ x. not (p x)) (x ∷ xs)) ≡ suc (length (filter (λ x. not (p x)) xs)) = ap (λ b. length (cond (not b) (x ∷ filter (λ x. not (p x)) xs) (filter (λ x. not (p x)) xs))) f in
-      omega arith)
-]
 
 -- the ranges of a set that is made of gaps alone start behind 0 or behind what passes
 pub few_starts : (u s : ℕ → Bool) (m n : ℕ) → ((k : ℕ) → s (suc k) ≡ true → s k ≡ false → (k ≡ 0) ⊎ (u k ≡ true)) → count_by (start_in s) (range_with_len 0 n) ≤ count_by u (range_with_len 0 n) + 1

@@ -13,7 +13,7 @@ use Rattle.fed_theory.proofs.LawfulLaws.{grounded_more}
 use Rattle.fed_theory.proofs.ViewLaws.{one_each_push}
 
 -- the term of a grant in a lawful set is 1 or more
-term_positive : (ops : History Body) (l : IsLawful ops) (job s : StampValue) (site term : ℕ) → Has ops (s, OfJob job (Grant site term)) → 1 ≤ term
+pub term_positive : (ops : History Body) (l : IsLawful ops) (job s : StampValue) (site term : ℕ) → Has ops (s, OfJob job (Grant site term)) → 1 ≤ term
 term_positive ops l job s site term h = positive term (l.grounded (s, OfJob job (Grant site term)) h).1
   where
     positive : (n : ℕ) → IsNextTerm ops s job n → 1 ≤ n

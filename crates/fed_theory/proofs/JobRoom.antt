@@ -24,6 +24,7 @@ use Rattle.fed_model.specs.Exchange.{IsQuiet}
 use Rattle.fed_model.specs.declared.events.Event.{Event}
 use Rattle.fed_model.specs.declared.events.Event.TheVariants.{Do, Ship, Take}
 use Rattle.fed_model.specs.declared.outcomes.Outcome.TheVariants as Outcome
+use Rattle.fed_model.specs.declared.capacities.TheConstants.{MAX_JOBS}
 use Rattle.fed_model.specs.Run.{World, stays, does, step, run, with_operation}
 use Rattle.fed_theory.specs.Submits.{is_submit_at, submits_at}
 use Rattle.fed_theory.proofs.Cuts.{cut_lawful}
@@ -120,16 +121,16 @@ jobs_since n early (event ∷ late) site few =
     omega arith
 
 -- a Submit at a site that has fewer than 10,000 jobs
-pub submit_fits : (ops : History Body) (here : ℕ) (who : Who) (values : JobValues) (held : Bool) → jobs_of (view ops) here < 10_000 → answer ops here who (Command.Submit values held) ≡ Refuses Refusal.SiteFull → ⊥
+pub submit_fits : (ops : History Body) (here : ℕ) (who : Who) (values : JobValues) (held : Bool) → jobs_of (view ops) here < MAX_JOBS → answer ops here who (Command.Submit values held) ≡ Refuses Refusal.SiteFull → ⊥
 unfolding answer_to
-submit_fits ops here who values held room e = go (nat_le 10_000 (jobs_of (view ops) here)) refl (next_stamp (version_of ops) here) e
+submit_fits ops here who values held room e = go (nat_le MAX_JOBS (jobs_of (view ops) here)) refl (next_stamp (version_of ops) here) e
   where
-    go : (b : Bool) → nat_le 10_000 (jobs_of (view ops) here) ≡ b → (n : Result StampValue ClockFull) → answer_unless (if b then Some Refusal.SiteFull else None) (replies n (Command.Submit values held) (effect (view ops) who (Command.Submit values held))) ≡ Refuses Refusal.SiteFull → ⊥
-    go true at n f = let full = leb-true 10_000 (jobs_of (view ops) here) at in omega arith
+    go : (b : Bool) → nat_le MAX_JOBS (jobs_of (view ops) here) ≡ b → (n : Result StampValue ClockFull) → answer_unless (if b then Some Refusal.SiteFull else None) (replies n (Command.Submit values held) (effect (view ops) who (Command.Submit values held))) ≡ Refuses Refusal.SiteFull → ⊥
+    go true at n f = let full = leb-true MAX_JOBS (jobs_of (view ops) here) at in omega arith
     go false at (Ok t) f = cc
     go false at (Err full) f = let p : Refusal.ClockFull ≡ Refusal.SiteFull = cc in cc
 
-pub step_fits : (n : ℕ) (w : World) (site : ℕ) (who : Who) (values : JobValues) (held : Bool) → jobs_of (view (w.site site).set) site < 10_000 → (step n w (Do site who (Command.Submit values held))).outcome ≡ Outcome.Refused Refusal.SiteFull → ⊥
+pub step_fits : (n : ℕ) (w : World) (site : ℕ) (who : Who) (values : JobValues) (held : Bool) → jobs_of (view (w.site site).set) site < MAX_JOBS → (step n w (Do site who (Command.Submit values held))).outcome ≡ Outcome.Refused Refusal.SiteFull → ⊥
 step_fits n w site who values held room e = go (nat_lt site n) (answer (w.site site).set site who (Command.Submit values held)) refl e
   where
     go : (b : Bool) (said : Answer) → answer (w.site site).set site who (Command.Submit values held) ≡ said → (if b then does w site said else stays w Outcome.NoSite).outcome ≡ Outcome.Refused Refusal.SiteFull → ⊥
@@ -139,7 +140,7 @@ step_fits n w site who values held room e = go (nat_lt site n) (answer (w.site s
     go true (Refuses refusal) is f =
         let p : refusal ≡ Refusal.SiteFull = cc in submit_fits (w.site site).set site who values held room (is ∙ ap Refuses p)
 
-pub room_left : (n : ℕ) (early late : List Event) (site : ℕ) (who : Who) (values : JobValues) (held : Bool) → n ≤ 16 → jobs_of (view ((run n early).site site).set) site + submits_at site late < 10_000
+pub room_left : (n : ℕ) (early late : List Event) (site : ℕ) (who : Who) (values : JobValues) (held : Bool) → n ≤ 16 → jobs_of (view ((run n early).site site).set) site + submits_at site late < MAX_JOBS
     → (step n (run n (early ++ late)) (Do site who (Command.Submit values held))).outcome ≡ Outcome.Refused Refusal.SiteFull → ⊥
 room_left n early late site who values held few room e =
     let most = jobs_since n early late site few in step_fits n (run n (early ++ late)) site who values held (omega arith) e

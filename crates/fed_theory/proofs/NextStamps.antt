@@ -4,6 +4,7 @@ use Rattle.std.specs.Ordering.{ordering_then, nat_cmp, is_lt}
 use Rattle.std.proofs.Common.{◌≡◌, ℕ, ◌+◌, ◌≤◌, ◌<◌, ◌==◌, List, Bool, true, false, Ordering, refl, sym, ap, arith, inl, inr}
 use Rattle.std.proofs.lemmas.Bool.{lt-ltb, ltb-true, le-ltb, ne_eqb, cases_lt, cases_Bool}
 use Rattle.fed_stamp.specs.declared.versions.ClockFull.{ClockFull}
+use Rattle.fed_stamp.specs.declared.stamps.TheConstants.{MAX_COUNTER}
 use Rattle.fed_stamp.specs.Stamp.{StampValue}
 use Rattle.fed_stamp.specs.Version.{covers, greatest, next_stamp}
 use Rattle.fed_stamp.proofs.VersionLaws.{covered_counter_le_greatest}
@@ -18,16 +19,16 @@ pub record IsNext (v : List ℕ) (here : ℕ) (t : StampValue) : Type 0 where
   pub next : next_stamp v here ≡ Ok t
   pub counter : t.counter ≡ greatest v + 1
   pub site : t.site ≡ here
-  pub counted : t.counter ≤ 1_000_000_000
+  pub counted : t.counter ≤ MAX_COUNTER
 
 pub next_is : (v : List ℕ) (here : ℕ) (t : StampValue) → next_stamp v here ≡ Ok t → IsNext v here t
-next_is v here t e = go (nat_lt (greatest v) 1_000_000_000) refl e
+next_is v here t e = go (nat_lt (greatest v) MAX_COUNTER) refl e
   where
-    go : (b : Bool) → nat_lt (greatest v) 1_000_000_000 ≡ b → cond b (Ok (let s : StampValue = record { counter = greatest v + 1; site = here } in s)) (Err (let f : ClockFull = record {} in f)) ≡ Ok t → IsNext v here t
+    go : (b : Bool) → nat_lt (greatest v) MAX_COUNTER ≡ b → cond b (Ok (let s : StampValue = record { counter = greatest v + 1; site = here } in s)) (Err (let f : ClockFull = record {} in f)) ≡ Ok t → IsNext v here t
     go true q r =
         let p : (let s : StampValue = record { counter = greatest v + 1; site = here } in s) ≡ t = cc in
         let c : greatest v + 1 ≡ t.counter = ap (λ (s : StampValue). s.counter) p in
-        let l = ltb-true (greatest v) 1_000_000_000 q in
+        let l = ltb-true (greatest v) MAX_COUNTER q in
         record { next = e; counter = sym c; site = sym (ap (λ (s : StampValue). s.site) p); counted = omega arith }
     go false q r = cc
 

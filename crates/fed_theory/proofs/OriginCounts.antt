@@ -1,6 +1,7 @@
 -- How many jobs and reservations have an identifier that one site gave, as sets grow.
 use Rattle.std.specs.Prelude.{count_by, cond, is_some, not, nat_le, ◌&&◌, ◌||◌}
 use Rattle.std.specs.List.{range_with_len}
+use Rattle.std.specs.Cmp.{both_ways as both_truths}
 use Rattle.std.proofs.Common.{◌≡◌, ◌⊎◌, ℕ, zero, suc, ◌+◌, ◌≤◌, ◌<◌, [], ◌∷◌, ◌++◌, Bool, true, false, refl, sym, ap, subst, ◌∙◌, inl, inr, arith}
 use Rattle.std.proofs.lemmas.Bool.{cases_Bool, cases_eq, both_ways, and_parts, or_cases, leb-true, eq-eqb}
 use Rattle.std.proofs.lemmas.List.Sums.{sum_by-cons}
@@ -21,20 +22,15 @@ use Rattle.fed_model.specs.Retired.{is_within, retires, is_retired, following, s
 use Rattle.fed_model.specs.Origin.{jobs_of, ranges_of, ranges_with, reservations_of}
 
 -- ---- bits
-same_bits : (a b : Bool) → (a ≡ true → b ≡ true) → (b ≡ true → a ≡ true) → a ≡ b
-same_bits true b f g = sym (f refl)
-same_bits false true f g = g refl
-same_bits false false f g = refl
-
 or_none : (a b : Bool) → b ≡ false → (a || b) ≡ a
 or_none a b e = grind (arith, e)
 
 -- ---- counts over ranges
-bit_more : (b c : Bool) → (b ≡ true → c ≡ true) → cond b 1 0 ≤ cond c 1 0
+pub bit_more : (b c : Bool) → (b ≡ true → c ≡ true) → cond b 1 0 ≤ cond c 1 0
 bit_more true c h = rw (h refl) (omega arith)
 bit_more false c h = omega arith
 
-bit_most : (b : Bool) → cond b 1 0 ≤ 1
+pub bit_most : (b : Bool) → cond b 1 0 ≤ 1
 bit_most true = omega arith
 bit_most false = omega arith
 
@@ -184,7 +180,7 @@ pub record HasSameOwn (ops more : History Body) (site : ℕ) : Type 0 where
 
 module _ (ops more : History Body) (site : ℕ) (same : HasSameOwn ops more site) where
   own_retired : (id : StampValue) → id.site ≡ site → is_retired ops id ≡ is_retired more id
-  own_retired id at = same_bits (is_retired ops id) (is_retired more id)
+  own_retired id at = both_truths (is_retired ops id) (is_retired more id)
       (λ t. let f = retiring ops id t in retired_by more id f.0 (same.there f.0 f.1 ((retirement f.0 id f.2).site ∙ at)) f.2)
       (λ t. let f = retiring more id t in retired_by ops id f.0 (same.back f.0 f.1 ((retirement f.0 id f.2).site ∙ at)) f.2)
 

@@ -19,10 +19,6 @@ use Rattle.fed_theory.proofs.Runs.{either, put_same, run-append}
 abbrev pub Posts : ℕ → Packet → World → Type 0
 Posts k p w = packet w k ≡ Some p
 
-numbered : List Packet → ℕ → Option Packet
-numbered xs zero = None
-numbered xs (suc k) = slice_get xs k
-
 slice_more : (zs ys : List Packet) (i : ℕ) (p : Packet) → slice_get zs i ≡ Some p → slice_get (zs ++ ys) i ≡ Some p
 slice_more [] ys i p f = cc
 slice_more (z ∷ zs) ys zero p f = f

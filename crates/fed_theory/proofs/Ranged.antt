@@ -3,8 +3,9 @@ use Rattle.std.specs.Prelude.{if◌then◌else◌, not, is_some, IfSome, Result,
 use Rattle.std.proofs.Common.{◌≡◌, ◌≤◌, ◌+◌, ◌==◌, ℕ, Bool, true, false, Option, Some, None, refl, sym, ap, subst, ◌∙◌, inl, inr, arith}
 use Rattle.std.proofs.lemmas.Bool.{and_parts, or_parts, not-false, leb-false, ltb-false, cases_eq, both_ways, eq-eqb}
 use Rattle.std.proofs.lemmas.Option.{same_Some}
-use Rattle.fed_stamp.specs.declared.rosters.TheConstants.{MAX_NODES}
 use Rattle.fed_stamp.specs.declared.versions.ClockFull.{ClockFull}
+use Rattle.fed_stamp.specs.declared.stamps.TheConstants.{MAX_COUNTER}
+use Rattle.fed_stamp.specs.declared.rosters.TheConstants.{MAX_NODES}
 use Rattle.fed_stamp.specs.Stamp.{StampValue}
 use Rattle.fed_stamp.specs.Version.{next_stamp}
 use Rattle.fed_lattice.specs.Sets.{Has}
@@ -17,6 +18,8 @@ use Rattle.fed_model.specs.declared.limits.TheConstants.{MAX_LIMIT}
 use Rattle.fed_model.specs.declared.refusals.Refusal.{Refusal}
 use Rattle.fed_model.specs.declared.replies.Reply.{Reply}
 use Rattle.fed_model.specs.declared.windows.Window.{Window}
+use Rattle.fed_model.specs.declared.moments.TheConstants.{MAX_MOMENT}
+use Rattle.fed_model.specs.declared.terms.TheConstants.{MAX_TERM}
 use Rattle.fed_model.specs.Body.{Body, Body.Submit, Body.OfJob, Body.Reserve, JobBody.Set, JobBody.Grant, JobBody.HandBack, JobBody.Begin, is_of_job, of_job, Body.Retire}
 use Rattle.fed_model.specs.Field.{limit_in, nodes_in, field}
 use Rattle.fed_model.specs.JobView.{JobView, job_view}
@@ -81,9 +84,9 @@ window_ranged w site e =
     let b = or_parts _ _ a.1 in
     let c = or_parts _ _ b.1 in
     let later = leb-false w.end w.start a.0 in
-    let ends = ltb-false 1_000_000_000_000 w.end b.0 in
+    let ends = ltb-false MAX_MOMENT w.end b.0 in
     let some = not_zero w.nodes c.0 in
-    let few = ltb-false 1_000_000 w.nodes c.1 in
+    let few = ltb-false MAX_NODES w.nodes c.1 in
     (site, (omega arith, omega arith), (omega arith, omega arith), (omega arith, omega arith), omega arith)
 
 -- ---- what a command adds
@@ -95,11 +98,11 @@ unless_same : (b : Bool) (body new : Body) → (if b then None else Some body) �
 unless_same true body new e = cc
 unless_same false body new e = cc
 
-module _ (ops : History Body) (ranged : AreInRange ops) (here : ℕ) (who : Who) (s : StampValue) (counted : s.counter ≤ 1_000_000_000) where
+module _ (ops : History Body) (ranged : AreInRange ops) (here : ℕ) (who : Who) (s : StampValue) (counted : s.counter ≤ MAX_COUNTER) where
   whole : (job : StampValue) → not (is_submitted ((view ops).job job)) ≡ false → (view ops).job job ≡ job_view (of_job job ops)
   whole job e = read_whole ops job (unretired ops job (not-false _ e))
 
-  granted_term : (job : StampValue) (term : ℕ) → IsGrounded ops s (OfJob job (HandBack term)) → IsFrom 1 1_000_000_000 term
+  granted_term : (job : StampValue) (term : ℕ) → IsGrounded ops s (OfJob job (HandBack term)) → IsFrom 1 MAX_TERM term
   granted_term job term g = (ranged (g.1.0, OfJob job (Grant s.site term)) g.1.1.0).1
 
   returned_ranged : (job : StampValue) (new : Body) → IsAllowed ops s new → Some (OfJob job (HandBack (term_in ((view ops).job job).stages.grant))) ≡ Some new → IsInRange new
@@ -117,7 +120,7 @@ module _ (ops : History Body) (ranged : AreInRange ops) (here : ℕ) (who : Who)
   effect_ranged (Command.Grant job asker) new t r a e =
       let term : ℕ = term_in ((view ops).job job).stages.grant + 1 in
       let same : OfJob job (Grant asker term) ≡ new = unless_same _ (OfJob job (Grant asker term)) new e in
-      let most : term ≤ 1_000_000_000 = subst (IsWithin ops s) (sym same) a.limited in
+      let most : term ≤ MAX_TERM = subst (IsWithin ops s) (sym same) a.limited in
       subst IsInRange same (t, (omega arith, most))
   effect_ranged (Command.HandBack job) new t r a e = returned_ranged job new a e
   effect_ranged (Command.Decline job) new t r a e = returned_ranged job new a e

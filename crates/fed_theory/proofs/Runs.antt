@@ -4,6 +4,7 @@ use Rattle.std.specs.List.{range_with_len}
 use Rattle.std.proofs.Common.{◌≡◌, ℕ, zero, suc, ◌≤◌, ◌<◌, ◌==◌, List, [], ◌∷◌, ◌++◌, Bool, true, false, ◌&&◌, refl, sym, ap, subst, ◌∙◌, inl, inr, arith}
 use Rattle.std.proofs.lemmas.Bool.{cases_Bool, cond-true, eq-eqb, eqb-true, ltb-true, le-leb, and_parts, and_from, both_ways}
 use Rattle.std.proofs.Math.Nat.{le_trans}
+use Rattle.fed_stamp.specs.declared.stamps.TheConstants.{MAX_COUNTER}
 use Rattle.fed_stamp.specs.Indexes.{put}
 use Rattle.fed_stamp.specs.Stamp.{StampValue}
 use Rattle.fed_stamp.specs.Version.{counter_of, is_below, joined}
@@ -44,6 +45,7 @@ use Rattle.fed_theory.proofs.Room.{jobs_room, ranges_room, reservations_room}
 use Rattle.fed_model.specs.declared.events.Event.{Event}
 use Rattle.fed_model.specs.declared.events.Event.TheVariants.{Do, Ship, Take}
 use Rattle.fed_model.specs.declared.outcomes.Outcome.{Outcome}
+use Rattle.fed_model.specs.declared.capacities.TheConstants.{MAX_JOBS, MAX_RANGES, MAX_RESERVATIONS}
 use Rattle.fed_model.specs.Exchange.{IsQuiet}
 use Rattle.fed_model.specs.Run.{World, start, with_site, with_operation, packet, Step, stays, does, ships, receives, takes, step, run_from, run, outcomes_from, outcomes}
 use Rattle.fed_theory.proofs.Cuts.{AreCounted, IsCut, placed_more, version_more, cut_nothing, cut_union, cut_lawful}
@@ -85,10 +87,10 @@ pub record IsGood (history : History Body) (w : World) : Type 0 where
   pub own : (i : ℕ) → HasOwn history (w.site i).set i
   pub heard : (i from : ℕ) → is_below ((w.site i).heard from) (version_of (w.site from).set) ≡ true
   pub known : (i from : ℕ) → is_below ((w.site i).heard from) (version_of (w.site i).set) ≡ true
-  pub jobs : (i counter : ℕ) → jobs_of (view (made_upto i counter history)) i ≤ 10_000
-  pub ranges : (i counter : ℕ) → ranges_of (view (made_upto i counter history)) i ≤ 1_000
+  pub jobs : (i counter : ℕ) → jobs_of (view (made_upto i counter history)) i ≤ MAX_JOBS
+  pub ranges : (i counter : ℕ) → ranges_of (view (made_upto i counter history)) i ≤ MAX_RANGES
   pub closed : (e : StampValue × Body) (job : StampValue) → Has history e → retires job e ≡ true → HasSubmit history job → IsOver history job.site job
-  pub reservations : (i counter : ℕ) → reservations_of (view (made_upto i counter history)) i ≤ 1_000
+  pub reservations : (i counter : ℕ) → reservations_of (view (made_upto i counter history)) i ≤ MAX_RESERVATIONS
   pub cancelled : (e : StampValue × Body) (id : StampValue) → Has history e → retires id e ≡ true → HasReserve history id → (s : StampValue) × Has history (s, Cancel id)
   pub sent : (p : Packet) → Has w.packets p → IsSent history w p
 
@@ -108,27 +110,27 @@ nothing_lawful = record {
   begun_held = λ job s a h. absurd h;
 }
 
-no_jobs : (i : ℕ) → jobs_of (view []) i ≤ 10_000
+no_jobs : (i : ℕ) → jobs_of (view []) i ≤ MAX_JOBS
 no_jobs i =
     let none : History Body = [] in
     elim (version_of-origin none i) [
-      | inl z ↦ subst (λ n. count_by (λ counter. is_submitted ((view none).job (record { counter = counter; site = i }))) (range_with_len 0 (suc n)) ≤ 10_000) (sym z) (omega arith)
+      | inl z ↦ subst (λ n. count_by (λ counter. is_submitted ((view none).job (record { counter = counter; site = i }))) (range_with_len 0 (suc n)) ≤ MAX_JOBS) (sym z) (omega arith)
       | inr o ↦ absurd o.1
     ]
 
-no_ranges : (i : ℕ) → ranges_of (view []) i ≤ 1_000
+no_ranges : (i : ℕ) → ranges_of (view []) i ≤ MAX_RANGES
 no_ranges i =
     let none : History Body = [] in
     elim (version_of-origin none i) [
-      | inl z ↦ subst (λ n. count_by (λ counter. starts (is_retired none) (record { counter = counter; site = i })) (range_with_len 0 (suc n)) ≤ 1_000) (sym z) (omega arith)
+      | inl z ↦ subst (λ n. count_by (λ counter. starts (is_retired none) (record { counter = counter; site = i })) (range_with_len 0 (suc n)) ≤ MAX_RANGES) (sym z) (omega arith)
       | inr o ↦ absurd o.1
     ]
 
-no_reservations : (i : ℕ) → reservations_of (view []) i ≤ 1_000
+no_reservations : (i : ℕ) → reservations_of (view []) i ≤ MAX_RESERVATIONS
 no_reservations i =
     let none : History Body = [] in
     elim (version_of-origin none i) [
-      | inl z ↦ subst (λ n. count_by (λ counter. is_some ((view none).reservation (record { counter = counter; site = i }))) (range_with_len 0 (suc n)) ≤ 1_000) (sym z) (omega arith)
+      | inl z ↦ subst (λ n. count_by (λ counter. is_some ((view none).reservation (record { counter = counter; site = i }))) (range_with_len 0 (suc n)) ≤ MAX_RESERVATIONS) (sym z) (omega arith)
       | inr o ↦ absurd o.1
     ]
 
@@ -172,13 +174,13 @@ module _ (history : History Body) (l : IsLawful history) where
   cut_own : (ops : History Body) → IsCut history ops → (site : ℕ) → HasSameOwn ops (made_upto site (counter_of (version_of ops) site) history) site
   cut_own ops cut site = whole_own history ops (λ e h. l.sites e (cut.within e h)) cut.within cut.whole site
 
-  pub cut_jobs : ((i counter : ℕ) → jobs_of (view (made_upto i counter history)) i ≤ 10_000) → (ops : History Body) → IsCut history ops → (site : ℕ) → jobs_of (view ops) site ≤ 10_000
+  pub cut_jobs : ((i counter : ℕ) → jobs_of (view (made_upto i counter history)) i ≤ MAX_JOBS) → (ops : History Body) → IsCut history ops → (site : ℕ) → jobs_of (view ops) site ≤ MAX_JOBS
   cut_jobs few ops cut site =
       let counter : ℕ = counter_of (version_of ops) site in
       let least = own_jobs ops (made_upto site counter history) site (cut_own ops cut site) (upto_countable site counter) in
       let most = few site counter in omega arith
 
-  pub cut_ranges : ((i counter : ℕ) → ranges_of (view (made_upto i counter history)) i ≤ 1_000) → (ops : History Body) → IsCut history ops → (site : ℕ) → ranges_of (view ops) site ≤ 1_000
+  pub cut_ranges : ((i counter : ℕ) → ranges_of (view (made_upto i counter history)) i ≤ MAX_RANGES) → (ops : History Body) → IsCut history ops → (site : ℕ) → ranges_of (view ops) site ≤ MAX_RANGES
   cut_ranges few ops cut site =
       let counter : ℕ = counter_of (version_of ops) site in
       let least = own_ranges ops (made_upto site counter history) site (cut_own ops cut site) (upto_countable site counter) in
@@ -205,7 +207,7 @@ module _ (history : History Body) (l : IsLawful history) where
           (g.0, upto_own site counter history (identifier site k, Reserve g.0) r refl (omega arith))
       go t _ h at low of g = cc
 
-  pub cut_reservations : ((i counter : ℕ) → reservations_of (view (made_upto i counter history)) i ≤ 1_000) → (ops : History Body) → IsCut history ops → (site : ℕ) → reservations_of (view ops) site ≤ 1_000
+  pub cut_reservations : ((i counter : ℕ) → reservations_of (view (made_upto i counter history)) i ≤ MAX_RESERVATIONS) → (ops : History Body) → IsCut history ops → (site : ℕ) → reservations_of (view ops) site ≤ MAX_RESERVATIONS
   cut_reservations few ops cut site =
       let counter : ℕ = counter_of (version_of ops) site in
       let least = own_reservations ops (made_upto site counter history) site (cut_own ops cut site) (upto_countable site counter) (lawful_reserves ops (cut_lawful history ops l cut) site) (upto_reserves site counter) in
@@ -410,7 +412,7 @@ module _ (w : World) (here : ℕ) (small : here < 16) (history : History Body) (
     lawful = lawful_more history (w.site here).set here new good.lawful good.counted placed (good.cuts here) (good.own here) next allowed small;
     counted = λ e h. elim (Has-push history new e h) [
       | inl k ↦ good.counted e k
-      | inr q ↦ subst (λ (x : StampValue × Body). (0 < x.0.counter) × (x.0.counter ≤ 1_000_000_000)) q (let c = next.counter in (omega arith, next.counted))
+      | inr q ↦ subst (λ (x : StampValue × Body). (0 < x.0.counter) × (x.0.counter ≤ MAX_COUNTER)) q (let c = next.counter in (omega arith, next.counted))
     ];
     cuts = put_cases (λ j s. IsCut (history ++ new ∷ []) s.set) w.site here (with_operation (w.site here) new)
         (cut_more history (w.site here).set here new good.lawful good.counted placed (good.cuts here) (good.own here) next allowed)
@@ -425,16 +427,16 @@ module _ (w : World) (here : ℕ) (small : here < 16) (history : History Body) (
           let few = own_jobs (made_upto i counter (history ++ new ∷ [])) ((w.site here).set ++ new ∷ []) i (added_own i counter own) (lawful_countable ((w.site here).set ++ new ∷ []) new_lawful) in
           let most = jobs_room (w.site here).set new old_lawful new_lawful allowed.limited (cut_jobs history good.lawful good.jobs (w.site here).set (good.cuts here) new.0.site) in
           let at : i ≡ new.0.site = own_site i counter own in
-          let here_most : jobs_of (view ((w.site here).set ++ new ∷ [])) i ≤ 10_000 = subst (λ n. jobs_of (view ((w.site here).set ++ new ∷ [])) n ≤ 10_000) (sym at) most in omega arith)
-      | inr apart ↦ subst (λ l. jobs_of (view l) i ≤ 10_000) (sym (upto_kept i counter history new apart)) (good.jobs i counter)
+          let here_most : jobs_of (view ((w.site here).set ++ new ∷ [])) i ≤ MAX_JOBS = subst (λ n. jobs_of (view ((w.site here).set ++ new ∷ [])) n ≤ MAX_JOBS) (sym at) most in omega arith)
+      | inr apart ↦ subst (λ l. jobs_of (view l) i ≤ MAX_JOBS) (sym (upto_kept i counter history new apart)) (good.jobs i counter)
     ];
     ranges = λ i counter. elim (cases_Bool (is_own i counter new)) [
       | inl own ↦ (
           let few = own_ranges (made_upto i counter (history ++ new ∷ [])) ((w.site here).set ++ new ∷ []) i (added_own i counter own) (lawful_countable ((w.site here).set ++ new ∷ []) new_lawful) in
           let most = ranges_room (w.site here).set new old_lawful new_lawful allowed.limited (cut_ranges history good.lawful good.ranges (w.site here).set (good.cuts here) new.0.site) in
           let at : i ≡ new.0.site = own_site i counter own in
-          let here_most : ranges_of (view ((w.site here).set ++ new ∷ [])) i ≤ 1_000 = subst (λ n. ranges_of (view ((w.site here).set ++ new ∷ [])) n ≤ 1_000) (sym at) most in omega arith)
-      | inr apart ↦ subst (λ l. ranges_of (view l) i ≤ 1_000) (sym (upto_kept i counter history new apart)) (good.ranges i counter)
+          let here_most : ranges_of (view ((w.site here).set ++ new ∷ [])) i ≤ MAX_RANGES = subst (λ n. ranges_of (view ((w.site here).set ++ new ∷ [])) n ≤ MAX_RANGES) (sym at) most in omega arith)
+      | inr apart ↦ subst (λ l. ranges_of (view l) i ≤ MAX_RANGES) (sym (upto_kept i counter history new apart)) (good.ranges i counter)
     ];
     closed = still_closed;
     reservations = λ i counter. elim (cases_Bool (is_own i counter new)) [
@@ -442,8 +444,8 @@ module _ (w : World) (here : ℕ) (small : here < 16) (history : History Body) (
           let few = own_reservations (made_upto i counter (history ++ new ∷ [])) ((w.site here).set ++ new ∷ []) i (added_own i counter own) (lawful_countable ((w.site here).set ++ new ∷ []) new_lawful) (upto_reserves (history ++ new ∷ []) all_lawful i counter) (lawful_reserves ((w.site here).set ++ new ∷ []) new_lawful i) in
           let most = reservations_room (w.site here).set new old_lawful new_lawful allowed.limited (cut_reservations history good.lawful good.reservations (w.site here).set (good.cuts here) new.0.site) in
           let at : i ≡ new.0.site = own_site i counter own in
-          let here_most : reservations_of (view ((w.site here).set ++ new ∷ [])) i ≤ 1_000 = subst (λ n. reservations_of (view ((w.site here).set ++ new ∷ [])) n ≤ 1_000) (sym at) most in omega arith)
-      | inr apart ↦ subst (λ l. reservations_of (view l) i ≤ 1_000) (sym (upto_kept i counter history new apart)) (good.reservations i counter)
+          let here_most : reservations_of (view ((w.site here).set ++ new ∷ [])) i ≤ MAX_RESERVATIONS = subst (λ n. reservations_of (view ((w.site here).set ++ new ∷ [])) n ≤ MAX_RESERVATIONS) (sym at) most in omega arith)
+      | inr apart ↦ subst (λ l. reservations_of (view l) i ≤ MAX_RESERVATIONS) (sym (upto_kept i counter history new apart)) (good.reservations i counter)
     ];
     cancelled = still_cancelled;
     heard = put_cases (λ j (s : Site). (from : ℕ) → is_below (s.heard from) (version_of (after.site from).set) ≡ true) w.site here (with_operation (w.site here) new)
@@ -506,19 +508,8 @@ module _ (w : World) (here : ℕ) (p : Packet) (history : History Body) (good : 
   both : History Body
   both = (w.site here).set ++ p.gives
 
-  both_cut : IsCut history both
-  unfolding both
-  both_cut = cut_union history (w.site here).set p.gives (good.cuts here) s.cut
-
-  both_lawful : IsLawful both
-  both_lawful = cut_lawful history both good.lawful both_cut
-
   mine_lawful : IsLawful (w.site here).set
   mine_lawful = cut_lawful history (w.site here).set good.lawful (good.cuts here)
-
-  -- of what was made here nothing comes back
-  had : (e : StampValue × Body) → Has both e → e.0.site ≡ here → Has (w.site here).set e
-  had e h at = good.own here e (both_cut.within e h) at
 
   mine_below : (from : ℕ) → is_below ((w.site here).heard from) (version_of both) ≡ true
   unfolding both
