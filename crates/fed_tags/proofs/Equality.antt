@@ -10,6 +10,7 @@ use Rattle.std.proofs.lemmas.Cmp.{tied_itself}
 use Rattle.std.proofs.lemmas.Map.Lookups.{CmpEqualImpliesEq}
 use Rattle.std.proofs.lemmas.Map.Views.{tells_apart, IfSome-lookup_from_All}
 use Rattle.std.proofs.lemmas.Slice.Eq.{slice_eq-Decides}
+use Rattle.std.proofs.lemmas.Bool.Decides.{same_from_decides}
 use Rattle.fed_stamp.specs.Stamp.{StampValue, same_stamp}
 use Rattle.fed_stamp.proofs.StampLaws.{same_stamp-Decides}
 use Rattle.fed_lattice.specs.Table.{IsTable}
@@ -18,12 +19,6 @@ use Rattle.fed_tags.specs.Tags.{pair_cmp, tags_of}
 use Rattle.fed_tags.specs.TagLaws.{pair_total, exact_pair}
 use Rattle.fed_tags.specs.Groups.{pairs, IsGroup}
 use Rattle.fed_tags.proofs.GroupLaws.{tags_pairs}
-
--- two tests of one fact answer alike
-same_answers : {P : Type 0} (a b : Bool) → Decides a P → Decides b P → a ≡ b
-same_answers true b p q = sym (q.1 (p.0 refl))
-same_answers false true p q = let k : false ≡ true = p.1 (q.0 refl) in k
-same_answers false false p q = refl
 
 both_decide : (a b : Bool) {P Q R : Type 0} → Decides a P → Decides b Q → (P → Q → R) → (R → P × Q) → Decides (a && b) R
 both_decide true true p q f g = (λ _. f (p.0 refl) (q.0 refl), λ _. refl)
@@ -68,5 +63,5 @@ module _ {T : Type 0} (cmp : T → T → Ordering) (o : IsTotalOrder cmp) (exact
   )
 
   pub by_pairs : (xs ys : List (T × StampValue)) (r : Bool) → Decides r (xs ≡ ys) → r ≡ pointwise (eq_by_cmp (pair_cmp cmp)) xs ys
-  by_pairs xs ys r d = same_answers r (pointwise (eq_by_cmp (pair_cmp cmp)) xs ys) d
+  by_pairs xs ys r d = same_from_decides r (pointwise (eq_by_cmp (pair_cmp cmp)) xs ys) d
       (slice_eq-Decides (order_decides (pair_cmp cmp) (pair_total cmp o) (exact_pair cmp exact)) xs ys (pointwise (eq_by_cmp (pair_cmp cmp)) xs ys) refl)

@@ -17,7 +17,8 @@ use Rattle.std.proofs.lemmas.Map.Keys.{IsDistinct-from_sorted, sorted_tail}
 use Rattle.std.proofs.lemmas.Map.Lookups.{CmpEqualImpliesEq}
 use Rattle.std.proofs.lemmas.Map.Views.{tells_apart, IfSome-lookup_from_All, All-map-remove_entry}
 use Rattle.std.proofs.lemmas.List.Kept.{IsStrictlySortedBy-filter}
-use Rattle.std.proofs.Math.Bool.{and-false, and-true, or-false}
+use Rattle.std.proofs.Math.Bool.{and-false, and-true, or-false, and-or_distrib_left}
+use Rattle.std.proofs.Permutation.{every_append}
 use Rattle.fed_lattice.specs.Sets.{Has}
 use Rattle.fed_lattice.specs.SetLaws.{found, any_from}
 use Rattle.fed_lattice.specs.TableJoinLaws.{well_formed_insert}
@@ -33,20 +34,10 @@ use Rattle.fed_tags.specs.Tags.{pair_cmp, has, without, tags_of, IsElement}
 use Rattle.fed_tags.specs.TagLaws.{pair_total, exact_pair, any_filtered, has_without, sorted_without, member, has_member}
 use Rattle.fed_tags.specs.Groups.{tagged, pairs, IsGroup}
 
--- ---- tests
-and_or_same : (a b c : Bool) → ((a && b) || (a && c)) ≡ (a && (b || c))
-and_or_same true b c = refl
-and_or_same false b c = refl
-
 -- whether an element's stamps, if it is there, have the stamp
 abbrev pub holds : Option (List StampValue) → StampValue → Bool
 holds None s = false
 holds (Some ss) s = list_any (eq_by_cmp stamp_cmp s) ss
-
-module _ {T : Type 0} where
-  all_append : (P : T × StampValue → Type 0) (xs ys : List (T × StampValue)) → AllByRecursion P xs → AllByRecursion P ys → AllByRecursion P (xs ++ ys)
-  all_append P [] ys a b = b
-  all_append P (x ∷ xs) ys a b = (a.0, all_append P xs ys a.1 b)
 
 -- ---- that pairs ascend
 module _ {T : Type 0} (cmp : T → T → Ordering) (o : IsTotalOrder cmp) where
@@ -56,7 +47,7 @@ module _ {T : Type 0} (cmp : T → T → Ordering) (o : IsTotalOrder cmp) where
 
   all_pairs : (k : T) (es : List (T × List StampValue)) → AllByRecursion (λ y. cmp k y ≡ Less) (keys_of es) → AllByRecursion (λ (q : T × StampValue). cmp k q.0 ≡ Less) (pairs es)
   all_pairs k [] a = tt
-  all_pairs k (e ∷ es) a = all_append (λ (q : T × StampValue). cmp k q.0 ≡ Less) (tagged e.0 e.1) (pairs es) (all_tagged k e.0 e.1 a.0) (all_pairs k es a.1)
+  all_pairs k (e ∷ es) a = every_append (λ (q : T × StampValue). cmp k q.0 ≡ Less) (tagged e.0 e.1) (pairs es) (all_tagged k e.0 e.1 a.0) (all_pairs k es a.1)
 
   below_rest : (k : T) (s : StampValue) (rest : List (T × StampValue)) → AllByRecursion (λ (q : T × StampValue). cmp k q.0 ≡ Less) rest → AllByRecursion (λ q. pair_cmp cmp (k, s) q ≡ Less) rest
   below_rest k s [] a = tt
@@ -89,7 +80,7 @@ module _ {T : Type 0} (cmp : T → T → Ordering) (o : IsTotalOrder cmp) where
   has_tagged k [] q = sym (and-false (is_eq (cmp q.0 k)))
   has_tagged k (s ∷ ss) q =
       ap₂ (λ a b. a || b) (sym (tied_then (cmp q.0 k) (stamp_cmp q.1 s))) (has_tagged k ss q)
-      ∙ and_or_same (is_eq (cmp q.0 k)) (is_eq (stamp_cmp q.1 s)) (list_any (eq_by_cmp stamp_cmp q.1) ss)
+      ∙ sym (and-or_distrib_left (is_eq (cmp q.0 k)) (is_eq (stamp_cmp q.1 s)) (list_any (eq_by_cmp stamp_cmp q.1) ss))
 
   has_step : (b : Bool) (ss : List StampValue) (r : Option (List StampValue)) (s : StampValue) → (b ≡ true → r ≡ None) → ((b && list_any (eq_by_cmp stamp_cmp s) ss) || holds r s) ≡ holds (cond b (Some ss) r) s
   has_step true ss r s n = ap (λ x. list_any (eq_by_cmp stamp_cmp s) ss || holds x s) (n refl) ∙ or-false (list_any (eq_by_cmp stamp_cmp s) ss)

@@ -7,7 +7,7 @@ use Rattle.std.specs.Map.{keys_of, lookup, remove_entry, set_value}
 use Rattle.std.specs.Ordering.{is_eq, is_lt, ordering_reverse, ordering_index, match_ordering}
 use Rattle.std.proofs.Common.{◌≡◌, ℕ, zero, suc, ◌+◌, ◌<◌, ◌≤◌, List, [], ◌∷◌, true, false, length, get_or, slice_set, Some, None, is_some, Result, Ok, Err, is_ok, IfOk, IfErr, Ordering, Less, Equal, Greater, refl, sym, ap, ap₂, subst, ◌∙◌, arith}
 use Rattle.std.proofs.lemmas.List.Sorted.{searchable_from_sorted}
-use Rattle.std.proofs.lemmas.Map.Entries.{lookup_head, lookup_tail}
+use Rattle.std.proofs.lemmas.Map.Entries.{lookup_head, lookup_tail, length-keys_of}
 use Rattle.std.proofs.lemmas.Map.Keys.{Less-from_sorted}
 use Rattle.std.proofs.lemmas.Map.Lookups.{CmpEqualImpliesEq}
 use Rattle.fed_stamp.specs.Stamp.{StampValue}
@@ -24,10 +24,6 @@ module _ {T X : Type 0} (cmp : T → T → Ordering) (o : IsTotalOrder cmp) wher
   key_at (e ∷ es) zero d = refl
   key_at (e ∷ es) (suc i) d = key_at es i d
 
-  length_keys : (es : List (T × X)) → length (keys_of es) ≡ length es
-  length_keys [] = refl
-  length_keys (e ∷ es) = ap suc (length_keys es)
-
   -- what holds of all keys holds of that at a place
   of_key : (P : T → Type 0) (es : List (T × X)) (i : ℕ) (d : T × X) → i < length es → AllByRecursion P (keys_of es) → P (get_or es i d).0
   of_key P [] i d l a = absurd (omega arith)
@@ -37,7 +33,7 @@ module _ {T X : Type 0} (cmp : T → T → Ordering) (o : IsTotalOrder cmp) wher
   -- entries whose keys ascend may be searched
   rises : (es : List (T × X)) (t : T) → IsStrictlySortedBy cmp (keys_of es) → IsNonDecreasingBy (λ (e : T × X). ordering_index (cmp e.0 t)) es
   rises es t s = searchable_from_sorted o (λ (e : T × X). e.0) es t (λ i d l h.
-      let n : length (keys_of es) ≡ length es = length_keys es in
+      let n : length (keys_of es) ≡ length es = length-keys_of es in
       let k : cmp (get_or (keys_of es) i d.0) (get_or (keys_of es) (i + 1) d.0) ≡ Less = Less-from_sorted cmp (keys_of es) i (i + 1) d.0 s (omega arith) (omega arith) in
       ap is_lt (turned cmp o _ _ Less (sym (ap₂ cmp (key_at es i d) (key_at es (i + 1) d)) ∙ k)))
 

@@ -4,18 +4,19 @@ use Rattle.std.specs.Cmp.{IsTotalOrder}
 use Rattle.std.specs.List.Sorted.{IsStrictlySortedBy}
 use Rattle.std.specs.Ordering.{is_eq, is_ge}
 use Rattle.std.proofs.Common.{◌≡◌, ◌↔◌, ℕ, zero, suc, ◌+◌, ◌-◌, ◌<◌, ◌≤◌, Ordering, Less, Equal, Greater, List, [], ◌∷◌, ◌++◌, Bool, true, false, cond, not, ◌||◌, ◌&&◌, length, get_or, drop, filter, append_assoc, arith, refl, sym, ap, ap₂, subst, ◌∙◌, inl, inr}
-use Rattle.std.proofs.lemmas.Bool.{cases_Bool, cases_lt}
-use Rattle.std.proofs.lemmas.List.{drop_more, get_or_default}
+use Rattle.std.proofs.lemmas.Bool.{cases_Bool, cases_lt, not-true, or_right}
+use Rattle.std.proofs.lemmas.List.{get_or_default}
 use Rattle.std.proofs.lemmas.Map.Keys.{Less-from_sorted, sorted_from_all_adjacent}
 use Rattle.std.proofs.lemmas.Map.Lookups.{CmpEqualImpliesEq}
 use Rattle.std.proofs.lemmas.Map.Views.{tells_apart}
-use Rattle.std.proofs.Math.Bool.{or-false}
+use Rattle.std.proofs.Math.Bool.{or-false, or-true}
 use Rattle.fed_stamp.specs.Stamp.{StampValue}
 use Rattle.fed_stamp.specs.Version.{covers}
 use Rattle.fed_lattice.specs.Sets.{Has}
 use Rattle.fed_tags.specs.Tags.{has, inserted, stamped, without, lacking, kept, joined_tags}
 use Rattle.fed_tags.specs.TagLaws.{sorted_empty, sorted_inserted, sorted_without, sorted_joined, has_inserted, has_without, has_filtered, has_joined, member, has_member, stamped_at}
 use Rattle.fed_lattice.specs.KeySetLaws.{same_sets}
+use Rattle.fed_lattice.proofs.FilterLaws.{Has-filter}
 
 -- ---- lists
 module _ {X : Type 0} where
@@ -26,20 +27,6 @@ module _ {X : Type 0} where
     step true true c i j k e r = rw i (rw j (rw (sym e ∙ ap₂ (λ p q. p && q) i j) (ap (λ l. x ∷ l) r)))
     step true false c i j k e r = rw i (rw j (rw (sym e ∙ ap₂ (λ p q. p && q) i j) r))
     step false b c i j k e r = rw i (rw (sym e ∙ ap (λ p. p && f x) i) r)
-
-  Has-filter : (p : X → Bool) (xs : List X) (x : X) → Has (filter p xs) x → Has xs x × (p x ≡ true)
-  Has-filter p [] x h = absurd h
-  Has-filter p (y ∷ xs) x h = by_test (p y) refl h (Has-filter p xs x) where
-    by_test : (b : Bool) → p y ≡ b → Has (cond (p y) (y ∷ filter p xs) (filter p xs)) x → (Has (filter p xs) x → Has xs x × (p x ≡ true)) → (Has (y ∷ xs) x) × (p x ≡ true)
-    by_test true e k rest = elim (let m : Has (y ∷ filter p xs) x = rw e at k in m) [
-      | inl i ↦ (inl i, ap p (sym i) ∙ e)
-      | inr j ↦ (let r = rest j in (inr r.0, r.1))
-    ]
-    by_test false e k rest = let m : Has (filter p xs) x = rw e at k in let r = rest m in (inr r.0, r.1)
-
-  -- the element at an index, and what is left after it
-  pub drop_item : (xs : List X) (i : ℕ) (x : X) → i < length xs → x ≡ get_or xs i x → drop i xs ≡ x ∷ drop (i + 1) xs
-  drop_item xs i x l e = drop_more xs i x l ∙ ap (λ (y : X). y ∷ drop (i + 1) xs) (sym e)
 
 -- each element below the index is below the next
 abbrev pub AscendsBelow : {K : Type 0} → (K → K → Ordering) → List K → ℕ → Type 0
@@ -115,23 +102,16 @@ module _ {T : Type 0} (R : T × StampValue → T × StampValue → Ordering) (o 
   lacking_skip xs s ts rest before all t inv e n =
       ap (λ l. before ++ l) (sym (ap (lacking R xs s) e ∙ ap (λ b. cond (not b) (t ∷ lacking R xs s rest) (lacking R xs s rest)) n)) ∙ inv
 
-  not_true : (b : Bool) → not b ≡ true → b ≡ false
-  not_true true e = cc
-  not_true false e = refl
-
   lacking_apart : (xs : List (T × StampValue)) (s : StampValue) (ts : List T) (q : T × StampValue) → has R (stamped s (lacking R xs s ts)) q ≡ true → has R xs q ≡ false
   lacking_apart xs s ts q e =
       let m : Has (lacking R xs s ts) q.0 × (q.1 ≡ s) = stamped_at R o exact s (lacking R xs s ts) q (member R o exact q _ e) in
-      let t : has R xs (q.0, s) ≡ false = not_true (has R xs (q.0, s)) (Has-filter (λ t. not (has R xs (t, s))) ts q.0 m.0).1 in
+      let t : has R xs (q.0, s) ≡ false = not-true (has R xs (q.0, s)) (Has-filter (λ t. not (has R xs (t, s))) ts q.0 m.0).1 in
       subst (λ (u : StampValue). has R xs (q.0, u) ≡ false) (sym m.1) t
 
   lacking_bits : (a b : Bool) (t : T) (rest more : List T) (s : StampValue) (q : T × StampValue) → (is_eq (R q (t, s)) ≡ true → a ≡ true → b ≡ true) → (has R (stamped s rest) q || b) ≡ (has R (stamped s more) q || b) → (has R (stamped s (cond (not a) (t ∷ rest) rest)) q || b) ≡ (has R (stamped s (t ∷ more)) q || b)
   lacking_bits true b t rest more s q f e = e ∙ absorbed (is_eq (R q (t, s))) (has R (stamped s more) q) b (λ i. f i refl) where
     absorbed : (x y b : Bool) → (x ≡ true → b ≡ true) → (y || b) ≡ ((x || y) || b)
-    absorbed true y b f = ap (λ z. y || z) (f refl) ∙ or_true y where
-      or_true : (y : Bool) → (y || true) ≡ true
-      or_true true = refl
-      or_true false = refl
+    absorbed true y b f = ap (λ z. y || z) (f refl) ∙ or-true y
     absorbed false y b f = refl
   lacking_bits false b t rest more s q f e = regroup (is_eq (R q (t, s))) (has R (stamped s rest) q) (has R (stamped s more) q) b e where
     regroup : (x y z b : Bool) → (y || b) ≡ (z || b) → ((x || y) || b) ≡ ((x || z) || b)
@@ -151,10 +131,7 @@ module _ {T : Type 0} (R : T × StampValue → T × StampValue → Ordering) (o 
   has_drop : (s : StampValue) (i : ℕ) (ts : List T) (q : T × StampValue) → has R (stamped s (drop i ts)) q ≡ true → has R (stamped s ts) q ≡ true
   has_drop s zero ts q e = e
   has_drop s (suc i) [] q e = e
-  has_drop s (suc i) (t ∷ ts) q e = or_right (is_eq (R q (t, s))) (has R (stamped s ts) q) (has_drop s i ts q e) where
-    or_right : (a b : Bool) → b ≡ true → (a || b) ≡ true
-    or_right true b e = refl
-    or_right false b e = e
+  has_drop s (suc i) (t ∷ ts) q e = or_right (is_eq (R q (t, s))) (has R (stamped s ts) q) (has_drop s i ts q e)
 
   undo_bits : (d a f b : Bool) → (d || a) ≡ (f || b) → (d ≡ true → f ≡ true) → (f ≡ true → b ≡ false) → (a && not f) ≡ b
   undo_bits d true true b e p n = sym (n refl)

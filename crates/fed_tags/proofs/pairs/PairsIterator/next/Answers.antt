@@ -1,13 +1,10 @@
-use Rattle.std.proofs.Common.{sym, subst, ◌∙◌, ◌≡◌, ◌∷◌, All, List, [], length, refl, arith}
+use Rattle.std.proofs.Common.{sym, subst, ◌∙◌, All}
 use Rattle.std.specs.Map.{values_of}
 use Rattle.std.proofs.lemmas.List.Elements.{All-head}
+use Rattle.std.proofs.lemmas.List.{nil_from_length}
 use Rattle.fed_tags.specs.Groups.{IsGroup}
 use Rattle.fed_tags.proofs.GroupLaws.{groups_rest}
 use Rattle.fed_tags.proofs.pairs.PairsIterator.next.Goals as goal
-
-nil_from_length : {X : Type 0} (xs : List X) → length xs ≡ 0 → xs ≡ []
-nil_from_length [] e = refl
-nil_from_length (x ∷ xs) e = absurd (omega arith)
 
 pub invariant_of-self-in_err-stamp : goal.invariant_of-self-in_err-stamp
 invariant_of-self-in_err-stamp g c =

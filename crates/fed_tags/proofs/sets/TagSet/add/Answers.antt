@@ -4,7 +4,8 @@ use Rattle.std.specs.List.Sorted.{IsStrictlySortedBy}
 use Rattle.fed_tags.specs.Tags.{pair_cmp, stamped, inserted, without, lacking}
 use Rattle.fed_tags.specs.TagLaws.{pair_total, exact_pair}
 use Rattle.fed_lattice.specs.KeySetLaws.{sorted_insert_key}
-use Rattle.fed_tags.proofs.TagLoops.{drop_item, inserted_more, inserted_all, inserted_lacking, taken_back}
+use Rattle.fed_lattice.proofs.EntryLoops.{drop_item}
+use Rattle.fed_tags.proofs.TagLoops.{inserted_more, inserted_all, inserted_lacking, taken_back}
 use Rattle.fed_tags.proofs.sets.TagSet.add.Goals as goal
 
 pub loop-element-init : goal.loop-element-init

@@ -2,9 +2,10 @@ use Rattle.std.proofs.Common.{◌≡◌, ◌++◌, drop, ap, ◌∙◌}
 use Rattle.fed_tags.specs.Tags.{pair_cmp, lacking}
 use Rattle.fed_tags.specs.TagLaws.{pair_total, exact_pair}
 use Rattle.fed_tags.proofs.GroupLaws.{sorted_view}
-use Rattle.fed_tags.proofs.TagLoops.{drop_item, has_decided, lacking_push, lacking_skip}
+use Rattle.fed_tags.proofs.TagLoops.{has_decided, lacking_push, lacking_skip}
 use Rattle.fed_tags.proofs.sets.TagSet.find_lacking.Goals as goal
 use Rattle.fed_tags.proofs.sets.TagSet.find_lacking.Goals.{then-not-contains+in_ok-push, else-not-contains}
+use Rattle.fed_lattice.proofs.EntryLoops.{drop_item}
 
 pub loop-element-preserved : goal.loop-element-preserved
 loop-element-preserved g c =

@@ -2,8 +2,9 @@ use Rattle.std.proofs.Common.{◌∙◌}
 use Rattle.std.proofs.lemmas.List.{drop_all}
 use Rattle.fed_tags.specs.Tags.{pair_cmp}
 use Rattle.fed_tags.specs.TagLaws.{pair_total, exact_pair}
-use Rattle.fed_tags.proofs.TagLoops.{drop_item, inserted_more, inserted_all, inserted_none}
+use Rattle.fed_tags.proofs.TagLoops.{inserted_more, inserted_all, inserted_none}
 use Rattle.fed_tags.proofs.sets.TagSet.from_pairs.Goals as goal
+use Rattle.fed_lattice.proofs.EntryLoops.{drop_item}
 
 pub loop-element-preserved : goal.loop-element-preserved
 loop-element-preserved g c =

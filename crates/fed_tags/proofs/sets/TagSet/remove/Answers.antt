@@ -1,7 +1,8 @@
 use Rattle.std.proofs.lemmas.List.{drop_all}
 use Rattle.fed_tags.specs.Tags.{pair_cmp}
-use Rattle.fed_tags.proofs.TagLoops.{drop_item, removed_more, removed_all}
+use Rattle.fed_tags.proofs.TagLoops.{removed_more, removed_all}
 use Rattle.fed_tags.proofs.sets.TagSet.remove.Goals as goal
+use Rattle.fed_lattice.proofs.EntryLoops.{drop_item}
 
 pub loop-element-preserved : goal.loop-element-preserved
 loop-element-preserved g c =
