@@ -39,6 +39,7 @@ use Rattle.fed_job_json.proofs.JobReads.{site_placed}
 use Rattle.fed_parts_json.specs.Retirements.{RetiredSite, AreRetirements}
 use Rattle.fed_wire.specs.Reservations.{Reserved, IsReservation}
 use Rattle.fed_wire.specs.Packet.{last_of, may_stand, job_stands, covers_window, reservation_stands, is_above, keeps, site_stands, AllStand}
+use Rattle.fed_wire.proofs.RetiredLimits.{weaker}
 
 -- ---- jobs
 
@@ -139,10 +140,6 @@ all_kept rs (e ∷ es) h =
     let t = first_kept rs e.0 (keys_of es) h in
     (kept_by_all rs e.0 t.0, all_kept rs es t.1)
 
-each_site : {A : Type 0} (P Q : A → Type 0) (xs : List A) → ((x : A) → P x → Q x) → AllByRecursion P xs → AllByRecursion Q xs
-each_site P Q [] f h = tt
-each_site P Q (x ∷ xs) f h = (f x h.0, each_site P Q xs f h.1)
-
 module _ (format : Format) (reached : List ℕ) where
   jobs_known : (before js : List Job) → AllByRecursion (IsJob format) js → AllStand (job_stands reached) before js → AllByRecursion (λ j. IsKnownJob reached j.0 j.1) js
   jobs_known before [] h i = tt
@@ -189,7 +186,7 @@ module _ (format : Format) (reached : List ℕ) where
         jobs = at_each stamp_cmp exact_stamp (IsKnownJob reached) jobs (jobs_known [] jobs h i);
         reservations = at_each stamp_cmp exact_stamp (IsKnownReservation reached) reservations (reservations_known [] reservations k l);
         kept_jobs = at_each stamp_cmp exact_stamp (λ id x. has_retired retired id ≡ false) jobs
-            (all_kept retired jobs (each_site (Placed js ks) (λ r. list_all (keeps r) js ≡ true) retired (λ r p. p.1) placed));
+            (all_kept retired jobs (weaker (Placed js ks) (λ r. list_all (keeps r) js ≡ true) retired (λ r p. p.1) placed));
         kept_reservations = at_each stamp_cmp exact_stamp (λ id x. has_retired retired id ≡ false) reservations
-            (all_kept retired reservations (each_site (Placed js ks) (λ r. list_all (keeps r) ks ≡ true) retired (λ r p. p.2) placed));
+            (all_kept retired reservations (weaker (Placed js ks) (λ r. list_all (keeps r) ks ≡ true) retired (λ r p. p.2) placed));
       }

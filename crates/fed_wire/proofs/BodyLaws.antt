@@ -3,8 +3,8 @@ use Rattle.std.specs.Prelude.{codes, is_some, option_map, IfSome}
 use Rattle.std.specs.Borrow.{Bor}
 use Rattle.std.specs.List.{AllByRecursion}
 use Rattle.std.specs.Map.{keys_of}
-use Rattle.std.proofs.Common.{◌≡◌, ◌<◌, ◌+◌, ℕ, zero, suc, leb, Bool, true, false, List, [], ◌∷◌, Option, Some, None, Result, Ok, Err, refl, sym, ap, subst, ◌∙◌, arith}
-use Rattle.std.proofs.lemmas.Bool.{le-leb}
+use Rattle.std.proofs.Common.{◌≡◌, ◌+◌, ℕ, zero, suc, leb, Bool, true, false, List, [], ◌∷◌, Option, Some, None, Result, Ok, Err, refl, sym, ap, subst, ◌∙◌, arith}
+use Rattle.std.proofs.lemmas.Bool.{le-leb, lt-leb}
 use Rattle.serde_json.specs.Data.{Data}
 use Rattle.serde_json.specs.Find.{get}
 use Rattle.serde_json.specs.View.{view}
@@ -34,19 +34,16 @@ use Rattle.fed_wire.proofs.ReservationLaws.{reservation_form}
 
 -- ---- the least site that is above
 
-not_le : (a b : ℕ) → b < a → leb a b ≡ false
-not_le a b h = grind arith
-
 pub above_some : (site : ℕ) (v w : List ℕ) (j : ℕ) → IsFirstAbove v w j → least_above site v w ≡ Some (site + j)
 above_some site [] w j h = absurd (let above = h.above in omega arith)
 above_some site (a ∷ v) [] zero h =
-    let over : leb a 0 ≡ false = not_le a 0 h.above in
+    let over : leb a 0 ≡ false = lt-leb a 0 h.above in
     rw over (ap (λ n. Some n) (omega arith))
 above_some site (a ∷ v) [] (suc j) h =
     let fits : leb a 0 ≡ true = le-leb a 0 (h.least 0 (omega arith)) in
     rw fits (above_some (suc site) v [] j (record { above = h.above; least = λ i l. h.least (suc i) (omega arith) }) ∙ ap (λ n. Some n) (omega arith))
 above_some site (a ∷ v) (b ∷ w) zero h =
-    let over : leb a b ≡ false = not_le a b h.above in
+    let over : leb a b ≡ false = lt-leb a b h.above in
     rw over (ap (λ n. Some n) (omega arith))
 above_some site (a ∷ v) (b ∷ w) (suc j) h =
     let fits : leb a b ≡ true = le-leb a b (h.least 0 (omega arith)) in

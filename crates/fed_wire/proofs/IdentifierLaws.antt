@@ -29,7 +29,7 @@ sorted_pushed (k ∷ l ∷ ks) id s e =
     let rest = sorted_pushed (l ∷ ks) id s.1 e in
     ((s.0.0, above_all k l (ks ++ id ∷ []) s.0.0 rest.0), rest)
 
-pub last_pushed : (ks : List StampValue) (id : StampValue) → last_of (ks ++ id ∷ []) ≡ Some id
+pub last_pushed : {A : Type 0} (ks : List A) (id : A) → last_of (ks ++ id ∷ []) ≡ Some id
 last_pushed [] id = refl
 last_pushed (k ∷ []) id = refl
 last_pushed (k ∷ l ∷ ks) id = last_pushed (l ∷ ks) id

@@ -53,6 +53,7 @@ use Rattle.fed_job_json.specs.Job.{IsJob, IsJobIn}
 use Rattle.fed_job_json.specs.Stamps.{IsVersion}
 use Rattle.fed_model.specs.Limits.{IsWithinLimits}
 use Rattle.fed_board.proofs.CountedIdentifiers.{set_jobs_counted, set_reservations_counted}
+use Rattle.fed_board.proofs.BoardReadings.{HasSortedTags}
 use Rattle.fed_wire.specs.Packet.{IsPacket, job_stands, reservation_stands, covers_window}
 use Rattle.fed_delta.specs.Packet.{PacketValue}
 use Rattle.fed_wire.specs.Reservations.{IsReservation}
@@ -198,9 +199,6 @@ version_ranged v h = (h.0, each v h.1) where
 
 -- ---- the packet
 -- the pairs of each record strictly ascend
-abbrev pub HasSortedTags : JobRecordValue → Type 0
-HasSortedTags r = IsStrictlySortedBy (pair_cmp kind_cmp) r.holds × IsStrictlySortedBy (pair_cmp nat_cmp) r.sites
-
 abbrev pub HaveSortedTags : List (StampValue × JobRecordValue) → Type 0
 HaveSortedTags jobs = (job : StampValue) → IfSome (lookup (is_at (stamp_cmp job)) jobs) HasSortedTags
 

@@ -1,5 +1,5 @@
 -- Packets are read as what they are the values of.
-use Rattle.std.proofs.Common.{◌≡◌, ℕ, suc, eqb, leb, Bool, true, false, cond, List, [], ◌∷◌, ◌++◌, length, map, Option, Some, None, Result, Ok, Err, refl, sym, ap, subst, ◌∙◌, append_assoc}
+use Rattle.std.proofs.Common.{◌≡◌, ℕ, suc, eqb, leb, Bool, true, false, cond, List, [], ◌∷◌, ◌++◌, length, map, Option, Some, None, Result, Ok, Err, refl, sym, ap, subst, ◌∙◌, append_assoc, ap₂}
 use Rattle.std.specs.Prelude.{codes, option_and_then}
 use Rattle.std.specs.List.{AllByRecursion}
 use Rattle.std.specs.Map.{keys_of}
@@ -56,9 +56,6 @@ at_ok p q (Err OutOfRange) y e = absurd cc
 -- ---- elements one after another
 
 module _ {A : Type 0} (part : Part) (read : Data → Reading A) (value : A → Data) (P : A → Type 0) (stands : List A → A → Bool) where
-  next : (a : Data) (ds : List Data) (x : A) (xs : List A) → a ≡ value x → ds ≡ map value xs → a ∷ ds ≡ value x ∷ map value xs
-  next a ds x xs p q = rw (p, q) refl
-
   one : IsForm read value P → (before : List A) (d : Data) (x : A) → (read d >>= where_true (stands before)) ≡ Ok x → (d ≡ value x) × P x × (stands before x ≡ true)
   one F before d x e =
       let y = bind_ok (read d) (where_true (stands before)) x e in
@@ -75,7 +72,7 @@ module _ {A : Type 0} (part : Part) (read : Data → Reading A) (value : A → D
       let s = bind_ok (at here here (read d >>= where_true (stands before))) (λ x. each_in part read stands (before ++ x ∷ []) ds) xs e in
       let x = one F before d s.0 (at_ok here here (read d >>= where_true (stands before)) s.0 s.1) in
       let rest = each_takes F (before ++ s.0 ∷ []) ds xs s.2 in
-      (s.0 ∷ rest.0, rest.1 ∙ append_assoc before (s.0 ∷ []) rest.0, next d ds s.0 rest.0 x.0 rest.2, (x.1, rest.3), (x.2, rest.4))
+      (s.0 ∷ rest.0, rest.1 ∙ append_assoc before (s.0 ∷ []) rest.0, ap₂ (λ (b : Data) (bs : List Data). b ∷ bs) x.0 rest.2, (x.1, rest.3), (x.2, rest.4))
 
   each_again : IsForm read value P → (before xs : List A) → AllByRecursion P xs → AllStand stands before xs → each_in part read stands before (map value xs) ≡ Ok (before ++ xs)
   each_again F before [] h i = ap (λ (ys : List A). Ok ys) (sym (append-nil before))

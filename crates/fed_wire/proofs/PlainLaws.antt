@@ -1,8 +1,9 @@
 -- The value of a packet has no float, and nests little.
-use Rattle.std.specs.Prelude.{◌||◌}
 use Rattle.std.specs.List.{AllByRecursion}
 use Rattle.std.specs.Str.{IsUtf8}
-use Rattle.std.proofs.Common.{◌≡◌, ℕ, ◌≤◌, max, suc, List, [], ◌∷◌, map, Bool, true, false, Option, Some, None, refl, ap, subst, ◌∙◌, ℤ, pos, negsuc, arith}
+use Rattle.std.proofs.Common.{◌≡◌, ℕ, ◌≤◌, suc, List, [], ◌∷◌, map, Bool, true, false, Option, Some, None, refl, ap, subst, ◌∙◌, ℤ, pos, negsuc, arith}
+use Rattle.std.proofs.lemmas.Bool.{or_from}
+use Rattle.std.proofs.Math.Nat.{max-le}
 use Rattle.serde_json.specs.Data.{Data, depth, items_depth, members_depth, string}
 use Rattle.serde_json.specs.Read.{read, max_depth}
 use Rattle.serde_json.specs.View.{items_of}
@@ -37,18 +38,12 @@ pub record IsPlain (n : ℕ) (d : Data) : Type 0 where
   pub whole : has_float d ≡ false
   pub shallow : depth d ≤ n
 
-neither : (a b : Bool) → a ≡ false → b ≡ false → (a || b) ≡ false
-neither a b p q = rw (p, q) refl
-
-most : (a b n : ℕ) → a ≤ n → b ≤ n → max a b ≤ n
-most a b n h k = omega arith
-
 plain_items : {A : Type 0} (f : A → Data) (n : ℕ) → ((x : A) → IsPlain n (f x)) → (xs : List A) → (items_have_float (items_of (map f xs)) ≡ false) × (items_depth (items_of (map f xs)) ≤ n)
 plain_items f n h [] = (refl, omega arith)
 plain_items f n h (x ∷ xs) =
     let rest = plain_items f n h xs in
     let here = h x in
-    (neither _ _ here.whole rest.0, most _ _ n here.shallow rest.1)
+    (or_from _ _ here.whole rest.0, max-le here.shallow rest.1)
 
 plain_list : {A : Type 0} (f : A → Data) (n : ℕ) → ((x : A) → IsPlain n (f x)) → (xs : List A) → IsPlain (suc n) (list_value (map f xs))
 plain_list f n h xs =
@@ -60,7 +55,7 @@ plain_members n [] h = (refl, omega arith)
 plain_members n (m ∷ ms) h =
     let rest = plain_members n ms h.1 in
     let here = h.0 in
-    (neither _ _ here.whole rest.0, most _ _ n here.shallow rest.1)
+    (or_from _ _ here.whole rest.0, max-le here.shallow rest.1)
 
 plain_object : (n : ℕ) (ms : Named) → AllByRecursion (λ m. IsPlain n m.1) ms → IsPlain (suc n) (object_value ms)
 plain_object n ms h =

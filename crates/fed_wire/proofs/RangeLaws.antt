@@ -1,11 +1,10 @@
 -- What is read of operations whose values are in range is in range.
 use Rattle.std.specs.Prelude.{IfSome, is_some, nat_lt}
-use Rattle.std.specs.List.{AllByRecursion, list_any, list_all}
+use Rattle.std.specs.List.{AllByRecursion, list_any}
 use Rattle.std.specs.List.Sorted.{IsStrictlySortedBy}
-use Rattle.std.specs.Ordering.{is_lt}
 use Rattle.std.specs.Cmp.{IsTotalOrder}
-use Rattle.std.proofs.Common.{◌≡◌, ◌≤◌, ◌<◌, ℕ, suc, List, [], ◌∷◌, Bool, true, false, ◌&&◌, Option, Some, None, Ordering, Less, refl, sym, ap, subst, ◌∙◌, arith, inl, inr}
-use Rattle.std.proofs.lemmas.Bool.{and_parts, and_from, ltb-true}
+use Rattle.std.proofs.Common.{◌≡◌, ◌≤◌, ◌<◌, ℕ, suc, List, [], ◌∷◌, Bool, true, false, ◌&&◌, Option, Some, None, Ordering, refl, sym, ap, subst, ◌∙◌, arith, inl, inr}
+use Rattle.std.proofs.lemmas.Bool.{and_parts, ltb-true}
 use Rattle.std.proofs.lemmas.Map.Lookups.{CmpEqualImpliesEq}
 use Rattle.fed_stamp.specs.Stamp.{StampValue, same_stamp}
 use Rattle.fed_stamp.specs.Version.{counter_of}
@@ -34,9 +33,10 @@ use Rattle.fed_model.specs.Ranges.{IsFrom, IsName, IsPriority, IsAccount, IsSite
 use Rattle.fed_job_json.specs.declared.formats.Format.TheVariants.{Two}
 use Rattle.fed_job_json.specs.Fields.{IsField}
 use Rattle.fed_job_json.specs.Grants.{IsStage, IsGrant}
-use Rattle.fed_job_json.specs.Pairs.{ascends, ArePairs}
+use Rattle.fed_job_json.specs.Pairs.{ArePairs}
 use Rattle.fed_job_json.specs.Progress.{IsBegun, IsProgress}
 use Rattle.fed_job_json.specs.Stamps.{IsVersion}
+use Rattle.fed_job_json.proofs.PairLaws.{ascending_where_sorted}
 use Rattle.fed_model.specs.Limits.{IsWithinLimits}
 
 -- ---- what an operation says
@@ -100,16 +100,6 @@ added_site (Submit owner values held) site e = one_of_16 site _ e
 added_site (OfJob job (Set changes removed)) site e = named_site changes.sites site e
 added_site _ site e = cc
 
--- what ascends does so by the test of packets
-less : {A : Type 0} (R : A → A → Ordering) (x : A) (ys : List A) → AllByRecursion (λ y. R x y ≡ Less) ys → list_all (λ y. is_lt (R x y)) ys ≡ true
-less R x [] h = refl
-less R x (y ∷ ys) h = and_from _ _ (ap is_lt h.0) (less R x ys h.1)
-
-ascend : {A : Type 0} (R : A → A → Ordering) (xs : List A) → IsStrictlySortedBy R xs → ascends R xs ≡ true
-unfolding IsStrictlySortedBy
-ascend R [] s = refl
-ascend R (x ∷ xs) s = and_from _ _ (less R x xs s.0) (ascend R xs s.1)
-
 -- ---- what is read of the operations of one job or of one reservation
 module _ (ops all : History Body) (within : IsWithinLimits all) (part_of : (e : StampValue × Body) → Has ops e → Has all e) where
   pub field_ranged : {T : Type 0} (says : Body → Option T) (P : T → Type 0) → ((body : Body) → IsInRange body → IfSome (says body) P)
@@ -147,7 +137,7 @@ module _ (ops all : History Body) (within : IsWithinLimits all) (part_of : (e : 
     -- the pairs of a record that reads as the operations do
     pub pairs_are : (cmp : E → E → Ordering) → IsTotalOrder cmp → CmpEqualImpliesEq cmp → (ps : List (E × StampValue)) → IsStrictlySortedBy (pair_cmp cmp) ps
         → ((element : E) (tag : StampValue) → has (pair_cmp cmp) ps (element, tag) ≡ is_live adds removes ops element tag) → ArePairs InRange cmp ps
-    pairs_are cmp o exact ps sorted reads = (each ps (λ p h. h), ascend (pair_cmp cmp) ps sorted) where
+    pairs_are cmp o exact ps sorted reads = (each ps (λ p h. h), ascending_where_sorted (pair_cmp cmp) ps sorted) where
       each : (qs : List (E × StampValue)) → ((p : E × StampValue) → Has qs p → Has ps p) → AllByRecursion (λ p. InRange p.0 × IsStamp p.1) qs
       each [] f = tt
       each (q ∷ qs) f = (

@@ -11,6 +11,7 @@ use Rattle.std.proofs.Common.{◌≡◌, ◌≢◌, ◌==◌, ◌≤◌, ◌<◌
 use Rattle.std.proofs.lemmas.Bool.{and_parts, and_from, eqb-true, le-leb, lt-ltb}
 use Rattle.std.proofs.lemmas.Cmp.{eq_by_cmp_equiv}
 use Rattle.std.proofs.lemmas.List.Elements.{All-weaker, All-contains_itself, recursion_from_All}
+use Rattle.std.proofs.lemmas.List.{map-append}
 use Rattle.std.proofs.lemmas.Map.Keys.{IsDistinct-from_sorted}
 use Rattle.std.proofs.lemmas.Map.Views.{lookup-from_Contains}
 use Rattle.fed_stamp.specs.Stamp.{StampValue}
@@ -62,16 +63,12 @@ above_last [] site rest s = refl
 above_last (k ∷ []) site rest s = lt-ltb k site (ranked k site Less (sym s.0.0))
 above_last (k ∷ l ∷ ks) site rest s = above_last (l ∷ ks) site rest s.1
 
-keys-append : (xs ys : RetiredValue) → keys_of (xs ++ ys) ≡ keys_of xs ++ keys_of ys
-keys-append [] ys = refl
-keys-append (x ∷ xs) ys = ap (λ l. x.0 ∷ l) (keys-append xs ys)
-
 sites_stand : (fits : RetiredSite → Bool) (stands : List RetiredSite → RetiredSite → Bool)
     → ((before : RetiredValue) (r : RetiredSite) → is_above (last_of (keys_of before)) r.0 ≡ true → fits r ≡ true → stands before r ≡ true)
     → (before rs : RetiredValue) → IsStrictlySortedBy nat_cmp (keys_of (before ++ rs)) → AllByRecursion (λ r. fits r ≡ true) rs → AllStand stands before rs
 sites_stand fits stands both before [] s h = tt
 sites_stand fits stands both before (r ∷ rs) s h =
-    let split : keys_of (before ++ r ∷ rs) ≡ keys_of before ++ r.0 ∷ keys_of rs = keys-append before (r ∷ rs) in
+    let split : keys_of (before ++ r ∷ rs) ≡ keys_of before ++ r.0 ∷ keys_of rs = map-append _ before (r ∷ rs) in
     let more : before ++ r ∷ rs ≡ (before ++ r ∷ []) ++ rs = sym (append_assoc before (r ∷ []) rs) in (
       both before r (above_last (keys_of before) r.0 (keys_of rs) (subst (IsStrictlySortedBy nat_cmp) split s)) h.0,
       sites_stand fits stands both (before ++ r ∷ []) rs (subst (λ (l : RetiredValue). IsStrictlySortedBy nat_cmp (keys_of l)) more s) h.1,

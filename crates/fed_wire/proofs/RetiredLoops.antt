@@ -7,7 +7,7 @@ use Rattle.std.specs.List.Sorted.{IsStrictlySortedBy}
 use Rattle.std.specs.Map.{keys_of}
 use Rattle.std.specs.Ordering.{nat_cmp}
 use Rattle.std.specs.declared.cmp.Ordering.TheVariants.{Less}
-use Rattle.std.proofs.Common.{◌≡◌, ℕ, ◌<◌, ◌+◌, length, map, drop, slice_index_or, Bool, true, false, List, [], ◌∷◌, ◌++◌, Option, Some, Result, Ok, Err, refl, sym, ap, subst, ◌∙◌, arith, length-append}
+use Rattle.std.proofs.Common.{◌≡◌, ℕ, ◌<◌, ◌+◌, length, map, drop, slice_index_or, Bool, true, List, [], ◌∷◌, ◌++◌, Option, Some, Result, Ok, refl, sym, ap, subst, ◌∙◌, length-append}
 use Rattle.std.proofs.lemmas.Bool.{ltb-true}
 use Rattle.std.proofs.lemmas.List.{map-append}
 use Rattle.serde_json.specs.View.{view}
@@ -15,16 +15,14 @@ use Rattle.serde_json.specs.declared.value.Value.{Value}
 use Rattle.fed_stamp.specs.Stamp.{StampValue}
 use Rattle.fed_stamp.specs.Version.{counter_of}
 use Rattle.fed_lattice.proofs.TableLoops.{insert_last}
-use Rattle.fed_ranges.specs.Ranges.{IsCanonical}
 use Rattle.fed_ranges.specs.Retired.{RetiredValue}
 use Rattle.fed_parts_json.specs.Retirements.{RetiredSite, retirements_of}
-use Rattle.fed_parts_json.proofs.RetirementLaws.{from_lower, retirements_form}
 use Rattle.fed_wire.specs.declared.faults.Part.TheVariants.{Retired}
 use Rattle.fed_wire.specs.declared.faults.WireFault.{WireFault}
-use Rattle.fed_wire.specs.declared.faults.WireFault.TheVariants.{Range}
 use Rattle.fed_wire.specs.Packet.{last_of, is_above, keeps, site_stands}
-use Rattle.fed_wire.specs.Reading.{place, each_in}
-use Rattle.fed_wire.proofs.EachLaws.{each_more, each_out}
+use Rattle.fed_wire.specs.Reading.{each_in}
+use Rattle.fed_wire.proofs.EachLaws.{each_more}
+use Rattle.fed_wire.proofs.IdentifierLaws.{last_pushed}
 
 -- ---- sites that ascend
 
@@ -44,11 +42,6 @@ sorted_pushed (k ∷ l ∷ ks) site s e =
     let rest = sorted_pushed (l ∷ ks) site s.1 e in
     ((s.0.0, above_all k l (ks ++ site ∷ []) s.0.0 rest.0), rest)
 
-last_pushed : (ks : List ℕ) (site : ℕ) → last_of (ks ++ site ∷ []) ≡ Some site
-last_pushed [] site = refl
-last_pushed (k ∷ []) site = refl
-last_pushed (k ∷ l ∷ ks) site = last_pushed (l ∷ ks) site
-
 keys-pushed : (es : RetiredValue) (r : RetiredSite) → keys_of (es ++ r ∷ []) ≡ keys_of es ++ r.0 ∷ []
 keys-pushed es r = map-append _ es (r ∷ [])
 
@@ -59,10 +52,6 @@ pub record AreRead (kept : Option ℕ) (es : RetiredValue) (i : ℕ) (left whole
   pub sorted : IsStrictlySortedBy nat_cmp (keys_of es)
   pub read : left ≡ whole
 
--- what is read has ranges of a set
-pub ranges_form : (v : Value) (r : RetiredSite) → Ok r ≡ retirements_of (view v) → IsCanonical r.1.ranges
-ranges_form v r e = let t = (retirements_form).takes (view v) r (sym e) in from_lower 1 0 r.1.ranges (omega arith) t.1.apart
-
 module _ (reached : List ℕ) (jobs reservations : List StampValue) where
   abbrev stands : List RetiredSite → RetiredSite → Bool
   stands = site_stands reached jobs reservations
@@ -72,19 +61,8 @@ module _ (reached : List ℕ) (jobs reservations : List StampValue) where
 
   module _ (vs : List Value) (i : ℕ) (last : Option ℕ) (before : RetiredValue) (v : Value) (whole : Result RetiredValue WireFault) (within : i < length vs) (here : v ≡ slice_index_or vs i v)
       (are : AreRead last before i (each_in Retired retirements_of stands before (map view (drop i vs))) whole) (r : RetiredSite) (is : Ok r ≡ retirements_of (view v)) where
-    out : stands before r ≡ false → Err (Range (place Retired i)) ≡ whole
-    out s = ap (λ n. Err (Range (place Retired n))) (sym are.many) ∙ each_out Retired retirements_of stands vs i before v within here r is s ∙ are.read
-
     above_so : (b : Bool) → b ≡ is_above last r.0 → is_above (last_of (keys_of before)) r.0 ≡ b
     above_so b e = ap (λ l. is_above l r.0) (sym are.last) ∙ sym e
-
-    -- it does not come behind the last
-    pub not_above : (b : Bool) → b ≡ is_above last r.0 → b ≡ false → Err (Range (place Retired i)) ≡ whole
-    not_above b e f = let s : is_above (last_of (keys_of before)) r.0 ≡ false = above_so b e ∙ f in out (rw s refl)
-
-    -- it may not be told there
-    pub unfit : (b : Bool) → b ≡ is_above last r.0 → b ≡ true → fits r ≡ false → Err (Range (place Retired i)) ≡ whole
-    unfit b e t f = let s : is_above (last_of (keys_of before)) r.0 ≡ true = above_so b e ∙ t in out (rw (s, f) refl)
 
     -- it stands
     pub one_more : (b : Bool) (new : RetiredValue) → b ≡ is_above last r.0 → b ≡ true → fits r ≡ true → new ≡ insert_entry nat_cmp before r.0 r.1
@@ -101,16 +79,3 @@ module _ (reached : List ℕ) (jobs reservations : List StampValue) where
           sorted = subst (IsStrictlySortedBy nat_cmp) (sym keys) sorted;
           read = ap (λ es. each_in Retired retirements_of stands es (map view (drop (i + 1) vs))) p ∙ sym (each_more Retired retirements_of stands vs i before v within here r is holds) ∙ are.read;
         }
-
--- ---- identifiers that a site keeps
-
-module _ {X : Type 0} (r : RetiredSite) (it rest : List (StampValue × X)) (id : StampValue) (x : X) (first : it ≡ (id, x) ∷ rest) where
-  split : list_all (keeps r) (keys_of it) ≡ (keeps r id && list_all (keeps r) (keys_of rest))
-  split = ap (λ l. list_all (keeps r) (keys_of l)) first
-
-  -- it is none of the site's, or in no range
-  pub keeps_it : keeps r id ≡ true → list_all (keeps r) (keys_of it) ≡ list_all (keeps r) (keys_of rest)
-  keeps_it e = split ∙ ap (λ b. b && list_all (keeps r) (keys_of rest)) e
-
-  pub keeps_not : keeps r id ≡ false → list_all (keeps r) (keys_of it) ≡ false
-  keeps_not e = split ∙ ap (λ b. b && list_all (keeps r) (keys_of rest)) e
