@@ -3,7 +3,7 @@ use Rattle.std.specs.BTreeMap.{is_at}
 use Rattle.std.specs.Map.{keys_of, values_of, lookup}
 use Rattle.std.specs.List.Sorted.{IsStrictlySortedBy}
 use Rattle.std.proofs.Common.{◌≡◌, ◌⊎◌, ℕ, ◌<◌, ◌≤◌, List, false, All, true, ◌||◌, Option, Some, None, is_some, IsSome, IfSome, unwrap_or, refl, sym, ap, subst, ◌∙◌, inl, inr}
-use Rattle.std.proofs.lemmas.Option.{IfSome_then}
+use Rattle.std.proofs.lemmas.Option.{IfSome_then, same_Some}
 use Rattle.fed_stamp.specs.Stamp.{StampValue}
 use Rattle.fed_stamp.specs.Version.{covers, joined, raised, is_below}
 use Rattle.fed_stamp.proofs.VersionLaws.{covers_more, below_trans, below_joined_left, below_joined_right}
@@ -36,9 +36,6 @@ use Rattle.fed_board.proofs.CoveredJobs.{covered_added, covered_joined, covered_
 use Rattle.fed_board.proofs.SubmittedJobs.{set_left, set_right, submitted_added, submitted_by, submitted_left, submitted_right}
 use Rattle.fed_theory.proofs.VersionGrowth.{below_raised, covers_raised, raised_below, zeros_below, joined_below}
 
-from_some : {X : Type 0} (x y : X) → Some x ≡ Some y → x ≡ y
-from_some x y e = cc
-
 -- ---- jobs
 -- the record at an identifier is of operations that the version covers, also where the job is absent
 touched_below : (v : List ℕ) (job : StampValue) (a : Option JobRecordValue) → IfSome a (IsKnownJob v job) → is_below (unwrap_or a no_operation).touched v ≡ true
@@ -58,10 +55,10 @@ abbrev IsSubmitting : StampValue → StampValue → Body → Type 0
 IsSubmitting at job b = (job ≡ at) × ((s : StampValue) (j : JobView) → is_submitted (add_to_job s b j) ≡ true)
 
 on_board : (b : BoardValue) (job other : StampValue) → Some other ≡ Some job → HasJob b other → HasJob b job
-on_board b job other e = subst (HasJob b) (from_some other job e)
+on_board b job other e = subst (HasJob b) (same_Some other job e)
 
 named_job : (b : BoardValue) (at job : StampValue) (body : Body) → job_of at body ≡ Some job → HasNamed b at body → HasJob b job ⊎ IsSubmitting at job body
-named_job b at job (Submit owner values held) of n = inr (sym (from_some at job of), λ s j. submitted_by s owner values held j)
+named_job b at job (Submit owner values held) of n = inr (sym (same_Some at job of), λ s j. submitted_by s owner values held j)
 named_job b at job (OfJob other what) of n = inl (on_board b job other of n)
 named_job b at job (Reserve window) of n = cc
 named_job b at job (Cancel id) of n = cc
@@ -84,8 +81,8 @@ kept_job b at job body i fresh of n = elim (named_job b at job body of n) [
 kept_reservation : (b : BoardValue) (at id : StampValue) (body : Body) → IsBoard b → covers b.version at ≡ false → reservation_of at body ≡ Some id → HasNamed b at body → has_retired b.retired id ≡ false
 kept_reservation b at id (Submit owner values held) i fresh of n = cc
 kept_reservation b at id (OfJob job what) i fresh of n = cc
-kept_reservation b at id (Reserve window) i fresh of n = subst (λ k. has_retired b.retired k ≡ false) (from_some at id of) (fresh_kept b.version b.retired i.retired at fresh)
-kept_reservation b at id (Cancel other) i fresh of n = subst (λ k. has_retired b.retired k ≡ false) (from_some other id of) (kept_where b.retired b.reservations other i.kept_reservations n)
+kept_reservation b at id (Reserve window) i fresh of n = subst (λ k. has_retired b.retired k ≡ false) (same_Some at id of) (fresh_kept b.version b.retired i.retired at fresh)
+kept_reservation b at id (Cancel other) i fresh of n = subst (λ k. has_retired b.retired k ≡ false) (same_Some other id of) (kept_where b.retired b.reservations other i.kept_reservations n)
 kept_reservation b at id (Retire first last) i fresh of n = cc
 
 later_job : (v : List ℕ) (at job : StampValue) (r : JobRecordValue) → IsKnownJob v job r → IsKnownJob (raised v at) job r
@@ -175,14 +172,14 @@ module _ (b : BoardValue) (at id : StampValue) (op : Operation) (i : IsBoard b) 
   changed_known_reservation (OfJob job what) of n = cc
   changed_known_reservation (Retire first last) of n = cc
   changed_known_reservation (Reserve window) of n = record {
-    placed = subst (λ (s : StampValue). s.site < 16) (from_some at id of) small;
-    named = subst (λ s. covers (raised b.version at) s ≡ true) (from_some at id of) seen;
+    placed = subst (λ (s : StampValue). s.site < 16) (same_Some at id of) small;
+    named = subst (λ s. covers (raised b.version at) s ≡ true) (same_Some at id of) seen;
     made = set_right option_window_cmp (unwrap_or now None) (Some (at, Some window)) refl;
     stamp = stamp_now (Some (Some window));
   }
   changed_known_reservation (Cancel other) of n =
       let k = present_reservation b.version other (lookup (is_at (stamp_cmp other)) b.reservations) (i.reservations other) n in
-      let same : other ≡ id = from_some other id of in record {
+      let same : other ≡ id = same_Some other id of in record {
         placed = subst (λ (s : StampValue). s.site < 16) same k.placed;
         named = covers_raised b.version at id (subst (λ t. covers b.version t ≡ true) same k.named);
         made = set_right option_window_cmp (unwrap_or now None) (Some (at, None)) refl;

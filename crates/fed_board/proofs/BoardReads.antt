@@ -75,19 +75,15 @@ or_quiet true b e = refl
 or_quiet false b e = sym e
 
 -- ---- what is not there
+unread : (es : List (StampValue × JobRecordValue)) (id : StampValue) (b : Bool) → job_reads (if b then no_operation else value_at stamp_cmp no_operation es id) ≡ (if b then unknown else job_reads (value_at stamp_cmp no_operation es id))
+unread es id true = refl
+unread es id false = refl
+
 kept_record : (r : RetiredValue) (es : List (StampValue × JobRecordValue)) → AreKept r es → (id : StampValue) → job_reads (value_at stamp_cmp no_operation es id) ≡ (if has_retired r id then unknown else job_reads (value_at stamp_cmp no_operation es id))
-kept_record r es k id = ap job_reads (value_kept no_operation r es k id) ∙ go (has_retired r id)
-  where
-    go : (b : Bool) → job_reads (if b then no_operation else value_at stamp_cmp no_operation es id) ≡ (if b then unknown else job_reads (value_at stamp_cmp no_operation es id))
-    go true = refl
-    go false = refl
+kept_record r es k id = ap job_reads (value_kept no_operation r es k id) ∙ unread es id (has_retired r id)
 
 pub read_dropped : (gone : StampValue → Bool) (es : List (StampValue × JobRecordValue)) (id : StampValue) → job_reads (value_at stamp_cmp no_operation (dropped gone es) id) ≡ (if gone id then unknown else job_reads (value_at stamp_cmp no_operation es id))
-read_dropped gone es id = ap job_reads (value_dropped no_operation gone es id) ∙ go (gone id)
-  where
-    go : (b : Bool) → job_reads (if b then no_operation else value_at stamp_cmp no_operation es id) ≡ (if b then unknown else job_reads (value_at stamp_cmp no_operation es id))
-    go true = refl
-    go false = refl
+read_dropped gone es id = ap job_reads (value_dropped no_operation gone es id) ∙ unread es id (gone id)
 
 -- ---- a change of one job
 module _ (applied : JobRecordValue → StampValue → Operation → JobRecordValue)
@@ -95,9 +91,6 @@ module _ (applied : JobRecordValue → StampValue → Operation → JobRecordVal
     (b : BoardValue) (at : StampValue) (op : Operation) (job : StampValue) where
   abbrev old_job : StampValue → JobRecordValue
   old_job id = value_at stamp_cmp no_operation b.jobs id
-
-  pub changed_job_same : (now : BoardValue) → b ≡ now → changed_job applied b at op job ≡ changed_job applied now at op job
-  changed_job_same now e = ap (λ d. changed_job applied d at op job) e
 
   module _ (of : job_of at (body_of op) ≡ Some job) where
     abbrev added : Bool → StampValue → JobView

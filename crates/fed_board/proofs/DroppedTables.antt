@@ -7,6 +7,7 @@ use Rattle.std.specs.Map.{keys_of, lookup}
 use Rattle.std.proofs.Common.{◌≡◌, ℕ, List, ◌++◌, Bool, true, false, not, ◌||◌, cond, filter, Option, Some, None, is_some, IfSome, unwrap_or, refl, sym, ap, ap₂, subst, ◌∙◌, arith}
 use Rattle.std.proofs.lemmas.List.Folds.{list_any-append}
 use Rattle.std.proofs.lemmas.Map.Views.{tells_apart, any-filter_same}
+use Rattle.std.proofs.Math.Bool.{and-true}
 use Rattle.fed_stamp.specs.Stamp.{StampValue}
 use Rattle.fed_lattice.specs.ExactLaws.{exact_stamp}
 use Rattle.fed_lattice.specs.Latest.{stamp_cmp}
@@ -98,11 +99,7 @@ module _ {X : Type 0} where
       → without stamp_cmp es (filter p (keys_of es)) ≡ dropped gone es
   without_passing p gone es s alike =
       dropped_alike (λ id. list_any (is_at (stamp_cmp id)) (filter p (keys_of es))) gone es s
-      (λ id there. among_passing p es id ∙ ap (λ b. p id && b) there ∙ and_true (p id) ∙ alike id there)
-    where
-      and_true : (b : Bool) → (b && true) ≡ b
-      and_true true = refl
-      and_true false = refl
+      (λ id there. among_passing p es id ∙ ap (λ b. p id && b) there ∙ and-true (p id) ∙ alike id there)
 
   -- those of either table that the other side has retired, once the one is joined into the other
   pub without_gone : (bottom : X) (join : X → List ℕ → X → List ℕ → X) (es fs all : List (StampValue × X)) (v w : List ℕ) (r s : RetiredValue) (gone : StampValue → Bool)

@@ -8,8 +8,9 @@ use Rattle.fed_model.specs.declared.beginnings.Beginning.{Beginning}
 use Rattle.fed_model.specs.Body.{Body, Body.OfJob, JobBody.Grant, JobBody.HandBack, JobBody.Begin}
 use Rattle.fed_model.specs.Lawful.{IsHolder, IsLawful}
 use Rattle.fed_theory.proofs.GrowthLaws.{lawful_push}
+use Rattle.fed_theory.proofs.Scenes.{at, job}
 use Rattle.fed_board.proofs.KinScene.{exchange_kin}
-use Rattle.fed_board.proofs.Scenes.{at, job, here, granted, returned, granted_anew, begun}
+use Rattle.fed_board.proofs.Scenes.{here, granted, returned, granted_anew, begun}
 
 abbrev body_of : StampValue × Body → Body
 body_of e = e.1

@@ -23,3 +23,4 @@ pub mod FilterLoops
 pub mod ListedJobs
 pub mod FoundEntries
 pub mod ChangedBoards
+pub mod ThreeTests

@@ -13,6 +13,7 @@ use Rattle.std.proofs.lemmas.List.FromFn.{get_or-map-range_with_len, length-map-
 use Rattle.std.proofs.lemmas.Map.Lookups.{exact_unsigned}
 use Rattle.std.proofs.lemmas.Option.{IfSome_then}
 use Rattle.std.proofs.lemmas.Map.Views.{tells_apart}
+use Rattle.std.proofs.Math.Bool.{or_comm, or-false}
 use Rattle.fed_stamp.specs.Stamp.{StampValue}
 use Rattle.fed_stamp.specs.Version.{counter_of, covers, joined, raised, is_below}
 use Rattle.fed_stamp.proofs.VersionLaws.{counter_of_joined, each_from_below, below_joined_left}
@@ -112,13 +113,6 @@ raised_map f g n i c small others own =
       | inr other ↦ others j other ∙ sym (get_or-set_other xs i j m 0 other ∙ get_or-map-range_with_len f 0 n j j 0 less (omega arith))
     ])
 
-or_turned : (a b : Bool) → (a || b) ≡ (b || a)
-or_turned a b = grind arith
-
-or_none : (a : Bool) → a ≡ (a || false)
-or_none true = refl
-or_none false = refl
-
 module _ (r : RetiredValue) (at : StampValue) (range : Range) where
   at_added : (site : ℕ) → retired_at (range_added r at range) site ≡ cond (is_eq (nat_cmp site at.site)) (applied_retirements (retired_at r at.site) at range) (retired_at r site)
   at_added site = value_at-insert_entry nat_cmp nat_cmp_total exact_unsigned no_retirements site at.site (applied_retirements (retired_at r at.site) at range) r
@@ -148,12 +142,12 @@ module _ (r : RetiredValue) (at : StampValue) (range : Range) where
         ∙ ap (λ (x : RetirementsValue). has x.ranges id.counter) at_own
         ∙ ap (λ l. has l id.counter) (with_range_is range rs some)
         ∙ added_has 1 range rs id.counter some (p at.site)
-        ∙ or_turned (is_in range id.counter) (has rs id.counter)
+        ∙ or_comm (is_in range id.counter) (has rs id.counter)
         ∙ ap (λ b. b || is_in range id.counter) (sym before)
         ∙ ap (λ b. has_retired r id || (b && is_within range.first range.last id.counter)) (sym (eq-eqb at.site id.site (sym e))))
     | inr other ↦ (
         ap (λ (x : RetirementsValue). has x.ranges id.counter) (at_other id.site other)
-        ∙ or_none (has_retired r id)
+        ∙ sym (or-false (has_retired r id))
         ∙ ap (λ b. has_retired r id || (b && is_within range.first range.last id.counter)) (sym (ne_eqb at.site id.site (λ e. other (sym e)))))
   ]
 

@@ -7,6 +7,7 @@ use Rattle.std.specs.Prelude.{◌&&◌, ◌==◌}
 use Rattle.std.proofs.Common.{◌≡◌, ℕ, ◌≤◌, ◌<◌, List, [], ◌∷◌, ◌++◌, Bool, true, false, cond, filter, Less, Greater, refl, sym, ap, subst, ◌∙◌, inl, inr, arith}
 use Rattle.std.proofs.lemmas.Bool.{and_from, and_parts, cases_Bool, cases_lt, eq-eqb, ne_eqb}
 use Rattle.std.proofs.lemmas.List.{append_assoc}
+use Rattle.std.proofs.Math.Bool.{and-false}
 use Rattle.fed_stamp.specs.Stamp.{StampValue}
 use Rattle.fed_lattice.specs.Latest.{stamp_cmp}
 use Rattle.fed_lattice.specs.LatestLaws.{stamp_total}
@@ -44,13 +45,9 @@ module _ (site : ℕ) (range : Range) where
   beyond : (id : StampValue) → range.last < id.counter → is_of_range site range id ≡ false
   beyond id far = go (is_in range id.counter) refl
     where
-      and_none : (b : Bool) → (b && false) ≡ false
-      and_none true = refl
-      and_none false = refl
-
       go : (b : Bool) → is_in range id.counter ≡ b → ((site == id.site) && b) ≡ false
       go true e = let h = in_high range id.counter e in absurd (omega arith)
-      go false e = and_none (site == id.site)
+      go false e = and-false (site == id.site)
 
   pub of_range : (id : StampValue) → site ≡ id.site → range.first ≤ id.counter → id.counter ≤ range.last → is_of_range site range id ≡ true
   of_range id same low high = and_from (site == id.site) (is_in range id.counter) (eq-eqb site id.site same) (in_from range id.counter low high)

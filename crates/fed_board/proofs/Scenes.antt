@@ -18,20 +18,10 @@ use Rattle.fed_model.specs.Letter.{any_below, has_site, is_submitted, letter}
 use Rattle.fed_model.specs.Identifiers.{jobs_in, reservations_in}
 use Rattle.fed_model.specs.View.{view}
 use Rattle.fed_theory.specs.ViewSteps.{add_to_view, join_views}
-
-abbrev pub at : ℕ → ℕ → StampValue
-at counter site = record { counter = counter; site = site }
+use Rattle.fed_theory.proofs.Scenes.{at, both_sites, second_site, job}
 
 abbrev pub ann : List ℕ
 ann = 97 ∷ 110 ∷ 110 ∷ []
-
--- sites 0 and 1
-abbrev pub both_sites : List Bool
-both_sites = true ∷ true ∷ replicate 14 false
-
--- site 1
-abbrev second_site : List Bool
-second_site = false ∷ true ∷ replicate 14 false
 
 abbrev pub values : JobValues
 values = record { name = 74 ∷ []; priority = pos 0; nodes = 1; limit = 3600; account = None; sites = both_sites }
@@ -41,9 +31,6 @@ nothing = record { name = None; priority = None; nodes = None; limit = None; acc
 
 abbrev pub submit : Bool → Body
 submit held = Submit ann values held
-
-abbrev pub job : StampValue
-job = at 1 0
 
 -- ---- two sites submit a job each and exchange
 abbrev pub here : History Body

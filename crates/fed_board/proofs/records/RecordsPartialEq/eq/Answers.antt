@@ -1,18 +1,9 @@
-use Rattle.std.proofs.Common.{◌≡◌, ◌↔◌, Bool, true, false, ◌&&◌, refl, sym, ap, ap₂, subst, ◌∙◌}
+use Rattle.std.proofs.Common.{◌≡◌, ◌↔◌, true, false, sym, ap₂, subst, ◌∙◌}
 use Rattle.fed_board.specs.Board.{BoardValue}
 use Rattle.fed_board.specs.BoardLaws.{same_board, tells_boards}
 use Rattle.fed_board.proofs.records.RecordsPartialEq.eq.Goals as goal
 use Rattle.fed_board.proofs.records.RecordsPartialEq.eq.Goals.{then-eq, else-eq}
-
-third_alone : (v j r : Bool) → v ≡ true → j ≡ true → r ≡ (v && (j && r))
-third_alone v j r p q = ap₂ (λ x y. x && (y && r)) (sym p) (sym q)
-
-not_second : (v j r : Bool) → j ≡ false → false ≡ (v && (j && r))
-not_second true j r e = ap (λ x. x && r) (sym e)
-not_second false j r e = refl
-
-not_first : (v r : Bool) → v ≡ false → false ≡ (v && r)
-not_first v r e = ap (λ x. x && r) (sym e)
+use Rattle.fed_board.proofs.ThreeTests.{not_first, not_second, third_alone}
 
 pub returns-then-is_same-clause-by_parts : goal.returns-then-is_same-clause-by_parts
 returns-then-is_same-clause-by_parts c =
