@@ -1,10 +1,11 @@
 -- Texts that are cut at a byte which their parts don't have.
-use Rattle.std.proofs.Common.{◌≡◌, ℕ, suc, ◌<◌, Bool, true, false, ◌&&◌, List, [], ◌∷◌, ◌++◌, length, take, drop, map, Ok, refl, ap, ◌∙◌, arith, add-one}
+use Rattle.std.proofs.Common.{◌≡◌, ℕ, suc, ◌<◌, Bool, true, false, List, [], ◌∷◌, ◌++◌, length, drop, map, Ok, refl, ap, ◌∙◌, arith, add-one}
 use Rattle.std.specs.Prelude.{◌==◌, is_some, nat_lt, position}
 use Rattle.std.specs.List.{All, after_first, before_first, join_with_byte, list_all, position_or_len, slice_split}
 use Rattle.std.proofs.lemmas.Bool.Decides.{nat_tests}
 use Rattle.std.proofs.lemmas.List.Elements.{All-cons, All-head, All-tail}
-use Rattle.std.proofs.lemmas.Bool.{eq-eqb}
+use Rattle.std.proofs.lemmas.Bool.{eq-eqb, and_parts}
+use Rattle.std.proofs.Math.Seq.{take-append_seam}
 use Rattle.fed_lattice.specs.Results.{each}
 use Rattle.fed_words.specs.Fault.{OrFault}
 
@@ -19,20 +20,12 @@ free-append p (x ∷ xs) ys h k = (h.0, free-append p xs ys h.1 k)
 
 pub free_from_all : (p test : ℕ → Bool) (xs : List ℕ) → ((b : ℕ) → test b ≡ true → p b ≡ false) → list_all test xs ≡ true → Free p xs
 free_from_all p test [] h e = tt
-free_from_all p test (x ∷ xs) h e = let parts = both (test x) (list_all test xs) e in (h x parts.0, free_from_all p test xs h parts.1)
-  where
-    both : (a b : Bool) → (a && b) ≡ true → (a ≡ true) × (b ≡ true)
-    both true b e = (refl, e)
-    both false b e = absurd cc
+free_from_all p test (x ∷ xs) h e = let parts = and_parts (test x) (list_all test xs) e in (h x parts.0, free_from_all p test xs h parts.1)
 
 module _ (p : ℕ → Bool) (y : ℕ) (ys : List ℕ) (passes : p y ≡ true) where
   place : (xs : List ℕ) → Free p xs → position_or_len p (xs ++ y ∷ ys) ≡ length xs
   place [] free = rw passes refl
   place (x ∷ xs) free = rw free.0 (omega (arith, place xs free.1))
-
-  take-front : (xs : List ℕ) → take (length xs) (xs ++ y ∷ ys) ≡ xs
-  take-front [] = refl
-  take-front (x ∷ xs) = ap (λ zs. x ∷ zs) (take-front xs)
 
   drop-front : (xs : List ℕ) → drop (suc (length xs)) (xs ++ y ∷ ys) ≡ ys
   drop-front [] = refl
@@ -46,7 +39,7 @@ module _ (p : ℕ → Bool) (y : ℕ) (ys : List ℕ) (passes : p y ≡ true) wh
   cut-found xs free = let less : nat_lt (length xs) (length (xs ++ y ∷ ys)) ≡ true = (let fact = more xs in grind (arith, nat_tests)) in rw (place xs free, less) refl
 
   pub cut-before : (xs : List ℕ) → Free p xs → before_first p (xs ++ y ∷ ys) ≡ xs
-  cut-before xs free = rw (place xs free) (take-front xs)
+  cut-before xs free = rw (place xs free) (take-append_seam xs (y ∷ ys))
 
   pub cut-after : (xs : List ℕ) → Free p xs → after_first p (xs ++ y ∷ ys) ≡ ys
   cut-after xs free = rw (place xs free, add-one) (drop-front xs)
@@ -80,7 +73,3 @@ all-map P f Q h (x ∷ xs) all = All-cons P (f x) (map f xs) (h x (All-head Q x 
 pub each-said : {W A B : Type 0} (says : A → OrFault B) (text : W → A) (means : W → B) (Q : W → Type 0) → ((w : W) → Q w → says (text w) ≡ Ok (means w)) → (ws : List W) → All Q ws → each says (map text ws) ≡ Ok (map means ws)
 each-said says text means Q h [] all = refl
 each-said says text means Q h (w ∷ ws) all = rw (h w (All-head Q w ws all), each-said says text means Q h ws (All-tail Q w ws all)) refl
-
-pub map-itself : {A : Type 0} (xs : List A) → map (λ x. x) xs ≡ xs
-map-itself [] = refl
-map-itself (x ∷ xs) = ap (λ ys. x ∷ ys) (map-itself xs)

@@ -1,7 +1,7 @@
 -- What `parse` gives of a word of digits.
 use Rattle.std.proofs.Common.{◌≡◌, ◌≢◌, ℕ, ◌<◌, ◌-◌, ◌^◌, inl, inr, Bool, true, false, ◌&&◌, nat_lt, List, length, Some, None, Result, Ok, Err, refl, ap, sym, arith, rules, ℤ, pos, negsuc, FitsSigned}
 use Rattle.std.specs.Prelude.{if◌then◌else◌, option_and_then, slice_index}
-use Rattle.std.proofs.lemmas.Bool.{and_parts, cases_lt}
+use Rattle.std.proofs.lemmas.Bool.{and_parts, cases_lt, lt-ltb}
 use Rattle.std.specs.Char.{is_ascii_digit}
 use Rattle.std.specs.List.{list_all}
 use Rattle.std.specs.Result.{result_ok, OkIff}
@@ -34,14 +34,11 @@ unless_both true true x h = absurd (h refl refl)
 unless_both true false x h = refl
 unless_both false b x h = refl
 
-some : (few : ℕ) → 0 < few → nat_lt 0 few ≡ true
-some few h = grind (arith, nat_tests)
-
 -- the option of a result that is `Ok` of a value of 64 bits where digits write it
 ok_within : {E : Type 0} (r : Result ℕ E) (few value : ℕ) (digits : Bool)
     → OkIff r ((digits ≡ true) × (0 < few) × (value < 2 ^ 64)) value
     → result_ok r ≡ (if (nat_lt 0 few && digits) && is_within 0 (2 ^ 64 - 1) value then Some value else None)
-ok_within (Ok x) few value digits h = rw (some few h.0.1, h.0.0, within_64 value h.0.2) (ap Some h.1)
+ok_within (Ok x) few value digits h = rw (lt-ltb 0 few h.0.1, h.0.0, within_64 value h.0.2) (ap Some h.1)
 ok_within (Err y) few value digits h = sym (unless_both (nat_lt 0 few && digits) (is_within 0 (2 ^ 64 - 1) value) value
     (λ numeral small. let parts = and_parts (nat_lt 0 few) digits numeral in h (parts.1, ltb-true 0 few parts.0, small_64 value small)))
 

@@ -57,10 +57,6 @@ gives-either view (Ok x) answer fault h e = absurd h
 gives-either view (Err f) answer fault h (inl e) = inl (h ∙ e)
 gives-either view (Err f) answer fault h (inr e) = inr (e ∙ ap Err (sym h))
 
-pub gives-exact : {A : Type 0} (r answer : OrFault A) → r ≡ answer → Gives (λ x. x) r answer
-gives-exact (Ok x) answer e = sym e
-gives-exact (Err f) answer e = inr (sym e)
-
 or-none : {B : Type 0} (o : Option B) → option_or None o ≡ option_or o None
 or-none None = refl
 or-none (Some y) = refl

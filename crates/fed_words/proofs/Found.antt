@@ -1,5 +1,5 @@
 -- What words are read as can be asked.
-use Rattle.std.proofs.Common.{◌≡◌, ℕ, suc, ◌<◌, ℤ, Bool, true, false, ◌&&◌, ◌||◌, List, [], ◌∷◌, length, drop, map, Option, Some, None, Ok, Err, refl, ap, sym, ◌∙◌, arith, inl, inr}
+use Rattle.std.proofs.Common.{◌≡◌, ℕ, ◌<◌, ℤ, Bool, true, false, ◌&&◌, ◌||◌, List, [], ◌∷◌, length, drop, map, Option, Some, None, Ok, Err, refl, ap, sym, ◌∙◌, arith, inl, inr}
 use Rattle.std.specs.Prelude.{◌==◌, codes, is_some, nat_le, nat_lt, option_map, position}
 use Rattle.std.specs.List.{All, after_first, before_first, find, list_all, range_with_len, slice_split}
 use Rattle.std.specs.Option.{ok_or}
@@ -8,6 +8,7 @@ use Rattle.std.specs.Str.Parse.{digits_value, signed_digits_value, without_leadi
 use Rattle.std.proofs.lemmas.Bool.{and_parts, cases_Bool}
 use Rattle.std.proofs.lemmas.List.Elements.{All-append, All-cons, All-from_recursion, All-head, All-nil, All-tail, All-weaker}
 use Rattle.std.proofs.lemmas.List.Splits.{length-slice_split}
+use Rattle.std.proofs.lemmas.List.{map-id, length-map}
 use Rattle.fed_stamp.specs.declared.rosters.TheConstants.{MAX_NODES}
 use Rattle.fed_stamp.specs.declared.stamps.TheConstants.{MAX_COUNTER}
 use Rattle.fed_lattice.specs.Results.{mapped, each}
@@ -41,7 +42,6 @@ use Rattle.fed_words.specs.Spelling.{Item, Spelling, before, group, is_options, 
 use Rattle.fed_words.specs.Utility.{choice_of, choices, letter_of, takes_argument, utility_named}
 use Rattle.fed_words.specs.Request.{Asked, jobs_in, named_jobs, once, request_in, request_of}
 use Rattle.fed_words.specs.Askable.{CanBeAsked, HasJobs, IsJob, IsOption, IsResourceInRange, IsInRange, ResourceArgument, OptionArgument, account, full, held, item_of, kinds, name, nodes, priority, resource_of, resources, setting_of, sites, walltime}
-use Rattle.fed_words.proofs.Cuts.{map-itself}
 use Rattle.fed_words.proofs.Each.{each-length}
 use Rattle.fed_words.proofs.Given.{option_map_some, when_some}
 use Rattle.fed_words.proofs.SiteNames.{found_in_range}
@@ -85,7 +85,7 @@ module _ (roster : List (List ℕ × ℕ)) where
   sites_found text set e =
       let found = mapped_ok (each (site_in BadValue roster) (slice_split is_plus text)) set_of set e in
       let ids = each_found (site_in BadValue roster) (λ site. site) (λ site. site < length roster) (λ part site f. (site, site_found BadValue part site f, refl)) (slice_split is_plus text) found.0 found.1 in
-      let same : ids.0 ≡ found.0 = sym (map-itself ids.0) ∙ ids.2 in
+      let same : ids.0 ≡ found.0 = sym (map-id ids.0) ∙ ids.2 in
       let count = each-length (site_in BadValue roster) (slice_split is_plus text) found.0 found.1 in
       (sites ids.0, (rw same (omega (arith, count, length-slice_split is_plus text)), ids.1), ap Resource.Sites (ap set_of same ∙ found.2))
 
@@ -116,12 +116,8 @@ module _ (roster : List (List ℕ × ℕ)) where
       let found = mapped_ok (each (resource_in roster) (slice_split is_comma text)) last_resources given e in
       let arguments = each_found (resource_in roster) resource_of (IsResourceInRange roster) resource_found (slice_split is_comma text) found.0 found.1 in
       let count = each-length (resource_in roster) (slice_split is_comma text) found.0 found.1 in
-      let same = length-mapped arguments.0 in
+      let same = length-map arguments.0 resource_of in
       (arguments.0, omega (arith, count, length-slice_split is_comma text, ap length arguments.2, same), arguments.1, ap last_resources arguments.2 ∙ found.2)
-    where
-      length-mapped : (ws : List ResourceArgument) → length (map resource_of ws) ≡ length ws
-      length-mapped [] = refl
-      length-mapped (w ∷ ws) = ap suc (length-mapped ws)
 
   local : (here site : ℕ) → answer here ≡ answer site → here < length roster → site < length roster
   local here site e inside = let same : here ≡ site = cc in omega arith

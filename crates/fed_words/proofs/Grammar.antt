@@ -1,11 +1,12 @@
 -- Words are read as the grammar says, and all words are of the grammar.
-use Rattle.std.proofs.Common.{◌≡◌, ℕ, suc, ◌<◌, Bool, true, false, List, [], ◌∷◌, ◌++◌, length, Option, Some, None, Ok, Err, refl, ap, sym, ◌∙◌, arith, inl, inr, append-nil, append_assoc, codes}
+use Rattle.std.proofs.Common.{◌≡◌, ℕ, ◌<◌, Bool, true, false, List, [], ◌∷◌, ◌++◌, length, Option, Some, None, Ok, Err, refl, ap, sym, ◌∙◌, arith, inl, inr, append-nil, append_assoc, codes}
 use Rattle.std.specs.Prelude.{◌==◌, nat_lt}
 use Rattle.std.specs.List.{All, find, flat_map}
 use Rattle.std.specs.Str.{bytes_eq}
 use Rattle.std.proofs.lemmas.Bool.{cases_Bool, eqb-true, and_parts}
 use Rattle.std.proofs.lemmas.Bool.Decides.{nat_tests}
 use Rattle.std.proofs.lemmas.List.Elements.{All-cons, All-from_recursion, All-head, All-nil, All-tail}
+use Rattle.std.proofs.lemmas.List.{length-map}
 use Rattle.std.proofs.lemmas.Slice.Eq.{bytes_eq-Decides}
 use Rattle.fed_words.specs.declared.faults.UsageFault.TheVariants.{MissingArgument, UnknownOption}
 use Rattle.fed_words.specs.declared.utilities.Choice.{Choice}
@@ -15,7 +16,7 @@ use Rattle.fed_words.specs.Spelling.{Item, Spelling, before, group, is_options, 
 use Rattle.fed_words.specs.Syntax.{Argued, Ending, HasOption, IsEnding, IsLast, IsLine, IsOptionWord, UtilityLine, OptionWord, attached, bare, delimited, item_of_last, items_of_ending, items_of_flags, items_of_option, letters, missing, rest_of_ending, separate, unknown, words_behind, words_of_ending, words_of_line, words_of_option}
 use Rattle.fed_words.specs.Utility.{choice_of, choices, letter_of, takes_argument}
 use Rattle.fed_words.proofs.Given.{option_map_some}
-use Rattle.fed_words.proofs.Spellings.{Words, with_items}
+use Rattle.fed_words.proofs.Spellings.{Words, with_items, not_dashes}
 
 -- ---- lines are read
 
@@ -79,16 +80,10 @@ word_read utility flags (Some (separate option argument)) more all h =
 stops : (utility : Utility) (g : Spelling (Option Choice)) (items : List Item) (fault : _) (more : Words) → g ≡ record { items = items ++ []; rest = Err fault } → before g.items g.rest (λ wanted. spelling utility wanted more) ≡ record { items = items; rest = Err fault }
 stops utility g items fault more e = rw e (ap (λ is. record { items = is; rest = Err fault }) (append-nil items))
 
-no_delimiter : (word : List ℕ) → is_options word ≡ false → bytes_eq word (codes "--") ≡ false
-no_delimiter word h = elim (cases_Bool (bytes_eq word (codes "--"))) [
-  | inl same ↦ absurd (let at : word ≡ codes "--" = (bytes_eq-Decides word (codes "--")).0 same in let wrong : is_options (codes "--") ≡ false = (rw at at h) in cc)
-  | inr other ↦ other
-]
-
 ending_read : (utility : Utility) (ending : Ending) → IsEnding utility ending → spelling utility None (words_of_ending ending) ≡ record { items = items_of_ending ending; rest = rest_of_ending ending }
 ending_read utility (delimited operands) h = refl
 ending_read utility (bare []) h = refl
-ending_read utility (bare (first ∷ others)) h = rw (no_delimiter first h, h) refl
+ending_read utility (bare (first ∷ others)) h = rw (not_dashes first h, h) refl
 ending_read utility (unknown flags letter others words) h =
     opened utility (letters flags ++ letter ∷ others) words (filled flags letter others) h.2
     ∙ stops utility (group utility (letters flags ++ letter ∷ others)) (items_of_flags flags) UnknownOption words
@@ -185,14 +180,10 @@ dashed [] h = absurd cc
 dashed (b ∷ []) h = absurd cc
 dashed (b ∷ letter ∷ others) h = (letter ∷ others, omega arith, (let same : b ≡ 45 = eqb-true b 45 (and_parts (nat_lt 1 (length (b ∷ letter ∷ others))) (b == 45) h).1 in rw same refl))
 
-length-letters : (flags : List Choice) → length (letters flags) ≡ length flags
-length-letters [] = refl
-length-letters (flag ∷ flags) = ap suc (length-letters flags)
-
 options_parsed : (utility : Utility) (word text : List ℕ) (rest : Words) → 0 < length text → word ≡ 45 ∷ text → bytes_eq word (codes "--") ≡ false → Cut utility text → Parsed utility rest → ParsedBehind utility rest → Parsed utility (word ∷ rest)
 options_parsed utility word text rest nonempty at goes (flagged flags all same) behind later =
     with_word utility (record { flags = flags; last = None }) (word ∷ rest) rest
-    (record { flags = all; last = (let count = ap length same in omega (arith, count, length-letters flags)) })
+    (record { flags = all; last = (let count = ap length same in omega (arith, count, length-map flags letter_of)) })
     (rw (at, same) refl) behind
 options_parsed utility word text rest nonempty at goes (argued flags option (a ∷ argument) all known same) behind later =
     with_word utility (record { flags = flags; last = Some (attached option (a ∷ argument)) }) (word ∷ rest) rest

@@ -3,6 +3,7 @@ use Rattle.std.proofs.Common.{◌≡◌, ℕ, Bool, true, false, not, ◌&&◌, 
 use Rattle.std.specs.Prelude.{◌==◌, if◌then◌else◌}
 use Rattle.std.specs.List.{list_any}
 use Rattle.std.proofs.lemmas.Bool.{cases_Bool}
+use Rattle.std.proofs.lemmas.List.{map_push}
 use Rattle.fed_lattice.specs.ExactLaws.{same_stamp_is, same_stamp_itself}
 use Rattle.fed_stamp.specs.Stamp.{StampValue, same_stamp}
 use Rattle.fed_words.specs.Request.{once}
@@ -58,17 +59,13 @@ once-push (x ∷ jobs) job = elim (cases_Bool (same_stamp x job)) [
 abbrev pub key : StampValue → ℕ × ℕ
 key job = (job.counter, job.site)
 
-pub keys-push : (jobs : List StampValue) (job : StampValue) → map key (jobs ++ job ∷ []) ≡ map key jobs ++ key job ∷ []
-keys-push [] job = refl
-keys-push (x ∷ jobs) job = ap (λ ks. key x ∷ ks) (keys-push jobs job)
-
 any_key : (job : StampValue) (jobs : List StampValue) → list_any (λ y. (job.counter == y.0) && (job.site == y.1)) (map key jobs) ≡ list_any (same_stamp job) jobs
 any_key job [] = refl
 any_key job (x ∷ jobs) = rw (any_key job jobs) refl
 
 chosen_keys : (t : Bool) (job : StampValue) (jobs : List StampValue) → (if t then map key jobs else map key jobs ++ key job ∷ []) ≡ map key (if t then jobs else jobs ++ job ∷ [])
 chosen_keys true job jobs = refl
-chosen_keys false job jobs = sym (keys-push jobs job)
+chosen_keys false job jobs = sym (map_push key jobs job)
 
 -- a set of the jobs, as pairs, gets one more
 pub keys-once : (job : StampValue) (done : List StampValue) (a b : ℕ) (keys keys' : List (ℕ × ℕ)) → a ≡ job.counter → b ≡ job.site → keys ≡ map key (once done) → keys' ≡ (if list_any (λ y. (a == y.0) && (b == y.1)) keys then keys else keys ++ (a, b) ∷ []) → keys' ≡ map key (once (done ++ job ∷ []))

@@ -7,6 +7,7 @@ use Rattle.std.specs.List.{All, find, join_with_byte, range_with_len}
 use Rattle.std.proofs.lemmas.Bool.{cases_Bool, cases_lt}
 use Rattle.std.proofs.lemmas.Bool.Decides.{nat_tests}
 use Rattle.std.proofs.lemmas.Fmt.{length-decimal-le}
+use Rattle.std.proofs.lemmas.List.{map-id}
 use Rattle.fed_stamp.specs.declared.rosters.TheConstants.{MAX_NODES}
 use Rattle.fed_stamp.specs.declared.stamps.TheConstants.{MAX_COUNTER}
 use Rattle.fed_lattice.specs.Results.{mapped, each}
@@ -32,7 +33,7 @@ use Rattle.fed_words.specs.Utility.{takes_argument, utility_named}
 use Rattle.fed_words.specs.Askable.{HasJobs, IsAsked, IsJob, IsOption, IsResourceInRange, IsInRange, ResourceArgument, OptionArgument, account, asking, full, held, identifier_text, item_of, kinds, line_of, name, name_of, nodes, priority, resource_of, resource_text, resources, setting_of, sites, walltime}
 use Rattle.fed_words.proofs.Answering.{asked-answer}
 use Rattle.fed_words.proofs.Lines.{IsItem, line_is_read}
-use Rattle.fed_words.proofs.Cuts.{Free, all-map, cut-after, cut-before, cut-found, each-said, free-append, free-join, map-itself, split-join}
+use Rattle.fed_words.proofs.Cuts.{Free, all-map, cut-after, cut-before, cut-found, each-said, free-append, free-join, split-join}
 use Rattle.fed_words.proofs.Texts.{free-decimal, free-site_name, no_comma, no_plus_sign, number_in-decimal, priority_in-signed, in_64}
 
 -- the least place that passes
@@ -95,7 +96,7 @@ module _ (roster : List (List ℕ × ℕ)) (lawful : IsRoster roster) where
       let parts = split-join 43 (map (name_at roster) ids) (some_names ids some) free in
       ap (λ names. mapped set_of (each (site_in BadValue roster) names)) parts
       ∙ ap (mapped set_of) (each-said (site_in BadValue roster) (name_at roster) (λ site. site) (λ site. site < length roster) (site_in-name BadValue) ids all)
-      ∙ ap (λ found. Ok (set_of found)) (map-itself ids)
+      ∙ ap (λ found. Ok (set_of found)) (map-id ids)
 
   pub resource_in-text : (argument : ResourceArgument) → IsResourceInRange roster argument → resource_in roster (resource_text roster argument) ≡ Ok (resource_of argument)
   resource_in-text (nodes n) h = value_read (codes "nodes") (decimal n) (refl, (refl, (refl, (refl, (refl, tt))))) ∙ rw (number_in-decimal 1 MAX_NODES n (omega arith) h) refl
@@ -156,7 +157,7 @@ module _ (roster : List (List ℕ × ℕ)) (lawful : IsRoster roster) where
   jobs_named : (here : ℕ) (jobs : List StampValue) → All (IsJob roster) jobs → named_jobs roster here (map (identifier_text roster) jobs) ≡ Ok (once jobs)
   jobs_named here jobs known =
       ap (mapped once) (each-said (job_in roster here) (identifier_text roster) (λ job. job) (IsJob roster) (job_in-identifier here) jobs known)
-      ∙ ap (λ found. Ok (once found)) (map-itself jobs)
+      ∙ ap (λ found. Ok (once found)) (map-id jobs)
 
   named : (utility : Utility) → utility_named (name_of utility) ≡ Some utility
   named Qsub = refl

@@ -4,6 +4,7 @@ use Rattle.std.specs.Prelude.{if◌then◌else◌, option_map, unwrap_or}
 use Rattle.std.specs.Option.{ok_or, option_or}
 use Rattle.std.specs.Str.{bytes_eq}
 use Rattle.fed_lattice.specs.Results.{◌>>=◌, mapped, each}
+use Rattle.fed_lattice.proofs.EntryLoops.{drop_item}
 use Rattle.fed_words.specs.declared.faults.UsageFault.{UsageFault}
 use Rattle.fed_model.specs.declared.values.Changes.{Changes}
 use Rattle.fed_words.specs.declared.resources.Resources.{Resources}
@@ -17,7 +18,7 @@ use Rattle.fed_words.specs.Setting.{account_in, is_full, is_held, kinds_of, last
 use Rattle.fed_words.specs.Spelling.{Item, Spelling, before, group, is_options, spelling, with_item}
 use Rattle.fed_words.proofs.Each.{each-append}
 use Rattle.fed_words.proofs.Lasts.{last_settings-push}
-use Rattle.fed_words.proofs.Spellings.{Words, not_dashes, word_here}
+use Rattle.fed_words.proofs.Spellings.{Words, not_dashes}
 
 -- ---- one option more
 
@@ -142,21 +143,21 @@ module _ (roster : List (List ℕ × ℕ)) (items : List Item) where
 module _ (roster : List (List ℕ × ℕ)) (utility : Utility) (all : Words) (k : ℕ) (items : List Item) where
   module _ (word : List ℕ) (within : k < length all) (item : word ≡ get_or all k word) where
     pub options-argument : (option : Choice) → reading roster items (spelling utility (Some option) (drop k all)) ≡ reading roster (items ++ (option, word) ∷ []) (spelling utility None (drop (k + 1) all))
-    options-argument option = rw (word_here all k word within item) (reading-item roster items (option, word) (spelling utility None (drop (k + 1) all)))
+    options-argument option = rw (drop_item all k word within item) (reading-item roster items (option, word) (spelling utility None (drop (k + 1) all)))
 
     pub options-wrong : (option : Choice) (fault : UsageFault) → settings_in roster (items ++ (option, word) ∷ []) ≡ Err fault → reading roster items (spelling utility (Some option) (drop k all)) ≡ Err fault
     options-wrong option fault e = options-argument option ∙ reading-wrong roster (items ++ (option, word) ∷ []) fault (spelling utility None (drop (k + 1) all)) e
 
     pub options-operand : (settings : Settings) → is_options word ≡ false → settings_in roster items ≡ Ok settings → reading roster items (spelling utility None (drop k all)) ≡ Ok (settings, drop k all)
-    options-operand settings e f = rw (word_here all k word within item, not_dashes word e, e) (reading-end roster items settings (word ∷ drop (k + 1) all) f)
+    options-operand settings e f = rw (drop_item all k word within item, not_dashes word e, e) (reading-end roster items settings (word ∷ drop (k + 1) all) f)
 
     pub options-end : (settings : Settings) → bytes_eq word (codes "--") ≡ true → settings_in roster items ≡ Ok settings → reading roster items (spelling utility None (drop k all)) ≡ Ok (settings, drop (k + 1) all)
-    options-end settings e f = rw (word_here all k word within item, e) (reading-end roster items settings (drop (k + 1) all) f)
+    options-end settings e f = rw (drop_item all k word within item, e) (reading-end roster items settings (drop (k + 1) all) f)
 
     pub options-group : (settings : Settings) (wanted : Option Choice) → bytes_eq word (codes "--") ≡ false → is_options word ≡ true → reading roster items (group utility (drop 1 word)) ≡ Ok (settings, wanted) → (settings_in roster (items ++ (group utility (drop 1 word)).items) ≡ Ok settings) × (reading roster items (spelling utility None (drop k all)) ≡ reading roster (items ++ (group utility (drop 1 word)).items) (spelling utility wanted (drop (k + 1) all)))
     options-group settings wanted e f h =
         let goes = reading-before roster items (group utility (drop 1 word)) (λ next. spelling utility next (drop (k + 1) all)) settings wanted h in
-        (goes.0, rw (word_here all k word within item, e, f) goes.1)
+        (goes.0, rw (drop_item all k word within item, e, f) goes.1)
 
     pub options-fault : (fault : UsageFault) → bytes_eq word (codes "--") ≡ false → is_options word ≡ true → reading roster items (group utility (drop 1 word)) ≡ Err fault → reading roster items (spelling utility None (drop k all)) ≡ Err fault
-    options-fault fault e f h = rw (word_here all k word within item, e, f) (reading-before-wrong roster items (group utility (drop 1 word)) (λ next. spelling utility next (drop (k + 1) all)) fault h)
+    options-fault fault e f h = rw (drop_item all k word within item, e, f) (reading-before-wrong roster items (group utility (drop 1 word)) (λ next. spelling utility next (drop (k + 1) all)) fault h)

@@ -1,7 +1,8 @@
 -- Words, one after another.
-use Rattle.std.proofs.Common.{◌≡◌, ℕ, zero, suc, ◌+◌, ◌-◌, ◌<◌, Bool, true, false, ◌&&◌, ◌==◌, nat_lt, List, [], ◌∷◌, ◌++◌, length, get_or, take, drop, length-drop, codes, Bor, refl, ap, sym, ◌∙◌, arith, add-one, drop-cons}
+use Rattle.std.proofs.Common.{◌≡◌, ℕ, zero, suc, ◌-◌, ◌<◌, true, false, ◌==◌, nat_lt, List, [], ◌∷◌, ◌++◌, length, get_or, take, drop, length-drop, codes, Bor, refl, ap, sym, ◌∙◌, arith}
 use Rattle.std.specs.Str.{bytes_eq}
 use Rattle.std.proofs.Math.Seq.{take-length}
+use Rattle.std.proofs.Math.Bool.{and-false}
 use Rattle.std.proofs.lemmas.Bool.Decides.{nat_tests}
 use Rattle.std.proofs.lemmas.List.{drop-map}
 use Rattle.fed_words.specs.Item.{words_of}
@@ -12,9 +13,6 @@ Words = List (List ℕ)
 
 abbrev pub with_items : List Item → Spelling Words → Spelling Words
 with_items items s = record { items = items ++ s.items; rest = s.rest }
-
-pub word_here : (all : Words) (k : ℕ) (word : List ℕ) → k < length all → word ≡ get_or all k word → drop k all ≡ word ∷ drop (k + 1) all
-word_here all k word within item = rw add-one (drop-cons all k word within ∙ ap (λ w. w ∷ drop (suc k) all) (sym item))
 
 pub words_of-drop : (k : ℕ) (words : List (Bor (List ℕ))) → words_of (drop k words) ≡ drop k (words_of words)
 words_of-drop k words = sym (drop-map (λ word. word.now) k words)
@@ -30,13 +28,9 @@ word_at (word ∷ words) zero d within = (omega arith, refl)
 word_at (word ∷ words) (suc k) d within = let next = word_at words k d (omega arith) in (omega (arith, next.0), next.1)
 
 -- ---- words that are not of options
-and-no : (b : Bool) → (b && false) ≡ false
-and-no true = refl
-and-no false = refl
-
 pub not_dashes : (word : List ℕ) → is_options word ≡ false → bytes_eq word (codes "--") ≡ false
 not_dashes [] e = refl
-not_dashes (b ∷ []) e = and-no (b == 45)
+not_dashes (b ∷ []) e = and-false (b == 45)
 not_dashes (b ∷ c ∷ bytes) e =
     let two : nat_lt 1 (suc (suc (length bytes))) ≡ true = grind (arith, nat_tests) in
     let other : (b == 45) ≡ false = rw two at e in
