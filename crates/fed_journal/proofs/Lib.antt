@@ -5,6 +5,7 @@ pub mod Crash
 pub mod Failing
 pub mod Hexadecimal
 pub mod Moments
+pub mod ReadBack
 pub mod Reading
 pub mod Repair
 pub mod Replacing

@@ -18,7 +18,7 @@
 //!
 //! A file that takes the place of another has its owner, group and permissions. It isn't given an access list (ACL) or
 //! another attribute that the old one had.
-ghost use Rattle.std.specs.Prelude.{◌≡◌, ℕ, true, [], ◌∷◌, ◌++◌, length, reverse, Vec, Some, None, is_some, IfOk};
+ghost use Rattle.std.specs.Prelude.{◌≡◌, ◌↔◌, ℕ, true, [], ◌∷◌, ◌++◌, length, reverse, Vec, Some, None, is_some, IfOk, IfSome, IsErrOf, IsTrue};
 ghost use Rattle.std.specs.declared.alloc.Global.{Global};
 ghost use Rattle.fed_journal.specs.Calls.{counts_now, errors_by, left_by, left_since, only_now, seen_by};
 
@@ -66,6 +66,13 @@ struct Place {
     path: PathBuf,
     // where a file is made that is to take its place
     new_path: PathBuf,
+}
+
+/// A file that is opened and not locked yet: another process may have it, and another file may take its place.
+#[derive(Drop)]
+pub struct OpenedFile {
+    place: Place,
+    file: File,
 }
 
 /// A file that is to take the place of another, and the directory of both.
@@ -149,17 +156,20 @@ fn give_as(file: &File, old: &Metadata) -> io::Result<()> {
     file.set_permissions(old.permissions())
 }
 
-/// Whether a read of the file, which has not been read, gives these bytes.
-fn has_bytes(file: &mut File, bytes: &[u8]) -> io::Result<bool> {
+/// Whether a reader gives these bytes and no others. Where it gives fewer, there may be an error of kind `UnexpectedEof`.
+#[tactic(auto, using(crate::proofs::ReadBack::parts))]
+fn has_bytes<R: Read>(reader: &mut R, bytes: &[u8]) -> io::Result<bool>
+    ensures { IfOk result (λ same. IfSome (R.remaining reader.old) (λ given. IsTrue same ↔ (given ≡ bytes.now))) }
+{
     let mut buffer = [0u8; PART_BYTES];
     for part in bytes.chunks(PART_BYTES) {
         let read = &mut buffer[..part.len()];
-        file.read_exact(read)?;
+        reader.read_exact(read)?;
         if *read != *part {
             return Ok(false);
         }
     }
-    Ok(file.read(&mut buffer)? == 0)
+    Ok(reader.read(&mut buffer)? == 0)
 }
 
 /// Makes a file with these bytes, which this process has to itself, and waits until the disk has it.
@@ -197,48 +207,70 @@ fn read_settled(alloc: Global, file: &mut File, directory: &File) -> io::Result<
     Ok(bytes)
 }
 
-impl<R: Files<File = File> + AllocGlobal + Clone + Drop> FileDevice<R> {
+impl OpenedFile {
     ghost use Rattle.fed_journal.specs.Device.{LeavesJust};
     ghost use Rattle.fed_journal.specs.Files.{file_may_leave, file_seen};
 
     /// Opens the file of this name in a directory. Where the file or the directory is missing, `Failed` has an error of
-    /// kind `NotFound`; `InUse` comes while another open of the file lasts, and where another file has just taken its place.
-    pub fn open(rt: &R, directory: &str, name: &str) -> Result<FileDevice<R>, OpenFault>
-        ensures { IfOk result (λ device. LeavesJust (file_seen device) (file_may_leave device)) }
+    /// kind `NotFound`; where it may not be read or written, one of kind `PermissionDenied`. `InUse` never comes.
+    pub fn open<R: Files<File = File> + AllocGlobal>(
+        rt: &R,
+        directory: &str,
+        name: &str,
+    ) -> Result<OpenedFile, OpenFault>
+        ensures { ¬ IsErrOf result OpenFault.InUse }
     {
-        FileDevice::open_as(rt, directory, name, false)
+        OpenedFile::open_as(rt, directory, name, false)
     }
 
     /// Opens the file of this name in a directory, and makes it where it is missing, empty and for its owner alone. The
     /// errors are those of `open`, but that the file may be missing.
-    pub fn make(rt: &R, directory: &str, name: &str) -> Result<FileDevice<R>, OpenFault>
-        ensures { IfOk result (λ device. LeavesJust (file_seen device) (file_may_leave device)) }
+    pub fn make<R: Files<File = File> + AllocGlobal>(
+        rt: &R,
+        directory: &str,
+        name: &str,
+    ) -> Result<OpenedFile, OpenFault>
+        ensures { ¬ IsErrOf result OpenFault.InUse }
     {
-        FileDevice::open_as(rt, directory, name, true)
+        OpenedFile::open_as(rt, directory, name, true)
     }
 
-    fn open_as(
+    fn open_as<R: Files<File = File> + AllocGlobal>(
         rt: &R,
         directory: &str,
         name: &str,
         is_made: bool,
-    ) -> Result<FileDevice<R>, OpenFault>
-        ensures { IfOk result (λ device. LeavesJust (file_seen device) (file_may_leave device)) }
+    ) -> Result<OpenedFile, OpenFault>
+        ensures { ¬ IsErrOf result OpenFault.InUse }
     {
-        let alloc = rt.alloc();
-        let place = place_of(alloc, directory, name)?;
+        let place = place_of(rt.alloc(), directory, name)?;
         let opened = OpenOptions::new()
             .read(true)
             .write(true)
             .create(is_made)
             .mode(OWNER_ALONE)
             .open(rt, place.path.as_path())?;
-        let mut file = beyond_streams(opened)?;
+        let file = beyond_streams(opened)?;
+        Ok(OpenedFile { place, file })
+    }
+
+    /// Locks the file, and reads it once the disk has it and its name. `InUse` comes while another open of the file has the
+    /// lock, and where another file has taken its place since it was opened: what is written to the old one would be lost.
+    /// `Failed` has an error of kind `NotFound` where no file has its name any more, and else the disk's or the system's.
+    pub fn take<R: Files<File = File> + AllocGlobal + Clone + Drop>(
+        self,
+        rt: &R,
+    ) -> Result<FileDevice<R>, OpenFault>
+        ensures { IfOk result (λ device. LeavesJust (file_seen device) (file_may_leave device)) }
+    {
+        let OpenedFile { place, mut file } = self;
         lock(&file)?;
         if !is_named(rt, place.path.as_path(), &file)? {
             return Err(OpenFault::InUse);
         }
-        let bytes = read_settled(alloc, &mut file, &File::open(rt, directory)?)?;
+        let directory = File::open(rt, place.directory.as_path())?;
+        let alloc = rt.alloc();
+        let bytes = read_settled(alloc, &mut file, &directory)?;
         let (calls, bytes) = note_found(bytes);
         Ok(FileDevice {
             rt: rt.clone()?,
@@ -249,6 +281,27 @@ impl<R: Files<File = File> + AllocGlobal + Clone + Drop> FileDevice<R> {
             failed: None,
             calls,
         })
+    }
+}
+
+impl<R: Files<File = File> + AllocGlobal + Clone + Drop> FileDevice<R> {
+    ghost use Rattle.fed_journal.specs.Device.{LeavesJust};
+    ghost use Rattle.fed_journal.specs.Files.{file_may_leave, file_seen};
+
+    /// Opens the file of this name in a directory. Where the file or the directory is missing, `Failed` has an error of
+    /// kind `NotFound`; `InUse` comes while another open of the file lasts, and where another file has just taken its place.
+    pub fn open(rt: &R, directory: &str, name: &str) -> Result<FileDevice<R>, OpenFault>
+        ensures { IfOk result (λ device. LeavesJust (file_seen device) (file_may_leave device)) }
+    {
+        OpenedFile::open(rt, directory, name)?.take(rt)
+    }
+
+    /// Opens the file of this name in a directory, and makes it where it is missing, empty and for its owner alone. The
+    /// errors are those of `open`, but that the file may be missing.
+    pub fn make(rt: &R, directory: &str, name: &str) -> Result<FileDevice<R>, OpenFault>
+        ensures { IfOk result (λ device. LeavesJust (file_seen device) (file_may_leave device)) }
+    {
+        OpenedFile::make(rt, directory, name)?.take(rt)
     }
 
     /// Makes the file that is to take the place of this one, with its owner, group and permissions. Where that fails, it is

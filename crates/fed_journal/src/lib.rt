@@ -16,7 +16,7 @@ mod tails;
 
 pub use devices::{Device, Replacement};
 pub use faults::{DeviceFault, JournalFault, OpenFault};
-pub use files::FileDevice;
+pub use files::{FileDevice, OpenedFile};
 pub use journals::{Journal, MAX_BYTES, Recovered, Unopened};
 pub use lines::{are_lines, is_line};
 pub use memory::{Memory, Tear};
