@@ -6,17 +6,17 @@ use Rattle.std.specs.Str.{bytes_eq}
 use Rattle.std.proofs.Common.{◌≡◌, ℕ, ◌+◌, ◌-◌, ◌<◌, ◌≤◌, Bool, true, false, List, [], ◌∷◌, drop, drop-cons, add-one, get_or, length, refl, ap, sym, subst, ◌∙◌, arith}
 use Rattle.std.proofs.lemmas.List.{drop_all}
 use Rattle.fed_replica.specs.State.{State, empty_at, state_of}
-use Rattle.fed_site.specs.Answered.{kept_of}
+use Rattle.fed_site.specs.SiteAnswer.{kept_of}
 use Rattle.fed_site.specs.Journal.{SaidAs}
 use Rattle.fed_site.specs.Known.{known_in}
 use Rattle.fed_site.specs.Rosters.{roster_after}
 use Rattle.fed_site.specs.Says.{site_says}
 use Rattle.fed_site.specs.Site.{SiteValue}
-use Rattle.fed_site.specs.declared.site.Answered.{Answered}
+use Rattle.fed_site.specs.declared.site.SiteAnswer.{SiteAnswer}
 use Rattle.fed_home.specs.declared.faults.HomeFault.{HomeFault}
 use Rattle.fed_home.specs.declared.faults.HomeFault.TheVariants.{UnreadHeader, UnreadKnown, UnreadHeard, UnkeptEntry}
-use Rattle.fed_home.specs.declared.headers.Format.{Format}
-use Rattle.fed_home.specs.declared.headers.Format.TheVariants.{One, Two, Three, Four}
+use Rattle.fed_home.specs.declared.headers.JournalFormat.{JournalFormat}
+use Rattle.fed_home.specs.declared.headers.JournalFormat.TheVariants.{One, Two, Three, Four}
 use Rattle.fed_home.specs.declared.headers.Header.{Header}
 use Rattle.fed_home.specs.Fault.{StopsAt, StopsReplay}
 use Rattle.fed_home.specs.Header.{header_in, is_compacted}
@@ -34,7 +34,7 @@ goes number site lines = after_kept number site.roster (state_of site.replica) l
 next_line : (lines : List (Bor (List ℕ))) (i : ℕ) (d : Bor (List ℕ)) → i < length lines → texts_now (drop i lines) ≡ (get_or lines i d).now ∷ texts_now (drop (i + 1) lines)
 next_line lines i d within = ap texts_now (drop-cons lines i d within ∙ (λ j. get_or lines i d ∷ drop (sym (add-one i) j) lines))
 
-module _ (number : ℕ) (mid new : SiteValue) (lines : List (Bor (List ℕ))) (i : ℕ) (d : Bor (List ℕ)) (answer : Answered) (within : i < length lines)
+module _ (number : ℕ) (mid new : SiteValue) (lines : List (Bor (List ℕ))) (i : ℕ) (d : Bor (List ℕ)) (answer : SiteAnswer) (within : i < length lines)
     (said : SaidAs mid new answer (roster_after mid.roster (get_or lines i d).now) (site_says mid.roster (state_of mid.replica) (get_or lines i d).now)) where
   -- what comes of the line at an index, by whether it is kept
   came : Bool → Result Replayed HomeFault
@@ -99,7 +99,7 @@ heard_all count number site lines is =
 
 -- ---- the entries behind a header
 module _ (header : Header) (all rest : List (Bor (List ℕ))) (text : Bor (List ℕ)) (is : all ≡ text ∷ rest) where
-  known_format : (format : Format) → is_compacted format ≡ true → known_in header.roster header.site text.now ≡ None → begun format header.roster header.site (texts_now all) ≡ Err UnreadKnown
+  known_format : (format : JournalFormat) → is_compacted format ≡ true → known_in header.roster header.site text.now ≡ None → begun format header.roster header.site (texts_now all) ≡ Err UnreadKnown
   known_format One k n = cc
   known_format Two k n = (λ i. begun Two header.roster header.site (texts_now (is i))) ∙ (λ i. after_known (n i) (λ s. after_kept 3 header.roster s (texts_now rest)))
   known_format Three k n = cc
@@ -115,7 +115,7 @@ module _ (header : Header) (all rest : List (Bor (List ℕ))) (text : Bor (List 
         ∙ (λ i. after_known (sym known i) (λ s. after_heard (length header.roster) 0 header.roster s (texts_now rest)))
         ∙ (λ i. after_heard (length (sym roster i)) 0 (sym roster i) (state_of site.replica) (texts_now rest))
 
-    two : (format : Format) → is_compacted format ≡ true → (format ≡ Four → ⊥) → begun format header.roster header.site (texts_now all) ≡ goes 3 site (texts_now rest)
+    two : (format : JournalFormat) → is_compacted format ≡ true → (format ≡ Four → ⊥) → begun format header.roster header.site (texts_now all) ≡ goes 3 site (texts_now rest)
     two One k not = cc
     two Two k not =
         (λ i. begun Two header.roster header.site (texts_now (is i)))
@@ -130,7 +130,7 @@ module _ (header : Header) (all rest : List (Bor (List ℕ))) (text : Bor (List 
 pub known_nowhere : (header : Header) (all : List (Bor (List ℕ))) → all ≡ [] → is_compacted header.format ≡ true → begun_by (texts_now all) (Some header) ≡ Err UnreadKnown
 known_nowhere header all is k = (λ i. begun header.format header.roster header.site (texts_now (is i))) ∙ go header.format k
   where
-    go : (format : Format) → is_compacted format ≡ true → begun format header.roster header.site [] ≡ Err UnreadKnown
+    go : (format : JournalFormat) → is_compacted format ≡ true → begun format header.roster header.site [] ≡ Err UnreadKnown
     go One k = cc
     go Two k = refl
     go Three k = cc
@@ -140,7 +140,7 @@ pub from_nothing : (header : Header) (all : List (List ℕ)) (site : SiteValue) 
     → begun_by all (Some header) ≡ goes 2 site all
 from_nothing header all site k roster state = go header.format k ∙ (λ i. after_kept 2 (sym roster i) (sym state i) all)
   where
-    go : (format : Format) → is_compacted format ≡ false → begun format header.roster header.site all ≡ after_kept 2 header.roster (empty_at header.site) all
+    go : (format : JournalFormat) → is_compacted format ≡ false → begun format header.roster header.site all ≡ after_kept 2 header.roster (empty_at header.site) all
     go One k = refl
     go Two k = cc
     go Three k = refl

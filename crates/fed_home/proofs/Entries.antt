@@ -1,15 +1,11 @@
 -- The entries of a compacted journal: how many bytes they take, and how they are gathered.
 use Rattle.std.specs.Prelude.{Vec, suc}
 use Rattle.std.specs.declared.alloc.Global.{Global}
-use Rattle.std.proofs.Common.{◌≡◌, ℕ, ◌+◌, ◌<◌, ◌≤◌, Bool, true, false, List, [], ◌∷◌, ◌++◌, drop, drop-cons, get_or, length, add-one, refl, ap, sym, ◌∙◌, arith}
-use Rattle.std.proofs.lemmas.Bool.{and_from, eq-eqb}
+use Rattle.std.proofs.Common.{◌≡◌, ℕ, ◌+◌, ◌<◌, ◌≤◌, List, [], ◌∷◌, ◌++◌, drop, drop-cons, get_or, length, add-one, refl, ap, sym, ◌∙◌, arith}
 use Rattle.std.proofs.lemmas.List.{drop_all, length-append, map-append}
-use Rattle.std.proofs.lemmas.Slice.Eq.{bytes_eq-Decides}
 use Rattle.fed_replica.specs.State.{State}
 use Rattle.fed_site.specs.Known.{unheard}
 use Rattle.fed_site.specs.Packets.{IsPacketText}
-use Rattle.fed_site.specs.Rosters.{are_same}
-use Rattle.fed_site.specs.Site.{SiteValue}
 use Rattle.fed_journal.specs.Lines.{at_rest, digest_of, first_digest, front_of, line_of, open_lines, texts_of}
 use Rattle.fed_journal.proofs.Hexadecimal.{length-digest_of}
 use Rattle.fed_home.specs.Compaction.{AreEntries, heard_texts}
@@ -64,18 +60,6 @@ gathered_more s count entries new text are is told = record {
       ∙ (λ i. are.are i ++ told i ∷ [])
       ∙ (λ i. are.header ∷ (are.known ∷ heard_texts s (sym (add-one count) i)));
 }
-
--- ---- rosters
-pub same_itself : (sites : List (List ℕ × ℕ)) → are_same sites sites ≡ true
-same_itself [] = refl
-same_itself (site ∷ sites) = and_from _ _ (and_from _ _ ((bytes_eq-Decides site.0 site.0).1 refl) (eq-eqb site.1 site.1 refl)) (same_itself sites)
-
--- sites whose rosters differ are not the same
-pub rosters_differ : (one other : SiteValue) (x y : List (List ℕ × ℕ)) (same : Bool) → same ≡ are_same x y → x ≡ one.roster → y ≡ other.roster → same ≡ false → one ≡ other → ⊥
-rosters_differ one other x y same e p q wrong is =
-    let yes : are_same x y ≡ true = (λ i. are_same ((p ∙ ap (λ (site : SiteValue). site.roster) is) i) (q i)) ∙ same_itself other.roster in
-    let no : true ≡ false = sym yes ∙ (sym e ∙ wrong) in
-    cc
 
 -- ---- how many
 pub length-texts_of : (entries : List (Vec ℕ Global)) → length (texts_of entries) ≡ length entries

@@ -11,13 +11,13 @@ use Rattle.fed_script.specs.Line.{told, words_in}
 use Rattle.fed_script.specs.Lines.{is_readable, words_of}
 use Rattle.fed_script.specs.Rosters.{roster_of}
 use Rattle.fed_journal.specs.Lines.{IsLine}
-use Rattle.fed_home.specs.declared.headers.Format.{Format}
+use Rattle.fed_home.specs.declared.headers.JournalFormat.{JournalFormat}
 use Rattle.fed_home.specs.declared.headers.Header.{Header}
 use Rattle.fed_home.specs.Header.{format_of, header_in, header_of, site_among}
 use Rattle.fed_home.proofs.Lines.{readable_line}
 
 module _ (name : List ℕ) (h : Header) where
-  found_below : (format : Format) (roster : List (List ℕ × ℕ)) (found : Option ℕ) → site_named roster name ≡ found
+  found_below : (format : JournalFormat) (roster : List (List ℕ × ℕ)) (found : Option ℕ) → site_named roster name ≡ found
       → option_map (λ site. record { roster = roster; site = site; format = format }) found ≡ Some h → h.site < length h.roster
   found_below format roster None s e = cc
   found_below format roster (Some i) s e =
@@ -26,12 +26,12 @@ module _ (name : List ℕ) (h : Header) where
       let below : i < length roster = let within = (found_in_range (is_named roster name) 0 (length roster) i s).1 in omega arith in
       subst (λ (x : Header). x.site < length x.roster) is below
 
-  among_below : (format : Format) (o : Option (List (List ℕ × ℕ))) → (o >>= λ roster. option_map (λ site. record { roster = roster; site = site; format = format }) (site_named roster name)) ≡ Some h
+  among_below : (format : JournalFormat) (o : Option (List (List ℕ × ℕ))) → (o >>= λ roster. option_map (λ site. record { roster = roster; site = site; format = format }) (site_named roster name)) ≡ Some h
       → h.site < length h.roster
   among_below format None e = cc
   among_below format (Some roster) e = found_below format roster (site_named roster name) refl e
 
-  format_below : (o : Option Format) (sites : List (List ℕ)) → (o >>= λ format. site_among format name sites) ≡ Some h → h.site < length h.roster
+  format_below : (o : Option JournalFormat) (sites : List (List ℕ)) → (o >>= λ format. site_among format name sites) ≡ Some h → h.site < length h.roster
   format_below None sites e = cc
   format_below (Some format) sites e = among_below format (roster_of sites) e
 

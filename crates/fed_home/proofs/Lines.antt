@@ -1,9 +1,10 @@
 -- A line that is kept has no line feed.
-use Rattle.std.specs.Prelude.{Some, None, if◌then◌else◌, nat_eq, not, ◌&&◌, ◌||◌, codes}
+use Rattle.std.specs.Prelude.{Some, None, if◌then◌else◌, nat_eq, not, ◌&&◌, codes}
 use Rattle.std.proofs.Common.{◌≡◌, ℕ, Bool, true, false, List, [], ◌∷◌, ◌++◌, drop, refl, arith}
 use Rattle.std.specs.List.{All, list_any, starts_with}
 use Rattle.std.proofs.lemmas.List.Elements.{All-nil, All-cons}
 use Rattle.std.proofs.lemmas.List.Sums.{AllPass-from_list_all}
+use Rattle.std.proofs.lemmas.Bool.{or_parts}
 use Rattle.std.proofs.lemmas.Bool.Decides.{nat_tests}
 use Rattle.fed_replica.specs.State.{State}
 use Rattle.fed_script.specs.Line.{told as words_told}
@@ -23,15 +24,11 @@ readable_line line e = λ k d within. readable_byte _ (AllPass-from_list_all is_
 other_byte : (b : ℕ) → nat_eq 10 b ≡ false → is_line_feed b ≡ false
 other_byte b e = grind (arith, nat_tests)
 
-or_false : (a b : Bool) → (a || b) ≡ false → (a ≡ false) × (b ≡ false)
-or_false true b e = cc
-or_false false b e = (refl, e)
-
 -- without a line feed
 no_line_feed : (line : List ℕ) → list_any (nat_eq 10) line ≡ false → IsLine line
 no_line_feed [] e = All-nil (λ byte. is_line_feed byte ≡ false)
 no_line_feed (b ∷ line) e =
-    let parts = or_false (nat_eq 10 b) (list_any (nat_eq 10) line) e in
+    let parts = or_parts (nat_eq 10 b) (list_any (nat_eq 10) line) e in
     All-cons (λ byte. is_line_feed byte ≡ false) b line (other_byte b parts.0) (no_line_feed line parts.1)
 
 module _ (roster : List (List ℕ × ℕ)) (s : State) (line : List ℕ) where

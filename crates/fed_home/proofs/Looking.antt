@@ -2,7 +2,7 @@
 use Rattle.std.specs.Prelude.{◌==◌, map}
 use Rattle.std.specs.Borrow.{Bor}
 use Rattle.std.proofs.Common.{◌≡◌, ℕ, true, false, List, [], ◌∷◌, ◌++◌, length, Ok, refl, ap, sym, subst, ◌∙◌, append-nil, arith}
-use Rattle.std.proofs.lemmas.Bool.{eqb-true}
+use Rattle.std.proofs.lemmas.Bool.{eqb-true, true≢false}
 use Rattle.fed_replica.specs.State.{State, state_of}
 use Rattle.fed_site.specs.Journal.{after_lines, kept_lines}
 use Rattle.fed_site.specs.Rosters.{roster_after_lines}
@@ -20,10 +20,7 @@ none_kept [] n e none = refl
 none_kept (line ∷ kept) n e none = absurd (omega (arith, e, eqb-true n 0 none))
 
 pub some_kept : (kept : List (Bor (List ℕ))) (n : ℕ) → n ≡ length kept → (n == 0) ≡ false → map (λ (line : Bor (List ℕ)). line.now) kept ≡ [] → ⊥
-some_kept [] n e some is = apart (subst (λ (m : ℕ). (m == 0) ≡ false) e some)
-  where
-    apart : true ≡ false → ⊥
-    apart e = cc
+some_kept [] n e some is = true≢false (subst (λ (m : ℕ). (m == 0) ≡ false) e some)
 some_kept (line ∷ kept) n e some is = cons_nil is
   where
     cons_nil : {x : List ℕ} {xs : List (List ℕ)} → x ∷ xs ≡ [] → ⊥

@@ -15,8 +15,8 @@ use Rattle.fed_journal.specs.Journal.{IsBeforeOrAfter, entries_in, entries_of}
 use Rattle.fed_journal.specs.Lines.{recovered}
 use Rattle.fed_home.specs.declared.faults.HomeFault.{HomeFault}
 use Rattle.fed_home.specs.declared.faults.HomeFault.TheVariants.{UnreadHeard, UnkeptEntry}
-use Rattle.fed_home.specs.declared.headers.Format.{Format}
-use Rattle.fed_home.specs.declared.headers.Format.TheVariants.{One, Two, Three, Four}
+use Rattle.fed_home.specs.declared.headers.JournalFormat.{JournalFormat}
+use Rattle.fed_home.specs.declared.headers.JournalFormat.TheVariants.{One, Two, Three, Four}
 use Rattle.fed_home.specs.declared.headers.Header.{Header}
 use Rattle.fed_home.specs.Header.{header_in, is_compacted}
 use Rattle.fed_home.specs.Replay.{Replayed, after_heard, after_known, after_kept, begun, begun_by, heard_text, replay, replayed_of, site_after}
@@ -37,10 +37,6 @@ kept_both roster s (line ∷ first) second =
     let next = roster_after roster line in
     ap (λ ls. kept_line says.kept line ++ ls) (kept_both next says.after first second)
     ∙ sym (append_assoc (kept_line says.kept line) (kept_lines next says.after first) (kept_lines (roster_after_lines next first) (after_lines next says.after first) second))
-
--- a site that has answered these lines
-abbrev answered : Replayed → List (List ℕ) → Replayed
-answered r lines = record { roster = roster_after_lines r.roster lines; state = after_lines r.roster r.state lines }
 
 -- a line that is kept
 kept_first : (number : ℕ) (roster : List (List ℕ × ℕ)) (s : State) (line : List ℕ) (rest : List (List ℕ)) → (site_says roster s line).kept ≡ true
@@ -72,43 +68,43 @@ goes_on true fault old new r t next e = next e
 goes_on false fault old new r t next e = cc
 
 kept_more : (number : ℕ) (roster : List (List ℕ × ℕ)) (s : State) (first : List (List ℕ)) (r : Replayed) (lines : List (List ℕ)) → after_kept number roster s first ≡ Ok r
-    → after_kept number roster s (first ++ kept_lines r.roster r.state lines) ≡ Ok (answered r lines)
+    → after_kept number roster s (first ++ kept_lines r.roster r.state lines) ≡ Ok (site_after r.roster lines r.state)
 kept_more number roster s [] r lines e =
     let site : Replayed = record { roster = roster; state = s } in
     let is : site ≡ r = cc in
-    subst (λ (x : Replayed). after_kept number roster s (kept_lines x.roster x.state lines) ≡ Ok (answered x lines)) is (kept_read number roster s lines)
+    subst (λ (x : Replayed). after_kept number roster s (kept_lines x.roster x.state lines) ≡ Ok (site_after x.roster lines x.state)) is (kept_read number roster s lines)
 kept_more number roster s (line ∷ first) r lines e =
     let says = site_says roster s line in
     let next = roster_after roster line in
-    goes_on says.kept (UnkeptEntry number) (after_kept (number + 1) next says.after first) (after_kept (number + 1) next says.after (first ++ kept_lines r.roster r.state lines)) r (answered r lines)
+    goes_on says.kept (UnkeptEntry number) (after_kept (number + 1) next says.after first) (after_kept (number + 1) next says.after (first ++ kept_lines r.roster r.state lines)) r (site_after r.roster lines r.state)
     (kept_more (number + 1) next says.after first r lines) e
 
 heard_more : (count from : ℕ) (roster : List (List ℕ × ℕ)) (s : State) (first : List (List ℕ)) (r : Replayed) (lines : List (List ℕ)) → after_heard count from roster s first ≡ Ok r
-    → after_heard count from roster s (first ++ kept_lines r.roster r.state lines) ≡ Ok (answered r lines)
+    → after_heard count from roster s (first ++ kept_lines r.roster r.state lines) ≡ Ok (site_after r.roster lines r.state)
 heard_more zero from roster s first r lines e = kept_more (3 + from) roster s first r lines e
 heard_more (suc count) from roster s [] r lines e = cc
 heard_more (suc count) from roster s (line ∷ first) r lines e =
     let after = (site_says roster s line).after in
     let next = roster_after roster line in
-    goes_on (bytes_eq (heard_text after from) line) (UnreadHeard (3 + from)) (after_heard count (from + 1) next after first) (after_heard count (from + 1) next after (first ++ kept_lines r.roster r.state lines)) r (answered r lines)
+    goes_on (bytes_eq (heard_text after from) line) (UnreadHeard (3 + from)) (after_heard count (from + 1) next after first) (after_heard count (from + 1) next after (first ++ kept_lines r.roster r.state lines)) r (site_after r.roster lines r.state)
     (heard_more count (from + 1) next after first r lines) e
 
 known_more : (o : Option State) (old new : State → Result Replayed HomeFault) (r t : Replayed) → ((s : State) → old s ≡ Ok r → new s ≡ Ok t) → after_known o old ≡ Ok r → after_known o new ≡ Ok t
 known_more None old new r t next e = cc
 known_more (Some s) old new r t next e = next s e
 
-begun_more : (format : Format) (roster : List (List ℕ × ℕ)) (here : ℕ) (first : List (List ℕ)) (r : Replayed) (lines : List (List ℕ)) → begun format roster here first ≡ Ok r
-    → begun format roster here (first ++ kept_lines r.roster r.state lines) ≡ Ok (answered r lines)
+begun_more : (format : JournalFormat) (roster : List (List ℕ × ℕ)) (here : ℕ) (first : List (List ℕ)) (r : Replayed) (lines : List (List ℕ)) → begun format roster here first ≡ Ok r
+    → begun format roster here (first ++ kept_lines r.roster r.state lines) ≡ Ok (site_after r.roster lines r.state)
 begun_more One roster here first r lines e = kept_more 2 roster (empty_at here) first r lines e
 begun_more Three roster here first r lines e = kept_more 2 roster (empty_at here) first r lines e
 begun_more Two roster here [] r lines e = cc
-begun_more Two roster here (text ∷ first) r lines e = known_more (known_in roster here text) (λ s. after_kept 3 roster s first) (λ s. after_kept 3 roster s (first ++ kept_lines r.roster r.state lines)) r (answered r lines) (λ s. kept_more 3 roster s first r lines) e
+begun_more Two roster here (text ∷ first) r lines e = known_more (known_in roster here text) (λ s. after_kept 3 roster s first) (λ s. after_kept 3 roster s (first ++ kept_lines r.roster r.state lines)) r (site_after r.roster lines r.state) (λ s. kept_more 3 roster s first r lines) e
 begun_more Four roster here [] r lines e = cc
 begun_more Four roster here (text ∷ first) r lines e =
-    known_more (known_in roster here text) (λ s. after_heard (length roster) 0 roster s first) (λ s. after_heard (length roster) 0 roster s (first ++ kept_lines r.roster r.state lines)) r (answered r lines)
+    known_more (known_in roster here text) (λ s. after_heard (length roster) 0 roster s first) (λ s. after_heard (length roster) 0 roster s (first ++ kept_lines r.roster r.state lines)) r (site_after r.roster lines r.state)
     (λ s. heard_more (length roster) 0 roster s first r lines) e
 
-behind_more : (first : List (List ℕ)) (o : Option Header) (r : Replayed) (lines : List (List ℕ)) → begun_by first o ≡ Ok r → begun_by (first ++ kept_lines r.roster r.state lines) o ≡ Ok (answered r lines)
+behind_more : (first : List (List ℕ)) (o : Option Header) (r : Replayed) (lines : List (List ℕ)) → begun_by first o ≡ Ok r → begun_by (first ++ kept_lines r.roster r.state lines) o ≡ Ok (site_after r.roster lines r.state)
 behind_more first None r lines e = cc
 behind_more first (Some h) r lines e = begun_more h.format h.roster h.site first r lines e
 
@@ -142,7 +138,7 @@ begins o h e = ap replay_of e
 pub header_alone : (header : List ℕ) (h : Header) → header_in header ≡ Some h → is_compacted h.format ≡ false → replay (header ∷ []) ≡ Some (record { roster = h.roster; state = empty_at h.site })
 header_alone header h e k = begins (header_in header) h e ∙ go h.format k
   where
-    go : (format : Format) → is_compacted format ≡ false → result_ok (begun format h.roster h.site []) ≡ Some (record { roster = h.roster; state = empty_at h.site })
+    go : (format : JournalFormat) → is_compacted format ≡ false → result_ok (begun format h.roster h.site []) ≡ Some (record { roster = h.roster; state = empty_at h.site })
     go One k = refl
     go Two k = cc
     go Three k = refl
@@ -151,7 +147,7 @@ header_alone header h e k = begins (header_in header) h e ∙ go h.format k
 pub header_knows : (header : List ℕ) (h : Header) → header_in header ≡ Some h → is_compacted h.format ≡ true → replay (header ∷ []) ≡ None
 header_knows header h e k = begins (header_in header) h e ∙ go h.format k
   where
-    go : (format : Format) → is_compacted format ≡ true → result_ok (begun format h.roster h.site []) ≡ None
+    go : (format : JournalFormat) → is_compacted format ≡ true → result_ok (begun format h.roster h.site []) ≡ None
     go One k = cc
     go Two k = refl
     go Three k = cc
@@ -171,5 +167,5 @@ left_replayed entries lines roster s file e (inr after) = inr (ap (λ r. replay 
 pub open_again : (entries group lines : List (List ℕ)) (file : List ℕ) (old new : SiteValue) → recovered file ≡ Ok (entries ++ group) → group ≡ kept_lines old.roster (state_of old.replica) lines → replay entries ≡ Some (replayed_of old)
     → new.roster ≡ roster_after_lines old.roster lines → state_of new.replica ≡ after_lines old.roster (state_of old.replica) lines → replay (entries_in file) ≡ Some (replayed_of new)
 open_again entries group lines file old new has is before roster after =
-    let site : answered (replayed_of old) lines ≡ replayed_of new = λ i. record { roster = sym roster i; state = sym after i } in
+    let site : site_after old.roster lines (state_of old.replica) ≡ replayed_of new = λ i. record { roster = sym roster i; state = sym after i } in
     ap (λ r. replay (entries_of r)) has ∙ ap (λ g. replay (entries ++ g)) is ∙ replayed_more entries (replayed_of old) lines before ∙ ap Some site

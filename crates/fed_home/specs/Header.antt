@@ -6,12 +6,12 @@ use Rattle.fed_words.specs.Site.{site_named}
 use Rattle.fed_script.specs.Forms.{◌>>=◌}
 use Rattle.fed_script.specs.Line.{words_in}
 use Rattle.fed_script.specs.Rosters.{roster_of}
-use Rattle.fed_home.specs.declared.headers.Format.{Format}
-use Rattle.fed_home.specs.declared.headers.Format.TheVariants.{One, Two, Three, Four}
+use Rattle.fed_home.specs.declared.headers.JournalFormat.{JournalFormat}
+use Rattle.fed_home.specs.declared.headers.JournalFormat.TheVariants.{One, Two, Three, Four}
 use Rattle.fed_home.specs.declared.headers.Header.{Header}
 
 -- the format of this version
-abbrev pub format_of : List ℕ → Option Format
+abbrev pub format_of : List ℕ → Option JournalFormat
 format_of version =
     if bytes_eq version (codes "1") then Some One
     else (if bytes_eq version (codes "2") then Some Two
@@ -19,14 +19,14 @@ format_of version =
     else (if bytes_eq version (codes "4") then Some Four else None)))
 
 -- whether the entry behind the header is what the site knew
-abbrev pub is_compacted : Format → Bool
+abbrev pub is_compacted : JournalFormat → Bool
 is_compacted One = false
 is_compacted Two = true
 is_compacted Three = false
 is_compacted Four = true
 
 -- the site of this name, of the roster that the words name
-abbrev pub site_among : Format → List ℕ → List (List ℕ) → Option Header
+abbrev pub site_among : JournalFormat → List ℕ → List (List ℕ) → Option Header
 site_among format name sites =
     roster_of sites >>= λ roster. option_map (λ site. record { roster = roster; site = site; format = format }) (site_named roster name)
 

@@ -3,17 +3,17 @@ use Rattle.std.specs.Prelude.{◌≡◌, ℕ, zero, suc, ◌+◌, List, [], ◌�
 use Rattle.std.specs.Result.{result_ok}
 use Rattle.std.specs.Str.{bytes_eq}
 use Rattle.fed_replica.specs.State.{State, empty_at, state_of}
-use Rattle.fed_site.specs.Answered.{begun_of, bytes_of, complaint_of, kept_of}
+use Rattle.fed_site.specs.SiteAnswer.{begun_of, bytes_of, complaint_of, kept_of}
 use Rattle.fed_site.specs.Journal.{after_lines}
 use Rattle.fed_site.specs.Known.{heard_line, known_in}
 use Rattle.fed_site.specs.Rosters.{roster_after, roster_after_lines}
 use Rattle.fed_site.specs.Says.{IsReply, site_says}
 use Rattle.fed_site.specs.Site.{SiteValue}
-use Rattle.fed_site.specs.declared.site.Answered.{Answered}
+use Rattle.fed_site.specs.declared.site.SiteAnswer.{SiteAnswer}
 use Rattle.fed_home.specs.declared.faults.HomeFault.{HomeFault}
 use Rattle.fed_home.specs.declared.faults.HomeFault.TheVariants.{NoHeader, UnreadHeader, UnreadKnown, UnreadHeard, UnkeptEntry}
-use Rattle.fed_home.specs.declared.headers.Format.{Format}
-use Rattle.fed_home.specs.declared.headers.Format.TheVariants.{One, Two, Three, Four}
+use Rattle.fed_home.specs.declared.headers.JournalFormat.{JournalFormat}
+use Rattle.fed_home.specs.declared.headers.JournalFormat.TheVariants.{One, Two, Three, Four}
 use Rattle.fed_home.specs.declared.headers.Header.{Header}
 use Rattle.fed_home.specs.Header.{header_in}
 
@@ -56,7 +56,7 @@ after_known (Some s) next = next s
 
 -- The entries behind a header. In formats 1 and 3 the site had nothing before them; in formats 2 and 4 the first is what it
 -- knew, and in format 4 those behind it are what it had heard of each site of the roster. The others are lines that it kept.
-abbrev pub begun : Format → List (List ℕ × ℕ) → ℕ → List (List ℕ) → Result Replayed HomeFault
+abbrev pub begun : JournalFormat → List (List ℕ × ℕ) → ℕ → List (List ℕ) → Result Replayed HomeFault
 begun One roster here lines = after_kept 2 roster (empty_at here) lines
 begun Two roster here [] = Err UnreadKnown
 begun Two roster here (text ∷ lines) = after_known (known_in roster here text) (λ s. after_kept 3 roster s lines)
@@ -82,7 +82,7 @@ abbrev pub replayed_of : SiteValue → Replayed
 replayed_of site = record { roster = site.roster; state = state_of site.replica }
 
 -- these are the answers to these lines, one after another, of a site that knows this roster
-abbrev pub AreReplies : List (List ℕ × ℕ) → State → List (List ℕ) → List Answered → Type 0
+abbrev pub AreReplies : List (List ℕ × ℕ) → State → List (List ℕ) → List SiteAnswer → Type 0
 AreReplies roster s [] [] = ⊤
 AreReplies roster s (line ∷ lines) (answer ∷ answers) =
     IsReply s (site_says roster s line).reply (bytes_of answer)

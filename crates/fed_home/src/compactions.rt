@@ -9,7 +9,7 @@ use crate::faults::HomeFault;
 use crate::headers::write_header;
 use crate::runs::{heard_text, replay};
 use fed_lattice::NoMemory;
-use fed_site::{Site, are_same_rosters};
+use fed_site::Site;
 use std::alloc::Global;
 use std::io;
 
@@ -62,10 +62,7 @@ fn is_same_site(one: &Site, other: &Site) -> bool
     ensures same { result ≡ true → replayed_of one.now ≡ replayed_of other.now }
     ensures apart { result ≡ false → one.now ≢ other.now }
 {
-    if !are_same_rosters(one.roster(), other.roster()) {
-        return false;
-    }
-    one.holds_the_same(other)
+    one.roster() == other.roster() && one.holds_the_same(other)
 }
 
 /// Whether entries stand for a site.

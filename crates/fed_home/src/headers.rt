@@ -11,7 +11,7 @@ use std::alloc::Global;
 
 /// The formats of a journal.
 #[derive(Clone, Copy, PartialEq, Eq, Debug)]
-pub enum Format {
+pub enum JournalFormat {
     /// Version 1: the site had nothing before the entries behind the header.
     One,
     /// Version 2, of a journal that was compacted: the entry behind the header is what the site knew.
@@ -22,7 +22,7 @@ pub enum Format {
     Four,
 }
 
-impl Format {
+impl JournalFormat {
     ghost use Rattle.fed_home.specs.Header.{is_compacted};
 
     /// Whether the journal was compacted, so that the entry behind the header is what the site knew.
@@ -30,8 +30,8 @@ impl Format {
         ensures { result ≡ is_compacted self }
     {
         match self {
-            Format::One | Format::Three => false,
-            Format::Two | Format::Four => true,
+            JournalFormat::One | JournalFormat::Three => false,
+            JournalFormat::Two | JournalFormat::Four => true,
         }
     }
 }
@@ -44,21 +44,21 @@ pub struct Header {
     /// The site whose journal it is, one of the roster.
     pub site: SiteId,
     /// The journal's format.
-    pub format: Format,
+    pub format: JournalFormat,
 }
 
 /// The format of this version.
-fn read_format(version: &str) -> Option<Format>
+fn read_format(version: &str) -> Option<JournalFormat>
     ensures { result ≡ format_of version.now }
 {
     if version == "1" {
-        Some(Format::One)
+        Some(JournalFormat::One)
     } else if version == "2" {
-        Some(Format::Two)
+        Some(JournalFormat::Two)
     } else if version == "3" {
-        Some(Format::Three)
+        Some(JournalFormat::Three)
     } else if version == "4" {
-        Some(Format::Four)
+        Some(JournalFormat::Four)
     } else {
         None
     }
@@ -67,7 +67,7 @@ fn read_format(version: &str) -> Option<Format>
 /// The site of this name, of the roster that the words name.
 fn find_site(
     alloc: Global,
-    format: Format,
+    format: JournalFormat,
     name: &str,
     sites: &[&str],
 ) -> Result<Option<Header>, NoMemory>

@@ -32,7 +32,7 @@ pub struct Home<D: Device + Drop> {
 
 /// A device that is no home, and why.
 #[derive(Drop)]
-pub struct Unopened<D: Device + Drop> {
+pub struct UnopenedHome<D: Device + Drop> {
     /// The device, which is to be opened again before it is used.
     pub device: D,
     /// Why it is no home.
@@ -78,7 +78,11 @@ impl<D: Device + Drop> Home<D> {
     /// acknowledged. Gives what stood behind the closed gate too, which is cut. Errors: `Damaged` and `HasEntries` of a file
     /// that isn't so, `UnreadHeader` of a header that `read_header` doesn't read, or that is of format 2 or 4, `Full`, `Failed`,
     /// `InDoubt` and `NoMemory`.
-    pub fn make(alloc: Global, device: D, header: &[u8]) -> Result<(Home<D>, Vec<u8>), Unopened<D>>
+    pub fn make(
+        alloc: Global,
+        device: D,
+        header: &[u8],
+    ) -> Result<(Home<D>, Vec<u8>), UnopenedHome<D>>
         requires { LeavesJust (D.seen device) (D.may_leave device) }
         ensures open { IfOk result (λ made. IsOpen D.seen D.may_leave made.0) }
         ensures header { IfOk result (λ made. recovered (D.seen (home_device made.0)) ≡ Ok (header.now ∷ [])) }
@@ -101,12 +105,12 @@ impl<D: Device + Drop> Home<D> {
                     };
                     Ok((home, found.tail))
                 }
-                Err(fault) => Err(Unopened {
+                Err(fault) => Err(UnopenedHome {
                     device: journal.into_device(),
                     fault,
                 }),
             },
-            Err(unopened) => Err(Unopened {
+            Err(unopened) => Err(UnopenedHome {
                 device: unopened.device,
                 fault: HomeFault::from(unopened.fault),
             }),
@@ -119,7 +123,7 @@ impl<D: Device + Drop> Home<D> {
     /// header, `UnreadKnown` of one whose second entry should be what the site knew, and isn't, `UnreadHeard` of one where an
     /// entry behind that should be what it had heard of another, and isn't, `UnkeptEntry` of one with an entry that the site
     /// wouldn't keep there, `Failed` and `NoMemory`.
-    pub fn open(alloc: Global, device: D) -> Result<(Home<D>, Vec<u8>), Unopened<D>>
+    pub fn open(alloc: Global, device: D) -> Result<(Home<D>, Vec<u8>), UnopenedHome<D>>
         requires { LeavesJust (D.seen device) (D.may_leave device) }
         ensures replayed { IfOk result (λ opened. IsReplayed D.seen D.may_leave opened.0 opened.1.items) }
 
@@ -141,12 +145,12 @@ impl<D: Device + Drop> Home<D> {
                     };
                     Ok((home, found.tail))
                 }
-                Err(fault) => Err(Unopened {
+                Err(fault) => Err(UnopenedHome {
                     device: journal.into_device(),
                     fault,
                 }),
             },
-            Err(unopened) => Err(Unopened {
+            Err(unopened) => Err(UnopenedHome {
                 device: unopened.device,
                 fault: HomeFault::from(unopened.fault),
             }),

@@ -11,6 +11,6 @@ mod runs;
 pub use compactions::Compaction;
 pub use faults::HomeFault;
 pub use fed_site::Told;
-pub use headers::{Format, Header, read_header};
-pub use homes::{Home, Unopened};
+pub use headers::{Header, JournalFormat, read_header};
+pub use homes::{Home, UnopenedHome};
 pub use runs::replay;

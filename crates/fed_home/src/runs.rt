@@ -14,7 +14,7 @@ ghost use Rattle.fed_home.specs.Header.{is_compacted};
 ghost use Rattle.fed_home.specs.Replay.{AreReplies, after_heard, after_kept, begun_by, heard_text as heard_text_of, replay as replay_of, replayed_of};
 
 use crate::faults::HomeFault;
-use crate::headers::{Format, Header, read_header};
+use crate::headers::{Header, JournalFormat, read_header};
 use fed_lattice::NoMemory;
 use fed_site::{Site, Told};
 use fed_stamp::SiteId;
@@ -114,7 +114,7 @@ fn open_known(alloc: Global, header: Header, lines: &[&[u8]]) -> Result<Site, Ho
         return Err(HomeFault::UnreadKnown);
     };
     match header.format {
-        Format::Four => replay_heard(alloc, site, lines),
+        JournalFormat::Four => replay_heard(alloc, site, lines),
         _ => replay_kept(alloc, site, lines, FIRST_HEARD),
     }
 }

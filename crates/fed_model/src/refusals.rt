@@ -11,29 +11,29 @@ use thiserror::Error;
 #[derive(Clone, Copy, PartialEq, Eq, Debug, Drop, Error)]
 pub enum Refusal {
     /// 1: the job isn't on the site's board. To all commands that name a job.
-    #[error("unknown job")]
+    #[error("this site does not know the job")]
     UnknownJob,
     /// 2: the asker's role forbids it. To Alter, Hold, Release, Delete, Reserve and Cancel.
-    #[error("not permitted")]
+    #[error("the role of the asker does not permit it")]
     NotPermitted,
     /// 3: the job has no letter: it is finished, or was deleted before it began. To all commands that name a job, to Decline
     /// only where it is finished.
-    #[error("the job is gone")]
+    #[error("the job is finished or deleted")]
     Gone,
     /// 4: the job is granted, to whatever site. To Alter and Hold.
-    #[error("the job is granted to a site")]
+    #[error("the job is granted")]
     Granted,
     /// 5: the job was submitted at another site than this. To Grant.
     #[error("the job was submitted at another site")]
     NotOrigin,
     /// 6: a hold is present, and the job is not granted (to Grant) or not begun (to Begin).
-    #[error("a hold is present")]
+    #[error("the job is held")]
     Held,
     /// 7: the job is not granted, and the asker isn't among its sites. To Grant.
-    #[error("the job may not run there")]
+    #[error("the job may not run at that site")]
     NotEligible,
     /// 8: the job is granted to another site than the asker, which this names. To Grant.
-    #[error("the job is granted to site {number}", number = .0.get())]
+    #[error("the job is granted to another site")]
     TakenBy(SiteId),
     /// 9: the job isn't granted to the site that is asked. To Begin, Finish, HandBack and Decline.
     #[error("the job is not granted to this site")]
@@ -46,26 +46,26 @@ pub enum Refusal {
     NotBegun,
     /// 12: the window's end is not above its start or is above `MAX_MOMENT`, or its nodes are 0 or above
     /// `MAX_NODES`. To Reserve.
-    #[error("bad window")]
+    #[error("the reservation ends before it starts, or its end or nodes are out of range")]
     BadWindow,
     /// 13: the reservation isn't on the site's board, or is cancelled. To Cancel.
-    #[error("unknown reservation")]
+    #[error("this site does not know the reservation, or it is cancelled")]
     UnknownReservation,
     /// 14: 10,000 or more jobs of this site are not retired (to Submit), or 1,000 or more reservations (to Reserve). Jobs
     /// that are gone and reservations that are cancelled count until they are retired. To Retire where the site would then
     /// have more than 1,000 ranges, of which none touches another; of a range whose ends are as 17 asks.
-    #[error("the site is full")]
+    #[error("the site has as many jobs, reservations or ranges of retired identifiers as it may have")]
     SiteFull,
     /// 15: an operation would be added, and the greatest counter that the site has seen is `MAX_COUNTER`. To all
     /// commands. To Grant also where the term that was handed back is `MAX_TERM`.
-    #[error("every counter is in use")]
+    #[error("the numbers that it needs are used up")]
     ClockFull,
     /// 16: an allocation failed. To all commands.
-    #[error("out of memory")]
+    #[error("there was no memory for it")]
     NoMemory,
     /// 17: the range is empty, begins at 0 or reaches beyond the site's own counter, a job of this site in it is not
     /// settled, so that it runs or could still begin, or a reservation of this site in it is not cancelled. To Retire.
-    #[error("not settled")]
+    #[error("the range is none of this site, or a job or a reservation in it is not settled")]
     NotSettled,
 }
 

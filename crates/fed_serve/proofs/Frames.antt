@@ -1,11 +1,11 @@
 -- Frames, told apart.
 use Rattle.std.specs.List.{All}
 use Rattle.std.specs.Prelude.{decimal}
-use Rattle.std.proofs.Common.{◌≡◌, ◌<◌, ◌≤◌, ◌^◌, ◌∙◌, ◌++◌, ◌∷◌, ◌+◌, ◌/◌, ◌%◌, [], List, ℕ, ap, append_assoc, drop, length, refl, rules, subst, sym, take, ap₂}
+use Rattle.std.proofs.Common.{◌≡◌, ◌<◌, ◌≤◌, ◌^◌, ◌∙◌, ◌++◌, ◌∷◌, ◌+◌, ◌%◌, [], List, ℕ, ap, append_assoc, drop, length, refl, rules, subst, sym, take, ap₂}
 use Rattle.std.proofs.Math.Seq.{drop-append_seam, take-append_seam}
 use Rattle.std.proofs.lemmas.Fmt.{decimal_by_steps, decimal_injective}
 use Rattle.std.proofs.lemmas.List.Elements.{All-append, All-cons, All-head, All-nil, All-tail}
-use Rattle.fed_serve.specs.Frame.{Frame, IsHeld, frame_bytes, head_line}
+use Rattle.fed_serve.specs.Frame.{Frame, IsHeld, frame_bytes}
 
 abbrev IsDigit : ℕ → Type 0
 IsDigit byte = 48 ≤ byte

@@ -25,7 +25,7 @@ use Rattle.fed_serve.specs.declared.openings.Stop.{Stop}
 use Rattle.fed_serve.specs.declared.openings.Stop.TheVariants as stop
 use Rattle.fed_serve.specs.declared.serving.Served.{Served}
 use Rattle.fed_serve.specs.declared.serving.Served.TheVariants.{Ended, Long}
-use Rattle.fed_serve.proofs.Groups.{consumes_more, consumes_start}
+use Rattle.fed_serve.proofs.Groups.{consumes_more, consumes_start, never_ended}
 
 abbrev Lines : Type 0
 Lines = List (List ℕ)
@@ -165,11 +165,8 @@ module _ (frames : Bool) where
       read = going.read ++ chunk;
       came = more_came had has now going.inputs going.read chunk going.came consumed;
       by = λ more. subst (λ (ls : Lines). GoesBy ls (lines_in (left ++ more)) new_roster new a c) (lines_read going.inputs going.read chunk more)
-          (step (lines_in_all going.inputs ++ lines_in (going.read ++ (chunk ++ more))) more never (going.by (chunk ++ more)));
+          (step (lines_in_all going.inputs ++ lines_in (going.read ++ (chunk ++ more))) more never_ended (going.by (chunk ++ more)));
     }
-      where
-        never : {P : Type 0} → false ≡ true → P
-        never e = cc
     going_further had has now begun left chunk true roster new_roster s new a b c going consumed at_end step = record {
       inputs = going.inputs ++ (going.read ++ chunk) ∷ [];
       read = [];

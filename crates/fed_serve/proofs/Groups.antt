@@ -11,7 +11,7 @@ use Rattle.fed_replica.specs.State.{State}
 use Rattle.fed_site.specs.Journal.{after_lines, kept_lines}
 use Rattle.fed_site.specs.Rosters.{roster_after, roster_after_lines}
 use Rattle.fed_site.specs.Says.{site_says}
-use Rattle.fed_site.specs.declared.site.Answered.{Answered}
+use Rattle.fed_site.specs.declared.site.SiteAnswer.{SiteAnswer}
 use Rattle.fed_site.specs.Told.{IsTold, answers_in}
 use Rattle.fed_site.specs.declared.tellings.Told.{Told}
 use Rattle.fed_journal.specs.Device.{LeavesOnly}
@@ -27,6 +27,7 @@ use Rattle.fed_home.proofs.Replays.{after_both, kept_both, roster_after_both}
 use Rattle.fed_serve.specs.Inputs.{HasNoLineFeed, IsKnownAs, cut_line, lines_in}
 use Rattle.fed_serve.proofs.Writing.{appends_kept, appends_more, appends_none}
 use Rattle.fed_serve.proofs.InputLines.{Takes, lines_in-begun}
+use Rattle.fed_serve.proofs.Stops.{apart}
 use Rattle.fed_serve.specs.Served.{HasAnswered, HasKept, HasServed, IsDone, KeepsFrom, KeepsSome, Serves, ServesAs, StopsAt, StopsBehind}
 use Rattle.fed_serve.specs.Written.{told_bytes, told_text}
 use Rattle.fed_serve.specs.declared.faults.ServeFault.{ServeFault}
@@ -78,11 +79,11 @@ rest_at_end None ended = refl
 rest_at_end (Some xs) ended = ended
 
 -- an input that goes on
-never_ended : {P : Type 0} → false ≡ true → P
+pub never_ended : {P : Type 0} → false ≡ true → P
 never_ended e = cc
 
 -- ---- lines after lines
-replies_both : (roster : List (List ℕ × ℕ)) (s : State) (first second : List (List ℕ)) (xs ys : List Answered) → AreReplies roster s first xs → AreReplies (roster_after_lines roster first) (after_lines roster s first) second ys
+replies_both : (roster : List (List ℕ × ℕ)) (s : State) (first second : List (List ℕ)) (xs ys : List SiteAnswer) → AreReplies roster s first xs → AreReplies (roster_after_lines roster first) (after_lines roster s first) second ys
     → AreReplies roster s (first ++ second) (xs ++ ys)
 replies_both roster s [] second [] ys a b = b
 replies_both roster s [] second (x ∷ xs) ys a b = absurd a
@@ -397,10 +398,7 @@ module _ {D : Type 0} (frames : Bool) (seen : D → List ℕ) (may_leave : D →
 
             ends : (r : Result Served ServeFault) → IfOk r (λ served. served ≡ Ended) → OnOk r (HasServed frames seen may_leave mid new (cut_line begun) b c) → IfErr r (StopsAt frames seen errors moment left_since mid new (cut_line begun) b c)
                 → ServesAs frames seen may_leave errors old new (lines_in (start ++ (run.read ++ []))) (lines_in (left ++ [])) a c r
-            ends (Ok Long) whole two stopped = absurd (other whole)
-              where
-                other : Long ≡ Ended → ⊥
-                other e = cc
+            ends (Ok Long) whole two stopped = absurd (apart whole)
             ends (Ok Ended) whole two stopped = subst (λ (ls : List (List ℕ)). HasServed frames seen may_leave old new ls a c) (sym is) (served_both old mid new run.given (cut_line begun) a b c run.served two)
             ends (Err fault) whole two stopped = (
               run.given,

@@ -1,10 +1,10 @@
 -- The lines of an input that comes in parts.
 use Rattle.std.proofs.Common.{◌≡◌, inl, inr, ℕ, ◌+◌, ◌-◌, ◌<◌, ◌==◌, Bool, true, false, List, [], ◌∷◌, ◌++◌, length, map, take, refl, sym, ap, subst, ◌∙◌, arith, append_assoc}
-use Rattle.std.specs.Prelude.{codes, nat_eq, nat_le, slice_index, if◌then◌else◌}
+use Rattle.std.specs.Prelude.{codes, nat_eq, slice_index, if◌then◌else◌}
 use Rattle.std.specs.Cmp.Lexicographic.{pointwise}
 use Rattle.std.specs.List.{slice_split, onto_first}
 use Rattle.std.specs.Str.Lines.{lines, lines_of_parts as text_lines_of_parts, strip_carriage_return}
-use Rattle.std.proofs.lemmas.Bool.{cases_Bool, cases_lt}
+use Rattle.std.proofs.lemmas.Bool.{cases_Bool, cases_lt, lt-leb}
 use Rattle.std.proofs.lemmas.List.Elements.{All-append, All-head, All-tail, All-take}
 use Rattle.std.proofs.lemmas.Bool.Decides.{nat_tests}
 use Rattle.std.proofs.lemmas.List.{append-nil, length-append, length-take, take-append-le, take-take, take_all}
@@ -103,10 +103,7 @@ most_some line = cases (is_take line)
     cases false = omega arith
 
 long_given : (line : List ℕ) → most_bytes_of line < length line → given_as line ≡ unreadable
-long_given line long = rw (beyond (length line) (most_bytes_of line) long) refl
-  where
-    beyond : (n most : ℕ) → most < n → nat_le n most ≡ false
-    beyond n most h = grind (arith, nat_tests, h)
+long_given line long = rw (lt-leb (length line) (most_bytes_of line) long) refl
 
 strip_long : (line : List ℕ) (most : ℕ) → most + 1 < length line → most < length (strip_carriage_return line)
 strip_long line most long = cases (slice_index line (length line - 1) == 13)

@@ -1,7 +1,7 @@
 -- What is written to a line: in lines its answer and an empty line, in frames one frame.
-use Rattle.std.specs.Prelude.{ℕ, Bool, List, [], ◌∷◌, ◌++◌, Option, Some, None, codes, decimal, if◌then◌else◌, length, option_map, string_bytes, unwrap_or}
+use Rattle.std.specs.Prelude.{ℕ, Bool, List, [], ◌∷◌, ◌++◌, Option, Some, None, codes, if◌then◌else◌, option_map, string_bytes, unwrap_or}
 use Rattle.std.specs.List.{flat_map}
-use Rattle.fed_site.specs.Answered.{bytes_of, complaint_of}
+use Rattle.fed_site.specs.SiteAnswer.{bytes_of, complaint_of}
 use Rattle.fed_site.specs.declared.complaints.Complaint.{Complaint}
 use Rattle.fed_site.specs.declared.tellings.Told.{Told}
 use Rattle.fed_serve.specs.Frame.{Frame, frame_bytes}

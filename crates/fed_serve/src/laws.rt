@@ -1,7 +1,7 @@
 //! Laws of what is written. Each function does nothing: its contract is the law.
 ghost use Rattle.std.specs.Prelude.{◌≡◌, ◌++◌, ◌∷◌, [], List, ℕ, false};
 ghost use Rattle.std.specs.List.{flat_map};
-ghost use Rattle.fed_site.specs.Answered.{bytes_of};
+ghost use Rattle.fed_site.specs.SiteAnswer.{bytes_of};
 ghost use Rattle.fed_site.specs.Told.{answers_in};
 ghost use Rattle.fed_site.specs.declared.tellings.Told.{Told};
 ghost use Rattle.fed_serve.specs.Frame.{Frame, IsHeld, frame_bytes};

@@ -1,8 +1,9 @@
 -- What a replica does to commands is what a site does.
 use Rattle.std.specs.Prelude.{Option, Some, None, Result, Ok, ◌||◌}
-use Rattle.std.proofs.Common.{◌≡◌, ℕ, ◌+◌, ◌<◌, Bool, true, false, List, [], ◌∷◌, ◌++◌, length, get_or, take, refl, sym, ap, ap₂, subst, ◌∙◌, append_assoc, append-nil, arith}
+use Rattle.std.proofs.Common.{◌≡◌, ℕ, ◌+◌, ◌<◌, Bool, List, [], ◌∷◌, ◌++◌, length, get_or, take, refl, sym, ap, ap₂, subst, ◌∙◌, append_assoc, append-nil, arith}
 use Rattle.std.specs.Option.{option_or}
 use Rattle.std.proofs.lemmas.List.{length-take-le, take_more}
+use mathlib.Core.Bool.{or-false, or_assoc}
 use Rattle.fed_model.specs.declared.askers.Who.{Who}
 use Rattle.fed_model.specs.declared.commands.Command.{Command}
 use Rattle.fed_model.specs.declared.refusals.Refusal.{Refusal}
@@ -14,7 +15,7 @@ use Rattle.fed_replica.specs.Replica.{ReplicaValue}
 use Rattle.fed_replica.specs.State.{State, state_of}
 use Rattle.fed_qstat.specs.Outcome.{answer_line, text_of_outcome, text_of_reply}
 use Rattle.fed_site.specs.Acts.{DoneAs}
-use Rattle.fed_site.specs.Answered.{text_of}
+use Rattle.fed_site.specs.SiteAnswer.{text_of}
 use Rattle.fed_site.specs.declared.answers.Begun.{Begun}
 use Rattle.fed_site.specs.declared.answers.TextAnswer.{TextAnswer}
 use Rattle.fed_site.specs.declared.complaints.Complaint.{Complaint}
@@ -32,55 +33,39 @@ replied roster who index command reply (Replies same new) e =
     (ap (λ (r : Reply). answer_line (text_of_reply roster r)) is, refl)
 
 -- ---- one command alone
-or_none : (a : Bool) → (a || false) ≡ a
-or_none true = refl
-or_none false = refl
-
-alone_complains : (o : Option Complaint) → option_or o None ≡ o
-alone_complains None = refl
-alone_complains (Some complaint) = refl
-
-begins_alone : (o : Option Begun) → option_or o None ≡ o
-begins_alone None = refl
-begins_alone (Some begun) = refl
+or_none : {T : Type 0} (o : Option T) → option_or o None ≡ o
+or_none None = refl
+or_none (Some x) = refl
 
 pub one_alone : (roster : List (List ℕ × ℕ)) (s : State) (who : Who) (command : Command) (all : List Command) (new : ReplicaValue) (answer : TextAnswer) → all ≡ command ∷ []
     → DoneAs new answer (after_command roster s who 0 command) → DoneAs new answer (after_commands roster s who 0 all)
 one_alone roster s who command all new answer alone d = subst (λ (cs : List Command). DoneAs new answer (after_commands roster s who 0 cs)) (sym alone) (record {
   after = d.after;
   said = d.said ∙ sym (append-nil (after_command roster s who 0 command).text);
-  keeps = d.keeps ∙ sym (or_none (after_command roster s who 0 command).kept);
-  complains = d.complains ∙ sym (alone_complains (after_command roster s who 0 command).complaint);
-  begins = d.begins ∙ sym (begins_alone (after_command roster s who 0 command).begun);
+  keeps = d.keeps ∙ sym (or-false (after_command roster s who 0 command).kept);
+  complains = d.complains ∙ sym (or_none (after_command roster s who 0 command).complaint);
+  begins = d.begins ∙ sym (or_none (after_command roster s who 0 command).begun);
 })
 
 -- ---- commands, one after another
+first_assoc : {T : Type 0} (a b c : Option T) → option_or a (option_or b c) ≡ option_or (option_or a b) c
+first_assoc None b c = refl
+first_assoc (Some x) b c = refl
+
 module _ (roster : List (List ℕ × ℕ)) (who : Who) where
-  or_assoc : (a b c : Bool) → (a || (b || c)) ≡ ((a || b) || c)
-  or_assoc true b c = refl
-  or_assoc false b c = refl
-
-  complaint_assoc : (a b c : Option Complaint) → option_or a (option_or b c) ≡ option_or (option_or a b) c
-  complaint_assoc None b c = refl
-  complaint_assoc (Some complaint) b c = refl
-
-  begun_assoc : (a b c : Option Begun) → option_or a (option_or b c) ≡ option_or (option_or a b) c
-  begun_assoc None b c = refl
-  begun_assoc (Some begun) b c = refl
-
   commands-push : (s : State) (i k : ℕ) (commands : List Command) (command : Command) → k ≡ i + length commands
       → after_commands roster s who i (commands ++ command ∷ []) ≡ followed (λ next. after_command roster next who k command) (after_commands roster s who i commands)
   commands-push s i k [] command e =
       let same : i ≡ k = omega arith in
       let d = after_command roster s who i command in
-      let alone : after_commands roster s who i (command ∷ []) ≡ d = λ j. record { after = d.after; text = append-nil d.text j; kept = or_none d.kept j; complaint = alone_complains d.complaint j; begun = begins_alone d.begun j } in
+      let alone : after_commands roster s who i (command ∷ []) ≡ d = λ j. record { after = d.after; text = append-nil d.text j; kept = or-false d.kept j; complaint = or_none d.complaint j; begun = or_none d.begun j } in
       alone ∙ ap (λ n. after_command roster s who n command) same
   commands-push s i k (first ∷ commands) command e =
       let here = after_command roster s who i first in
       let rest = after_commands roster here.after who (i + 1) commands in
       let last = after_command roster rest.after who k command in
       ap (λ (d : Done). followed (λ next. d) here) (commands-push here.after (i + 1) k commands command (omega arith))
-      ∙ (λ j. record { after = last.after; text = sym (append_assoc here.text rest.text last.text) j; kept = or_assoc here.kept rest.kept last.kept j; complaint = complaint_assoc here.complaint rest.complaint last.complaint j; begun = begun_assoc here.begun rest.begun last.begun j })
+      ∙ (λ j. record { after = last.after; text = sym (append_assoc here.text rest.text last.text) j; kept = sym (or_assoc here.kept rest.kept last.kept) j; complaint = first_assoc here.complaint rest.complaint last.complaint j; begun = first_assoc here.begun rest.begun last.begun j })
 
   module _ (s : State) (all : List Command) where
     pub one_more : (i : ℕ) (command : Command) (mid new : ReplicaValue) (first last both : TextAnswer) → i < length all → command ≡ get_or all i command

@@ -1,23 +1,21 @@
 -- The lines of what was heard restore it.
-use Rattle.std.specs.Prelude.{nat_eq, nat_le, nat_lt, not, ◌&&◌, ◌||◌, codes, drop, if◌then◌else◌, Option, Some, None, Ok}
+use Rattle.std.specs.Prelude.{nat_eq, nat_le, nat_lt, not, ◌&&◌, ◌||◌, codes, drop, if◌then◌else◌, Some, None, Ok}
 use Rattle.std.specs.List.{AllByRecursion, list_any, starts_with}
 use Rattle.std.specs.Option.{option_map_or}
-use Rattle.std.proofs.Common.{◌≡◌, ◌<◌, ◌≤◌, ◌+◌, ℕ, zero, suc, max, Bool, true, false, List, [], ◌∷◌, ◌++◌, length, replicate, refl, sym, ap, ap₂, subst, ◌∙◌, inl, inr, arith}
-use Rattle.std.proofs.lemmas.Bool.{and_parts, both_ways, cases_Bool, cases_eq, cases_lt, cond-true, cond-false, eq-eqb, eqb-true, le-ltb, leb-true, lt-ltb, lt-leb, ltb-false, ne_eqb, or_from}
+use Rattle.std.proofs.Common.{◌≡◌, ◌<◌, ◌≤◌, ◌+◌, ℕ, zero, suc, max, Bool, true, false, List, [], ◌∷◌, ◌++◌, length, replicate, refl, sym, ap, ap₂, ◌∙◌, inl, inr, arith}
+use Rattle.std.proofs.lemmas.Bool.{and_parts, both_ways, cases_Bool, cases_eq, cases_lt, cond-true, cond-false, eq-eqb, le-ltb, leb-true, lt-ltb, lt-leb, ltb-false, ne_eqb, or_from, or_parts}
+use mathlib.Core.Bool.{or-false}
 use Rattle.fed_stamp.specs.Indexes.{put}
-use Rattle.fed_stamp.specs.Stamp.{StampValue}
 use Rattle.fed_stamp.specs.Version.{counter_of, is_below, joined}
 use Rattle.fed_stamp.proofs.LeastIndex.{least_index_none}
 use Rattle.fed_stamp.proofs.VersionLaws.{below_itself, each_from_below, joined-comm}
-use Rattle.fed_lattice.specs.Sets.{Has}
 use Rattle.fed_lattice.specs.History.{History}
 use Rattle.fed_lattice.specs.VersionOf.{version_of}
 use Rattle.fed_lattice.proofs.VersionOfLaws.{joined_zeros, length-version_of, version_of-most}
 use Rattle.fed_board.specs.Board.{board_reads}
 use Rattle.fed_model.specs.Body.{Body, of_job, of_reservation}
-use Rattle.fed_model.specs.JobView.{JobView, job_view, unknown}
+use Rattle.fed_model.specs.JobView.{job_view, unknown}
 use Rattle.fed_model.specs.Limits.{IsWithinLimits}
-use Rattle.fed_model.specs.Packet.{missing}
 use Rattle.fed_model.specs.Ranges.{IsFrom}
 use Rattle.fed_model.specs.Reservation.{ReservationView, reservation_view}
 use Rattle.fed_model.specs.Retired.{is_retired, retires_in}
@@ -38,12 +36,12 @@ use Rattle.fed_qstat.specs.Outcome.{answer_line}
 use Rattle.fed_script.specs.Line.{words_in}
 use Rattle.fed_site.specs.declared.complaints.Complaint.{Complaint}
 use Rattle.fed_site.specs.Journal.{after_lines}
-use Rattle.fed_site.specs.Known.{IsHeardOf, heard_line, heard_lines, unheard}
+use Rattle.fed_site.specs.Known.{IsHeardOf, heard_lines, unheard}
 use Rattle.fed_site.specs.Line.{packet_text}
 use Rattle.fed_site.specs.OwnLine.{carries, own_line_of, own_words, says}
 use Rattle.fed_site.specs.Packets.{is_foreign, is_forgotten}
 use Rattle.fed_site.specs.Rosters.{roster_after, roster_told}
-use Rattle.fed_site.specs.Says.{after_own, after_packet, after_reading, after_receipt, site_says, undone}
+use Rattle.fed_site.specs.Says.{after_own, after_reading, after_receipt, site_says, undone}
 use Rattle.fed_site.proofs.HeardTexts.{heard_feedless, heard_read}
 use Rattle.fed_site.proofs.RosterLines.{packet_tells_none}
 
@@ -79,13 +77,9 @@ none_behind (x ∷ v) [] (suc m) b e = none_behind v [] m (and_parts (nat_le x 0
 none_behind (x ∷ v) (y ∷ w) zero b e =
     let p = and_parts (nat_le x y) (is_below v w) b in
     let l : x ≤ y = leb-true x y p.0 in
-    let parts = no_parts (nat_lt 0 y) (list_any (λ counter. nat_lt 0 counter) w) e in
+    let parts = or_parts (nat_lt 0 y) (list_any (λ counter. nat_lt 0 counter) w) e in
     let small : y ≤ 0 = ltb-false 0 y parts.0 in
     or_from (nat_lt 0 x) _ (le-ltb 0 x (omega arith)) (none_behind v w zero p.1 parts.1)
-  where
-    no_parts : (a b : Bool) → (a || b) ≡ false → (a ≡ false) × (b ≡ false)
-    no_parts true b e = cc
-    no_parts false b e = (refl, e)
 none_behind (x ∷ v) (y ∷ w) (suc m) b e = none_behind v w m (and_parts (nat_le x y) (is_below v w) b).1 e
 
 all_zeros : (v : List ℕ) (n : ℕ) → length v ≡ n → is_below v (replicate n 0) ≡ true → v ≡ replicate n 0
@@ -103,10 +97,6 @@ all_zeros (x ∷ v) (suc n) e b =
 hide_again : {T : Type 0} (none x : T) (b : Bool) → (if b || false then none else (if b then none else x)) ≡ (if b then none else x)
 hide_again none x true = refl
 hide_again none x false = refl
-
-or_nothing : (b : Bool) → (b || false) ≡ b
-or_nothing true = refl
-or_nothing false = refl
 
 no_register : (x : ReservationView) → joined_registers option_window_cmp x None ≡ x
 no_register None = refl
@@ -132,7 +122,7 @@ module _ (roster : List (List ℕ × ℕ)) (few : length roster ≤ 16) (s : Sta
       (λ i. record {
         version = version i;
         retirements = retirements i;
-        retired = λ job. or_nothing (is_retired ops job) i;
+        retired = λ job. or-false (is_retired ops job) i;
         job = λ job. hide_again unknown (job_view (of_job job ops)) (is_retired ops job) i;
         reservation = λ id. ((λ j. if is_retired ops id || false then None else no_register (if is_retired ops id then None else reservation_view (of_reservation id ops)) j)
             ∙ hide_again None (reservation_view (of_reservation id ops)) (is_retired ops id)) i;

@@ -1,8 +1,7 @@
 -- The text of a packet that tells nothing but what was heard has no line feed, and is read again.
 use Rattle.std.specs.Prelude.{◌^◌, nat_eq, codes, map, Some, option_map}
 use Rattle.std.specs.List.{AllByRecursion, list_any}
-use Rattle.std.specs.Str.{IsUtf8}
-use Rattle.std.proofs.Common.{◌≡◌, ◌<◌, ◌≤◌, ℕ, Bool, true, false, ◌||◌, List, [], ◌∷◌, ◌++◌, refl, sym, ap, ◌∙◌, arith}
+use Rattle.std.proofs.Common.{◌≡◌, ◌<◌, ◌≤◌, ℕ, Bool, true, false, ◌||◌, List, [], ◌∷◌, ◌++◌, refl, ap, ◌∙◌, arith}
 use Rattle.std.proofs.lemmas.Fmt.{IsAscii-decimal}
 use Rattle.std.proofs.lemmas.List.Folds.{list_any-append}
 use Rattle.std.proofs.lemmas.Str.{IsUtf8-append, IsUtf8-from_ascii}
@@ -11,17 +10,16 @@ use Rattle.std.specs.Fmt.{decimal}
 use Rattle.json.proofs.Printed.Decimals.{IsNumber-decimal}
 use Rattle.json.proofs.Printed.Utf8.{IsUtf8-are_ascii}
 use Rattle.json.specs.Print.{escape_byte}
-use Rattle.serde_json.specs.Data.{Data, number, unsigned, array, object, Items, Members}
+use Rattle.serde_json.specs.Data.{Data, number, array, Items}
 use Rattle.serde_json.specs.View.{items_of}
-use Rattle.serde_json.specs.Written.{compact_text, items_text, members_text, comma_if, outline, members_outline}
-use Rattle.serde_json.specs.Read.{of_json, of_members}
+use Rattle.serde_json.specs.Written.{compact_text, items_text, comma_if}
 use Rattle.serde_json.proofs.Numbers.{number_of-decimal}
 use Rattle.fed_words.proofs.Cuts.{Free}
 use Rattle.fed_words.proofs.Texts.{free-decimal}
 use Rattle.fed_model.specs.Ranges.{IsFrom}
 use Rattle.fed_json.specs.Numbers.{natural_value}
 use Rattle.fed_json.specs.Values.{list_value}
-use Rattle.fed_json.specs.Objects.{object_value, members_from}
+use Rattle.fed_json.specs.Objects.{object_value}
 use Rattle.fed_job_json.specs.declared.formats.Format.TheVariants.{Two}
 use Rattle.fed_job_json.specs.Stamps.{IsVersion, version_value}
 use Rattle.fed_wire.specs.Packet.{packet_value}

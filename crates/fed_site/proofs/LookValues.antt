@@ -4,7 +4,6 @@ use Rattle.std.specs.Fmt.{decimal}
 use Rattle.std.specs.List.{join_by, range_with_len}
 use Rattle.std.proofs.Common.{◌≡◌, ℕ, zero, ◌+◌, ◌<◌, arith, suc, Bool, false, List, [], ◌∷◌, ◌++◌, flat_map, get_or, length, map, take, refl, sym, ap, ap₂, ◌∙◌}
 use Rattle.std.proofs.lemmas.List.{map-append, take_more}
-use Rattle.serde_json.specs.Data.{Data}
 use Rattle.serde_json.specs.Written.{has_float}
 use Rattle.fed_stamp.specs.Roster.{nodes_at}
 use Rattle.fed_stamp.specs.Stamp.{StampValue}

@@ -1,6 +1,7 @@
 -- What isn't kept changes nothing.
-use Rattle.std.specs.Prelude.{Some, None, Option, Result, Ok, Err, is_none, if◌then◌else◌, ◌||◌, not, codes, unwrap_or}
+use Rattle.std.specs.Prelude.{Some, None, Option, Result, Ok, Err, is_none, if◌then◌else◌, codes, unwrap_or}
 use Rattle.std.proofs.Common.{◌≡◌, ℕ, ◌+◌, Bool, true, false, List, [], ◌∷◌, ◌++◌, refl, sym, ap, ◌∙◌}
+use Rattle.std.proofs.lemmas.Bool.{not-false, or_parts}
 use Rattle.fed_model.specs.declared.askers.Who.{Who}
 use Rattle.fed_model.specs.declared.commands.Command.{Command}
 use Rattle.fed_wire.specs.declared.faults.WireFault.{WireFault}
@@ -20,17 +21,13 @@ use Rattle.fed_site.specs.Packets.{is_foreign, is_forgotten}
 use Rattle.fed_site.specs.Rosters.{are_same, next_roster, roster_after, roster_after_lines, roster_told}
 use Rattle.fed_site.specs.Says.{after_command, after_commands, after_handing, after_next, after_own, after_plan, after_reading, after_receipt, after_text, site_says, undone}
 use Rattle.fed_site.proofs.ReadLines.{told_is}
-use Rattle.fed_site.proofs.RosterLines.{same_sites}
+use Rattle.fed_site.proofs.RosterLines.{tells_sites}
 
 -- ---- commands
 answer_unkept : (s : State) (a : Answer) → adds a ≡ false → after_answer s a ≡ s
 answer_unkept s (Refuses r) e = refl
 answer_unkept s (Replies r None) e = refl
 answer_unkept s (Replies r (Some new)) e = cc
-
-neither : (a b : Bool) → (a || b) ≡ false → (a ≡ false) × (b ≡ false)
-neither true b e = cc
-neither false b e = (refl, e)
 
 plan_unkept : (s : State) (plan : Option (List ℕ)) → (after_plan s plan).after ≡ s
 plan_unkept s (Some text) = refl
@@ -41,7 +38,7 @@ module _ (roster : List (List ℕ × ℕ)) where
   commands_unkept s who index [] e = refl
   commands_unkept s who index (command ∷ commands) e =
       let first = after_command roster s who index command in
-      let both = neither first.kept (after_commands roster first.after who (index + 1) commands).kept e in
+      let both = or_parts first.kept (after_commands roster first.after who (index + 1) commands).kept e in
       commands_unkept first.after who (index + 1) commands both.1 ∙ answer_unkept s (answer_to s.view s.site who command) both.0
 
   -- ---- packets
@@ -91,13 +88,9 @@ module _ (roster : List (List ℕ × ℕ)) where
   unkept s line e = own_unkept s (own_line_of roster s.site line) e
 
   -- ---- rosters
-  not_false : (b : Bool) → not b ≡ false → b ≡ true
-  not_false true e = refl
-  not_false false e = cc
-
   next_same : (s : State) (next : Option (List (List ℕ × ℕ))) → (after_next roster s next).kept ≡ false → unwrap_or next roster ≡ roster
   next_same s None e = refl
-  next_same s (Some sites) e = sym (same_sites roster sites (not_false (are_same roster sites) e))
+  next_same s (Some sites) e = sym ((tells_sites roster sites).0 (not-false (are_same roster sites) e))
 
   told_same : (s : State) (line : OwnLine) → (after_own roster s line).kept ≡ false → roster_told roster (told_by line) ≡ roster
   told_same s (tells told) e = next_same s (next_roster roster told) e

@@ -3,7 +3,7 @@ use Rattle.std.specs.Prelude.{◌≡◌}
 use Rattle.fed_replica.specs.Replica.{ReplicaValue}
 use Rattle.fed_replica.specs.State.{state_of}
 use Rattle.fed_site.specs.declared.answers.TextAnswer.{TextAnswer}
-use Rattle.fed_site.specs.Answered.{text_of}
+use Rattle.fed_site.specs.SiteAnswer.{text_of}
 use Rattle.fed_site.specs.Says.{Done}
 
 -- it was done: the replica is what is left, and the answer says so

@@ -1,14 +1,14 @@
 -- The lines that a site keeps, and their replay.
 use Rattle.std.specs.Prelude.{◌≡◌, ℕ, Bool, List, [], ◌∷◌, ◌++◌, if◌then◌else◌}
 use Rattle.fed_replica.specs.State.{State, state_of}
-use Rattle.fed_site.specs.declared.site.Answered.{Answered}
-use Rattle.fed_site.specs.Answered.{begun_of, bytes_of, complaint_of, kept_of}
+use Rattle.fed_site.specs.declared.site.SiteAnswer.{SiteAnswer}
+use Rattle.fed_site.specs.SiteAnswer.{begun_of, bytes_of, complaint_of, kept_of}
 use Rattle.fed_site.specs.Rosters.{roster_after}
 use Rattle.fed_site.specs.Site.{SiteValue}
 use Rattle.fed_site.specs.Says.{Said, site_says, IsReply}
 
 -- this was answered, and the site is what is left, with this roster
-pub record SaidAs (old new : SiteValue) (answer : Answered) (left : List (List ℕ × ℕ)) (said : Said) : Type 0 where
+pub record SaidAs (old new : SiteValue) (answer : SiteAnswer) (left : List (List ℕ × ℕ)) (said : Said) : Type 0 where
   pub roster : new.roster ≡ left
   pub after : state_of new.replica ≡ said.after
   pub reply : IsReply (state_of old.replica) said.reply (bytes_of answer)

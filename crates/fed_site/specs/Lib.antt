@@ -12,7 +12,7 @@ pub mod OwnLine
 pub mod OwnLineView
 pub mod Says
 pub mod Acts
-pub mod Answered
+pub mod SiteAnswer
 pub mod Told
 pub mod Journal
 pub mod Known

@@ -1,5 +1,6 @@
 -- The line that tells a site the roster, as `roster argonne:8 lemont:4`.
 use Rattle.std.specs.Prelude.{ℕ, ◌==◌, Bool, true, false, ◌&&◌, List, [], ◌∷◌, ◌++◌, codes, Option, Some, None, is_some, option_map, position, unwrap_or, if◌then◌else◌}
+use Rattle.std.specs.Cmp.Lexicographic.{pointwise}
 use Rattle.std.specs.Fmt.{decimal}
 use Rattle.std.specs.List.{join_by}
 use Rattle.std.specs.Str.{bytes_eq}
@@ -15,11 +16,9 @@ begins [] sites = true
 begins (known ∷ rest) [] = false
 begins (known ∷ rest) (site ∷ sites) = bytes_eq known.0 site.0 && begins rest sites
 
--- they have the same sites, with the same numbers of nodes
+-- they are equal, site by site, in their names and their numbers of nodes
 abbrev pub are_same : List (List ℕ × ℕ) → List (List ℕ × ℕ) → Bool
-are_same [] [] = true
-are_same (known ∷ rest) (site ∷ sites) = (bytes_eq known.0 site.0 && known.1 == site.1) && are_same rest sites
-are_same _ _ = false
+are_same = pointwise (λ known site. bytes_eq known.0 site.0 && known.1 == site.1)
 
 -- ---- the line
 -- The words behind `roster`. The first of them has a colon, as no utility's name has: so a user may have this name.

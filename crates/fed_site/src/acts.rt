@@ -4,7 +4,7 @@ ghost use Rattle.fed_model.specs.declared.outcomes.Outcome.{Outcome};
 ghost use Rattle.fed_qstat.specs.Outcome.{answer_line, text_of_outcome, text_of_reply};
 ghost use Rattle.fed_site.specs.declared.complaints.Complaint.{Complaint};
 ghost use Rattle.fed_site.specs.Acts.{DoneAs};
-ghost use Rattle.fed_site.specs.Answered.{text_of};
+ghost use Rattle.fed_site.specs.SiteAnswer.{text_of};
 ghost use Rattle.fed_replica.specs.State.{state_of};
 ghost use Rattle.fed_site.specs.Says.{after_command, after_commands, job_begun_by};
 

@@ -2,7 +2,7 @@
 ghost use Rattle.std.specs.Prelude.{◌≡◌, ◌++◌, ◌||◌, false, Some, None, IfOk, string_bytes};
 ghost use Rattle.std.specs.Cow.{cow_str_bytes};
 ghost use Rattle.std.specs.Option.{option_or};
-ghost use Rattle.fed_site.specs.Answered.{text_of};
+ghost use Rattle.fed_site.specs.SiteAnswer.{text_of};
 
 use crate::complaints::Complaint;
 use crate::identifier_lines::IdentifierLine;

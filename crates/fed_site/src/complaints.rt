@@ -44,51 +44,6 @@ pub enum Complaint {
     OtherRoster,
 }
 
-/// What a refusal says to the user.
-fn why_refused(refusal: Refusal) -> &'static str {
-    match refusal {
-        Refusal::UnknownJob => "this site does not know the job",
-        Refusal::NotPermitted => "the role of the asker does not permit it",
-        Refusal::Gone => "the job is finished or deleted",
-        Refusal::Granted => "the job is granted",
-        Refusal::NotOrigin => "the job was submitted at another site",
-        Refusal::Held => "the job is held",
-        Refusal::NotEligible => "the job may not run at that site",
-        Refusal::TakenBy(_) => "the job is granted to another site",
-        Refusal::NotGranted => "the job is not granted to this site",
-        Refusal::Begun => "the job has begun",
-        Refusal::NotBegun => "the job has not begun",
-        Refusal::BadWindow =>
-            "the reservation ends before it starts, or its end or nodes are out of range",
-        Refusal::UnknownReservation => {
-            "this site does not know the reservation, or it is cancelled"
-        }
-        Refusal::SiteFull => {
-            "the site has as many jobs, reservations or ranges of retired identifiers as it may have"
-        }
-        Refusal::ClockFull => "the numbers that it needs are used up",
-        Refusal::NoMemory => "there was no memory for it",
-        Refusal::NotSettled => {
-            "the range is none of this site, or a job or a reservation in it is not settled"
-        }
-    }
-}
-
-/// What a misuse says to the user.
-fn why_misused(fault: UsageFault) -> &'static str {
-    match fault {
-        UsageFault::UnknownUtility => "the first word names no utility",
-        UsageFault::UnknownOption => "the utility has no such option",
-        UsageFault::MissingArgument => "an option lacks its argument",
-        UsageFault::BadValue =>
-            "a value has a wrong form or is out of range, or no such resource exists",
-        UsageFault::BadIdentifier => "an identifier has a wrong form",
-        UsageFault::UnknownSite => "no site of the roster has this name",
-        UsageFault::MissingOperand => "no job is named",
-        UsageFault::NoMemory => "there was no memory for it",
-    }
-}
-
 /// Writes the fault of a text that is no packet's.
 fn write_unread<W: fmt::Write>(f: &mut fmt::Formatter<W>, fault: WireFault) -> fmt::Result {
     match fault {
@@ -129,13 +84,12 @@ impl fmt::Display for Complaint {
             ),
             Complaint::Misused(fault) => {
                 let number = fault.number();
-                let why = why_misused(*fault);
-                write!(f, "usage {number}: {why}")
+                write!(f, "usage {number}: {fault}")
             }
             Complaint::Refused(refused) => {
-                let number = refused.refusal.number();
-                let why = why_refused(refused.refusal);
-                write!(f, "refused {number}: {why}")
+                let refusal = refused.refusal;
+                let number = refusal.number();
+                write!(f, "refused {number}: {refusal}")
             }
             Complaint::Unread(fault) => write_unread(f, *fault),
             Complaint::Foreign => write!(

@@ -31,7 +31,6 @@ pub use identifier_lines::IdentifierLine;
 pub use line_words::words_of_lines;
 pub use look_texts::look_text;
 pub use plan_objects::plan_json;
-pub use rosters::are_same_rosters;
 pub use seen::seen_lines;
-pub use site::{Answered, Site};
+pub use site::{Site, SiteAnswer};
 pub use tellings::{Told, words_beside};

@@ -8,20 +8,6 @@ use fed_stamp::MAX_NODES;
 use fed_words::{Choice, UsageFault, Utility, read_resources, read_words};
 use std::alloc::{AllocError, Global};
 
-/// The name of a misuse.
-fn name_of(fault: UsageFault) -> &'static str {
-    match fault {
-        UsageFault::UnknownUtility => "UnknownUtility",
-        UsageFault::UnknownOption => "UnknownOption",
-        UsageFault::MissingArgument => "MissingArgument",
-        UsageFault::BadValue => "BadValue",
-        UsageFault::BadIdentifier => "BadIdentifier",
-        UsageFault::UnknownSite => "UnknownSite",
-        UsageFault::MissingOperand => "MissingOperand",
-        UsageFault::NoMemory => "NoMemory",
-    }
-}
-
 /// The index of the word at fault. Words are read from left to right, so it is the last of the first words that have
 /// the same fault.
 fn place_at_fault(alloc: Global, site: &Site, words: &[&str], fault: UsageFault) -> Option<usize> {
@@ -159,9 +145,8 @@ fn utility_text(
         return Ok(None);
     };
     let number = fault.number();
-    let name = name_of(fault);
     let why = word_text(alloc, site, words, index, fault)?;
-    Ok(Some(format!(in alloc; "usage {number} ({name}): {why}")?))
+    Ok(Some(format!(in alloc; "usage {number} ({fault:?}): {why}")?))
 }
 
 /// Why the words of a line, the first of which names who asks, ask nothing. `None` where no word of them is at fault.

@@ -44,8 +44,8 @@ fn index_at_fault(alloc: Global, words: &[&str]) -> Result<usize, AllocError> {
     Ok(words.len())
 }
 
-/// Why these words are no roster that goes on with the known one.
-fn why_other(alloc: Global, known: &Roster, words: &[&str]) -> Result<String, AllocError> {
+/// Why these words are no roster that goes on with the known one: the word at fault.
+fn word_at_fault_text(alloc: Global, known: &Roster, words: &[&str]) -> Result<String, AllocError> {
     if let Some(text) = known_text(alloc, known, words)? {
         return Ok(text);
     }
@@ -70,7 +70,7 @@ pub fn other_roster_text(
     };
     match words.as_slice().split_first() {
         Some((_, words)) => {
-            let why = why_other(alloc, site.roster(), words)?;
+            let why = word_at_fault_text(alloc, site.roster(), words)?;
             Ok(Some(format!(in alloc; "other roster: {why}")?))
         }
         None => Ok(None),

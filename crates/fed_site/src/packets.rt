@@ -66,17 +66,11 @@ fn unread_line(alloc: Global, fault: WireFault) -> Result<AnswerText, AllocError
     }
 }
 
-/// Whether something is told of a site, where the greatest counter told of it is this.
-fn is_told(counter: u32) -> bool
-    ensures { result ≡ nat_lt 0 counter }
-{
-    counter > 0
-}
-
-fn is_any_told(counters: &[u32]) -> bool
+/// Whether anything is told of the sites that these counters are of: each is the greatest that is told of its site.
+fn is_anything_told(counters: &[u32]) -> bool
     ensures { result ≡ list_any (λ counter. nat_lt 0 counter) counters.now }
 {
-    counters.iter().any(|counter| is_told(*counter))
+    counters.iter().any(|counter| *counter > 0)
 }
 
 /// Whether anything is told of a site behind so many.
@@ -84,8 +78,7 @@ fn tells_of_more(sites: usize, reached: &Version) -> bool
     requires { sites ≤ SITES }
     ensures { result ≡ list_any (λ counter. nat_lt 0 counter) (drop sites reached.now) }
 {
-    let counters = reached.counters();
-    is_any_told(&counters[sites..])
+    is_anything_told(&reached.counters()[sites..])
 }
 
 /// Whether the sender, or a site of which something is told, is none of the roster's.

@@ -7,7 +7,7 @@ ghost use Rattle.fed_replica.specs.State.{empty_at, state_of};
 ghost use Rattle.fed_qstat.specs.Outcome.{answer_line};
 ghost use Rattle.fed_machine.specs.Planned.{plan_or_none};
 ghost use Rattle.fed_site.specs.declared.complaints.Complaint.{Complaint};
-ghost use Rattle.fed_site.specs.Answered.{begun_of, bytes_of, complaint_of, kept_of, text_of};
+ghost use Rattle.fed_site.specs.SiteAnswer.{begun_of, bytes_of, complaint_of, kept_of, text_of};
 ghost use Rattle.fed_site.specs.Journal.{SaidAs, after_lines};
 ghost use Rattle.fed_site.specs.Known.{heard_line as line_of_heard, known_in, unheard};
 ghost use Rattle.fed_site.specs.OwnLine.{told_by};
@@ -23,7 +23,7 @@ use crate::knowing::{heard_line, known, known_text};
 use crate::look_texts::look_text;
 use crate::own_lines::{OwnLine, read_line};
 use crate::packets::{ship, take};
-use crate::rosters::{are_same_rosters, begins};
+use crate::rosters::begins;
 use fed_board::Board;
 use fed_lattice::NoMemory;
 use fed_machine::plan_lines;
@@ -37,21 +37,21 @@ use std::marker::Model;
 
 /// What a site answers to a line.
 #[derive(Drop)]
-pub enum Answered {
+pub enum SiteAnswer {
     /// A text.
     Text(TextAnswer),
     /// The line of a packet.
     Packet { text: Vec<u8> },
 }
 
-impl Answered {
+impl SiteAnswer {
     /// The bytes to write.
     pub fn bytes(&self) -> &[u8]
         ensures { result.now ≡ bytes_of self.now }
     {
         match self {
-            Answered::Text(answer) => answer.text.as_str().as_bytes(),
-            Answered::Packet { text } => text,
+            SiteAnswer::Text(answer) => answer.text.as_str().as_bytes(),
+            SiteAnswer::Packet { text } => text,
         }
     }
 
@@ -60,8 +60,8 @@ impl Answered {
         ensures { result ≡ kept_of self.now }
     {
         match self {
-            Answered::Text(answer) => answer.kept,
-            Answered::Packet { .. } => false,
+            SiteAnswer::Text(answer) => answer.kept,
+            SiteAnswer::Packet { .. } => false,
         }
     }
 
@@ -70,8 +70,8 @@ impl Answered {
         ensures { result ≡ complaint_of self.now }
     {
         match self {
-            Answered::Text(answer) => answer.complaint,
-            Answered::Packet { .. } => None,
+            SiteAnswer::Text(answer) => answer.complaint,
+            SiteAnswer::Packet { .. } => None,
         }
     }
 
@@ -80,8 +80,8 @@ impl Answered {
         ensures { result ≡ begun_of self.now }
     {
         match self {
-            Answered::Text(answer) => answer.begun,
-            Answered::Packet { .. } => None,
+            SiteAnswer::Text(answer) => answer.begun,
+            SiteAnswer::Packet { .. } => None,
         }
     }
 }
@@ -181,7 +181,7 @@ impl Site {
     }
 
     /// Does what a line says.
-    fn do_line(&mut self, alloc: Global, line: Line) -> Result<Answered, NoMemory>
+    fn do_line(&mut self, alloc: Global, line: Line) -> Result<SiteAnswer, NoMemory>
         ensures said { IfOk result (λ a. SaidAs self.old self.new a self.old.roster
             (after_line self.old.roster (state_of self.old.replica) (said_by line))) }
         ensures unchanged { OnErr result (self.new ≡ self.old) }
@@ -191,42 +191,42 @@ impl Site {
         match line {
             Line::Act { who, commands, .. } => {
                 let answer = act(alloc, roster, here, &mut self.replica, &who, &commands)?;
-                Ok(Answered::Text(answer))
+                Ok(SiteAnswer::Text(answer))
             }
-            Line::Skip => Ok(Answered::Text(told(CowStr::Borrowed("")))),
+            Line::Skip => Ok(SiteAnswer::Text(told(CowStr::Borrowed("")))),
             Line::List { full, jobs, .. } => {
                 let text = listing_text(alloc, roster, self.replica.board(), full, &jobs)?;
-                Ok(Answered::Text(told(CowStr::Owned(text))))
+                Ok(SiteAnswer::Text(told(CowStr::Owned(text))))
             }
             Line::Misuse { fault, .. } => {
                 let text = CowStr::Owned(usage_line(alloc, fault)?);
-                Ok(Answered::Text(undone(text, Complaint::Misused(fault))))
+                Ok(SiteAnswer::Text(undone(text, Complaint::Misused(fault))))
             }
-            Line::Ship { to, .. } => Ok(Answered::Packet {
+            Line::Ship { to, .. } => Ok(SiteAnswer::Packet {
                 text: ship(alloc, &self.replica, to)?,
             }),
             Line::Plan { moment, .. } => {
                 let plan = plan_lines(alloc, roster, self.replica.board(), here, moment)?;
-                Ok(Answered::Text(plan_answer(plan)))
+                Ok(SiteAnswer::Text(plan_answer(plan)))
             }
-            _ => Ok(Answered::Text(unreadable())),
+            _ => Ok(SiteAnswer::Text(unreadable())),
         }
     }
 
     /// Is told a roster, or words that name none.
-    fn take_roster(&mut self, told: Option<BoxedRoster>) -> Answered
+    fn take_roster(&mut self, told: Option<BoxedRoster>) -> SiteAnswer
         ensures { SaidAs self.old self.new result (roster_told self.old.roster (Some told))
             (said_of (after_next self.old.roster (state_of self.old.replica) (next_roster self.old.roster told))) }
     {
         let Some(roster) = told else {
-            return Answered::Text(other_roster());
+            return SiteAnswer::Text(other_roster());
         };
         if !begins(self.roster.get(), roster.get()) {
-            return Answered::Text(other_roster());
+            return SiteAnswer::Text(other_roster());
         }
-        let kept = !are_same_rosters(self.roster.get(), roster.get());
+        let kept = self.roster.get() != roster.get();
         self.roster = roster;
-        Answered::Text(TextAnswer {
+        SiteAnswer::Text(TextAnswer {
             text: LineText::Other(CowStr::Borrowed("done\n")),
             kept,
             complaint: None,
@@ -235,7 +235,7 @@ impl Site {
     }
 
     /// Does what a line was read as.
-    fn do_own(&mut self, alloc: Global, line: OwnLine<'_>) -> Result<Answered, NoMemory>
+    fn do_own(&mut self, alloc: Global, line: OwnLine<'_>) -> Result<SiteAnswer, NoMemory>
         ensures said { IfOk result (λ a. SaidAs self.old self.new a (roster_told self.old.roster (told_by (read_as line.entry)))
             (after_own self.old.roster (state_of self.old.replica) (read_as line.entry))) }
         ensures unchanged { OnErr result (self.new ≡ self.old) }
@@ -244,19 +244,19 @@ impl Site {
             OwnLine::Roster(told) => Ok(self.take_roster(told)),
             OwnLine::Packet(text) => {
                 let answer = take(alloc, self.roster.get(), self.here, &mut self.replica, text)?;
-                Ok(Answered::Text(answer))
+                Ok(SiteAnswer::Text(answer))
             }
             OwnLine::Look(look) => {
                 let seen = look_text(alloc, self.roster.get(), &self.replica, &look)?;
-                Ok(Answered::Text(told(CowStr::Owned(seen))))
+                Ok(SiteAnswer::Text(told(CowStr::Owned(seen))))
             }
             OwnLine::Line(Some(line)) => self.do_line(alloc, line),
-            OwnLine::Line(None) => Ok(Answered::Text(unreadable())),
+            OwnLine::Line(None) => Ok(SiteAnswer::Text(unreadable())),
         }
     }
 
     /// Answers a line. Where memory is refused, the site holds what it held.
-    pub fn answer(&mut self, alloc: Global, line: &[u8]) -> Result<Answered, NoMemory>
+    pub fn answer(&mut self, alloc: Global, line: &[u8]) -> Result<SiteAnswer, NoMemory>
         ensures said { IfOk result (λ a. SaidAs self.old self.new a (roster_after self.old.roster line.now)
             (site_says self.old.roster (state_of self.old.replica) line.now)) }
         ensures unchanged { OnErr result (self.new ≡ self.old) }

@@ -3,7 +3,7 @@ ghost use Rattle.std.specs.Prelude.{◌≡◌, IfOk, option_map, string_bytes};
 ghost use Rattle.fed_site.specs.Told.{AreWordsOf, IsTold};
 
 use crate::reasons::{reason_text, warning_text};
-use crate::site::{Answered, Site};
+use crate::site::{Site, SiteAnswer};
 use fed_lattice::NoMemory;
 use std::alloc::Global;
 
@@ -11,7 +11,7 @@ use std::alloc::Global;
 #[derive(Drop)]
 pub struct Told {
     /// What the site answered to the line.
-    pub answer: Answered,
+    pub answer: SiteAnswer,
     /// What is told beside it, where that is asked for: one line.
     pub words: Option<String>,
 }
@@ -22,7 +22,7 @@ pub fn words_beside(
     alloc: Global,
     site: &Site,
     line: &[u8],
-    answer: &Answered,
+    answer: &SiteAnswer,
 ) -> Result<Option<String>, NoMemory>
     ensures { IfOk result (λ words. AreWordsOf answer.now (option_map string_bytes words)) }
 {
@@ -39,7 +39,7 @@ impl Told {
         alloc: Global,
         site: &Site,
         line: &[u8],
-        answer: Answered,
+        answer: SiteAnswer,
         asked: bool,
     ) -> Result<Told, NoMemory>
         ensures answer { IfOk result (λ told. told.answer ≡ answer) }

@@ -21,9 +21,9 @@ use Rattle.fed_site.specs.Says.{after_handing, after_own, after_reading, after_t
 use Rattle.fed_turns.specs.Alarm.{RaisesNoAlarm}
 use Rattle.fed_turns.specs.Turn.{Course, MayTurns, Turn, WasShipped, after_turns, beginning}
 use Rattle.fed_turns.specs.Run.{StandsFor, events_from, is_read_in, state_at}
-use Rattle.fed_turns.proofs.Packets.{IsFound, found, placed}
+use Rattle.fed_turns.proofs.Packets.{IsFound, found, placed, shipped_read}
 use Rattle.fed_turns.proofs.Reached.{Reached, run_reached, start_reached}
-use Rattle.fed_turns.proofs.Takes.{is_known, is_read, is_remembered, reads_receipt}
+use Rattle.fed_turns.proofs.Takes.{is_known, is_remembered, reads_receipt}
 use Rattle.fed_turns.proofs.Turns.{ArePlayed, turns_played}
 
 -- what is read is taken by what is told of its name
@@ -61,12 +61,12 @@ module _ (whole : List (List ℕ × ℕ)) (few : length whole ≤ 16) (rosters :
   posted : Has w.packets it.packet
   posted = packet_Has w (suc (position_or_len (is_read_in text) c.shipped)) it.packet it.is
 
-  reads : (i : ℕ) → packet_in (packet_of text) ≡ Ok it.of.sent
-  reads i = it.reads ∙ is_read n few w reached i it.packet posted it.shipped it.of
+  reads : packet_in (packet_of text) ≡ Ok it.of.sent
+  reads = it.reads ∙ shipped_read it.packet it.shipped it.of
 
   pub all_known : (i : ℕ) (packet : PacketValue) → packet_in (packet_of text) ≡ Ok packet → n ≤ length (c.roster i) → is_foreign (c.roster i) packet ≡ false
   all_known i packet e all =
-      subst (λ (p : PacketValue). is_foreign (c.roster i) p ≡ false) (some_packet it.of.sent packet (packet_in (packet_of text)) (reads i) e)
+      subst (λ (p : PacketValue). is_foreign (c.roster i) p ≡ false) (some_packet it.of.sent packet (packet_in (packet_of text)) reads e)
       (is_known n few w reached i it.packet posted it.shipped it.of (c.roster i) all)
 
   pub no_alarm : (i : ℕ) (line : List ℕ) → packet_text line ≡ Some text → RaisesNoAlarm (c.roster i) (c.site i) line text
@@ -77,11 +77,11 @@ module _ (whole : List (List ℕ × ℕ)) (few : length whole ≤ 16) (rosters :
       let here : State = state_at i (w.site i) in
       subst (λ (s : State). RaisesNoAlarm roster s line text) (sym (played.stands.sites i)) (record {
         packet = it.of.sent;
-        read = reads i;
+        read = reads;
         remembered = is_remembered n few w reached i it.packet posted it.shipped it.of;
-        said = λ none known. told here ∙ named_so roster text here it.of.sent (reads i) None none
-            ∙ ap (λ o. said_of (after_reading roster here o)) (sym (is_read n few w reached i it.packet posted it.shipped it.of))
+        said = λ none known. told here ∙ named_so roster text here it.of.sent reads None none
+            ∙ ap (λ o. said_of (after_reading roster here o)) (sym (shipped_read it.packet it.shipped it.of))
             ∙ ap said_of (reads_receipt n few w reached i it.packet posted it.shipped it.of roster known);
-        named = λ complaint is. told here ∙ named_so roster text here it.of.sent (reads i) (Some complaint) is;
-        foreign = λ none far. told here ∙ named_so roster text here it.of.sent (reads i) None none ∙ ap said_of (cond-true (is_foreign roster it.of.sent) _ _ far);
+        named = λ complaint is. told here ∙ named_so roster text here it.of.sent reads (Some complaint) is;
+        foreign = λ none far. told here ∙ named_so roster text here it.of.sent reads None none ∙ ap said_of (cond-true (is_foreign roster it.of.sent) _ _ far);
       })

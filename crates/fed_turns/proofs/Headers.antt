@@ -9,13 +9,13 @@ use Rattle.fed_script.specs.Forms.{◌>>=◌}
 use Rattle.fed_script.specs.Line.{words_in}
 use Rattle.fed_script.specs.Rosters.{roster_of}
 use Rattle.fed_site.proofs.RosterLines.{read_lawful}
-use Rattle.fed_home.specs.declared.headers.Format.{Format}
+use Rattle.fed_home.specs.declared.headers.JournalFormat.{JournalFormat}
 use Rattle.fed_home.specs.declared.headers.Header.{Header}
 use Rattle.fed_home.specs.Header.{format_of, header_in, header_of, site_among}
 
 -- ---- headers
 module _ (name : List ℕ) (h : Header) where
-  module _ (format : Format) where
+  module _ (format : JournalFormat) where
     found_roster : (roster : List (List ℕ × ℕ)) → IsRoster roster → (found : Option ℕ) → option_map (λ site. record { roster = roster; site = site; format = format }) found ≡ Some h → IsRoster h.roster
     found_roster roster lawful None e = cc
     found_roster roster lawful (Some i) e =
@@ -27,7 +27,7 @@ module _ (name : List ℕ) (h : Header) where
     among_roster words None is e = cc
     among_roster words (Some roster) is e = found_roster roster (read_lawful words roster is) (site_named roster name) e
 
-  format_roster : (o : Option Format) (words : List (List ℕ)) → (o >>= λ format. site_among format name words) ≡ Some h → IsRoster h.roster
+  format_roster : (o : Option JournalFormat) (words : List (List ℕ)) → (o >>= λ format. site_among format name words) ≡ Some h → IsRoster h.roster
   format_roster None words e = cc
   format_roster (Some format) words e = among_roster format words (roster_of words) refl e
 

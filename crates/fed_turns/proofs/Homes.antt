@@ -8,16 +8,16 @@ use Rattle.std.proofs.lemmas.Option.{same_Some}
 use Rattle.fed_stamp.specs.Roster.{IsRoster}
 use Rattle.fed_replica.specs.State.{State, empty_at}
 use Rattle.fed_theory.proofs.Runs.{put_same}
-use Rattle.fed_site.specs.Answered.{bytes_of}
-use Rattle.fed_site.specs.declared.site.Answered.{Answered}
+use Rattle.fed_site.specs.SiteAnswer.{bytes_of}
+use Rattle.fed_site.specs.declared.site.SiteAnswer.{SiteAnswer}
 use Rattle.fed_site.specs.Journal.{after_lines, kept_lines}
 use Rattle.fed_site.specs.Rosters.{roster_after, roster_after_lines}
 use Rattle.fed_site.specs.Says.{Said, site_says}
 use Rattle.fed_site.proofs.RosterLines.{begins_length, lines_begin, lines_lawful}
 use Rattle.fed_journal.specs.Journal.{IsBeforeOrAfter, entries_in, entries_of}
 use Rattle.fed_journal.specs.Lines.{recovered}
-use Rattle.fed_home.specs.declared.headers.Format.{Format}
-use Rattle.fed_home.specs.declared.headers.Format.TheVariants.{One, Two, Three, Four}
+use Rattle.fed_home.specs.declared.headers.JournalFormat.{JournalFormat}
+use Rattle.fed_home.specs.declared.headers.JournalFormat.TheVariants.{One, Two, Three, Four}
 use Rattle.fed_home.specs.declared.headers.Header.{Header}
 use Rattle.fed_home.specs.Header.{header_in}
 use Rattle.fed_home.specs.Replay.{AreReplies, Replayed, begun, begun_by, replay}
@@ -43,7 +43,7 @@ module _ (whole : List (List ℕ × ℕ)) where
       (first.0, happen_append hs ks d first.1 (subst (λ (x : Course). MayAllHappen whole x ks) (after_append ts (turns_from d hs) c) later))
 
   -- answers to lines of a site are turns there
-  replies_may : (i : ℕ) (lines : List (List ℕ)) (answers : List Answered) (c : Course) → i < length (c.roster i) → AreBeginnings whole (c.roster i) lines → AreReplies (c.roster i) (c.site i) lines answers
+  replies_may : (i : ℕ) (lines : List (List ℕ)) (answers : List SiteAnswer) (c : Course) → i < length (c.roster i) → AreBeginnings whole (c.roster i) lines → AreReplies (c.roster i) (c.site i) lines answers
       → AreCarried (c.roster i) c.shipped (c.site i) lines → MayTurns whole c (turns_at i lines answers)
   replies_may i [] [] c small parts replies carried = tt
   replies_may i [] (answer ∷ answers) c small parts replies carried = tt
@@ -68,19 +68,19 @@ module _ (whole : List (List ℕ × ℕ)) where
       )
 
 module _ (i : ℕ) where
-  turn_sites : (lines : List (List ℕ)) (answers : List Answered) → All (λ t. t.site ≡ i) (turns_at i lines answers)
+  turn_sites : (lines : List (List ℕ)) (answers : List SiteAnswer) → All (λ t. t.site ≡ i) (turns_at i lines answers)
   turn_sites [] answers = All-nil (λ (t : Turn). t.site ≡ i)
   turn_sites (line ∷ lines) [] = All-nil (λ (t : Turn). t.site ≡ i)
   turn_sites (line ∷ lines) (answer ∷ answers) =
       All-cons (λ (t : Turn). t.site ≡ i) (record { site = i; line = line; answer = bytes_of answer }) (turns_at i lines answers) refl (turn_sites lines answers)
 
-  turn_lines : (roster : List (List ℕ × ℕ)) (s : State) (lines : List (List ℕ)) (answers : List Answered) → AreReplies roster s lines answers → map (λ t. t.line) (turns_at i lines answers) ≡ lines
+  turn_lines : (roster : List (List ℕ × ℕ)) (s : State) (lines : List (List ℕ)) (answers : List SiteAnswer) → AreReplies roster s lines answers → map (λ t. t.line) (turns_at i lines answers) ≡ lines
   turn_lines roster s [] [] replies = refl
   turn_lines roster s [] (answer ∷ answers) replies = refl
   turn_lines roster s (line ∷ lines) [] replies = absurd replies
   turn_lines roster s (line ∷ lines) (answer ∷ answers) replies = ap (λ l. line ∷ l) (turn_lines (roster_after roster line) (site_says roster s line).after lines answers replies.4)
 
-  lines_of : (roster : List (List ℕ × ℕ)) (s : State) (lines : List (List ℕ)) (answers : List Answered) → AreReplies roster s lines answers → lines_all i (map answered (turns_at i lines answers)) ≡ lines
+  lines_of : (roster : List (List ℕ × ℕ)) (s : State) (lines : List (List ℕ)) (answers : List SiteAnswer) → AreReplies roster s lines answers → lines_all i (map answered (turns_at i lines answers)) ≡ lines
   lines_of roster s lines answers replies = lines_answered i (turns_at i lines answers) (turn_sites lines answers) ∙ turn_lines roster s lines answers replies
 
   -- ---- what a home stands for
@@ -115,7 +115,7 @@ module _ (i : ℕ) where
 
     module _ (whole : List (List ℕ × ℕ)) where
       -- ---- lines are answered
-      pub home_answered : (old new : List ℕ) (now : Replayed) (lines : List (List ℕ)) (answers : List Answered) → MayAllHappen whole (beginning rosters) hs → IsHomeOf rosters i hs old → replay (entries_in old) ≡ Some now
+      pub home_answered : (old new : List ℕ) (now : Replayed) (lines : List (List ℕ)) (answers : List SiteAnswer) → MayAllHappen whole (beginning rosters) hs → IsHomeOf rosters i hs old → replay (entries_in old) ≡ Some now
           → AreReplies now.roster now.state lines answers → recovered new ≡ Ok (entries_in old ++ kept_lines now.roster now.state lines) → AreCarried now.roster c.shipped now.state lines → AreBeginnings whole now.roster lines
           → MayAllHappen whole (beginning rosters) (hs ++ map answered (turns_at i lines answers)) × IsHomeOf rosters i (hs ++ map answered (turns_at i lines answers)) new
       home_answered old new now lines answers may h e = subst
@@ -193,7 +193,7 @@ new_home header file h now is begins e = go h.format begins
       ),
     )
 
-    go : (format : Format) → result_ok (begun format h.roster h.site []) ≡ Some now → IsNewHome file now
+    go : (format : JournalFormat) → result_ok (begun format h.roster h.site []) ≡ Some now → IsNewHome file now
     go One b = from_nothing (same_Some (made_by h) now b)
     go Two b = cc
     go Three b = from_nothing (same_Some (made_by h) now b)

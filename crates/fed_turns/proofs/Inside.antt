@@ -1,8 +1,8 @@
 -- A site knows of no site that its roster hasn't, and has heard nothing of one.
 use Rattle.std.specs.Prelude.{Some, None, Option, Result, Ok, Err, if◌then◌else◌, codes, nat_le, nat_lt, drop}
 use Rattle.std.specs.List.{list_any}
-use Rattle.std.proofs.Common.{◌≡◌, ◌≤◌, ◌<◌, ℕ, ◌+◌, zero, suc, max, Bool, true, false, ◌||◌, List, [], ◌∷◌, length, replicate, refl, sym, subst, ap, ◌∙◌, inl, inr, arith}
-use Rattle.std.proofs.lemmas.Bool.{cases_eq, leb-false, ltb-false}
+use Rattle.std.proofs.Common.{◌≡◌, ◌≤◌, ◌<◌, ℕ, ◌+◌, zero, suc, max, Bool, true, false, List, [], ◌∷◌, length, replicate, refl, sym, subst, ap, ◌∙◌, inl, inr, arith}
+use Rattle.std.proofs.lemmas.Bool.{cases_eq, leb-false, ltb-false, or_parts}
 use Rattle.fed_stamp.specs.Stamp.{StampValue}
 use Rattle.fed_stamp.specs.Version.{counter_of, joined, next_stamp, raised}
 use Rattle.fed_stamp.specs.declared.versions.ClockFull.{ClockFull}
@@ -41,10 +41,6 @@ use Rattle.fed_turns.specs.Run.{StandsFor, events_at}
 use Rattle.fed_turns.specs.Turn.{Course, MayTurns, Turn, after_turn, after_turns, beginning, said_to}
 use Rattle.fed_turns.proofs.Reached.{Reached, run_reached}
 use Rattle.fed_turns.proofs.Turns.{turn_played}
-
-neither : (a b : Bool) → (a || b) ≡ false → (a ≡ false) × (b ≡ false)
-neither true b e = cc
-neither false b e = (refl, e)
 
 -- from this place on nothing was seen, and nothing heard
 abbrev pub NoneFrom : ℕ → State → Type 0
@@ -100,9 +96,9 @@ module _ (roster : List (List ℕ × ℕ)) where
   none_heard : (v : List ℕ) (n : ℕ) → list_any (λ counter. nat_lt 0 counter) (drop n v) ≡ false → (j : ℕ) → n ≤ j → counter_of v j ≡ 0
   none_heard [] n e j far = refl
   none_heard (x ∷ v) zero e zero far =
-      let least = ltb-false 0 x (neither (nat_lt 0 x) (list_any (λ counter. nat_lt 0 counter) v) e).0 in
+      let least = ltb-false 0 x (or_parts (nat_lt 0 x) (list_any (λ counter. nat_lt 0 counter) v) e).0 in
       omega (arith, least)
-  none_heard (x ∷ v) zero e (suc j) far = none_heard v zero (neither (nat_lt 0 x) (list_any (λ counter. nat_lt 0 counter) v) e).1 j (omega arith)
+  none_heard (x ∷ v) zero e (suc j) far = none_heard v zero (or_parts (nat_lt 0 x) (list_any (λ counter. nat_lt 0 counter) v) e).1 j (omega arith)
   none_heard (x ∷ v) (suc n) e zero far = absurd (omega (arith, far))
   none_heard (x ∷ v) (suc n) e (suc j) far = none_heard v n e j (omega (arith, far))
 
@@ -110,7 +106,7 @@ module _ (roster : List (List ℕ × ℕ)) where
   unfolding join_records
   receipt_none s p (Some site) known none j far = none j far
   receipt_none s p None known none j far =
-      let parts = neither (nat_le m p.sender) _ known in
+      let parts = or_parts (nat_le m p.sender) _ known in
       let told = none_heard p.delta.changes.version m parts.1 j far in
       let sender = leb-false m p.sender parts.0 in
       let old = none j far in

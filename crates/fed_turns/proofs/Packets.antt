@@ -81,7 +81,7 @@ same_itself : (r : Result PacketValue WireFault) (p : PacketValue) → r ≡ Ok 
 same_itself (Ok q) p e = (tells_packets q q).1 refl
 same_itself (Err fault) p e = cc
 
-shipped_read : (p : Packet) (text : List ℕ) (t : IsTextOf p text) → packet_in text ≡ Ok t.sent
+pub shipped_read : (p : Packet) (text : List ℕ) (t : IsTextOf p text) → packet_in text ≡ Ok t.sent
 shipped_read p text t = again Two text t.sent t.limits t.again
 
 -- an answer that is a shipment of it

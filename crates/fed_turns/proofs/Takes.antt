@@ -1,5 +1,5 @@
 -- A packet that a site takes by its text is the one that it takes in the run.
-use Rattle.std.specs.Prelude.{is_none, nat_lt, drop, Option, Some, None, Ok}
+use Rattle.std.specs.Prelude.{is_none, nat_lt, drop, Option, Some, None}
 use Rattle.std.specs.List.{list_any}
 use Rattle.std.proofs.Common.{◌≡◌, ◌≤◌, ◌<◌, ℕ, zero, suc, List, [], ◌∷◌, true, false, not, length, refl, sym, subst, ap, ◌∙◌, inl, inr, arith}
 use Rattle.std.proofs.lemmas.Bool.{cases_lt, cond-false, le-ltb, lt-leb, ltb-false, or_from}
@@ -17,10 +17,8 @@ use Rattle.fed_model.specs.View.{View, view}
 use Rattle.fed_theory.specs.ViewSteps.{join_records}
 use Rattle.fed_theory.specs.Cut.{cut}
 use Rattle.fed_delta.proofs.CutLaws.{stands_absorbed}
-use Rattle.fed_job_json.specs.declared.formats.Format.TheVariants.{Two}
 use Rattle.fed_delta.specs.Packet.{PacketValue}
 use Rattle.fed_wire.specs.Reading.{packet_in}
-use Rattle.fed_wire.proofs.PacketLaws.{again}
 use Rattle.fed_model.specs.Packet.{Packet, missing, taken, takes_unless}
 use Rattle.fed_replica.specs.State.{State, after_packet_unless, lacking}
 use Rattle.fed_model.specs.declared.outcomes.Outcome.{Outcome}
@@ -37,6 +35,7 @@ use Rattle.fed_site.specs.declared.complaints.Complaint.{Complaint}
 use Rattle.std.specs.Option.{option_map}
 use Rattle.fed_turns.specs.Run.{state_at}
 use Rattle.fed_turns.proofs.Acts.{IsStepped}
+use Rattle.fed_turns.proofs.Packets.{shipped_read}
 use Rattle.fed_turns.proofs.Reached.{Reached, good, lawful, of_sites}
 
 -- from a place on no counter is above 0
@@ -64,9 +63,6 @@ module _ (n : ℕ) (few : n ≤ 16) (w : World) (r : Reached n w) (i : ℕ)
 
   sent : IsSent (good n few w r).0 w p
   sent = (good n few w r).1.sent p posted
-
-  pub is_read : packet_in text ≡ Ok t.sent
-  is_read = again Two text t.sent t.limits t.again
 
   reached : c.delta.changes.version ≡ version_of p.gives
   unfolding cut
@@ -152,7 +148,7 @@ module _ (n : ℕ) (few : n ≤ 16) (w : World) (r : Reached n w) (i : ℕ)
 
     -- the text is taken as the packet
     pub reads_receipt : after_reading roster here (packet_in text) ≡ after_receipt roster here t.sent
-    reads_receipt = ap (after_reading roster here) is_read ∙ cond-false (is_foreign roster c) _ _ known ∙ cond-false (is_forgotten here c) _ _ is_remembered
+    reads_receipt = ap (after_reading roster here) (shipped_read p text t) ∙ cond-false (is_foreign roster c) _ _ known ∙ cond-false (is_forgotten here c) _ _ is_remembered
 
     pub is_taken : IsStepped roster i w (takes w i (Some p)) (after_reading roster here (packet_in text))
     is_taken =

@@ -40,9 +40,9 @@ use Rattle.fed_turns.specs.Turn.{Course, IsCarried, MayTurn, MayTurns, Turn, Was
 use Rattle.fed_turns.specs.Run.{AreAnswered, AreShipments, Deed, IsDeedAnswer, StandsFor, declines, deed_by, deed_of, does, events_at, events_done, events_from, hears, is_declined, is_read_in, is_stranger, looks, state_at, taken_as}
 use Rattle.fed_turns.proofs.Acts.{IsStepped, acted}
 use Rattle.fed_turns.proofs.OwnLines.{own_line_is}
-use Rattle.fed_turns.proofs.Packets.{found, placed, shipment, shipments_push}
+use Rattle.fed_turns.proofs.Packets.{found, placed, shipment, shipments_push, shipped_read}
 use Rattle.fed_turns.proofs.Reached.{Reached, run_reached}
-use Rattle.fed_turns.proofs.Takes.{is_read, is_taken}
+use Rattle.fed_turns.proofs.Takes.{is_taken}
 
 -- ---- one site changes
 settled : (c : Course) (w v : World) (i : ℕ) (s : State) → StandsFor c w → s ≡ state_at i (v.site i) → ((j : ℕ) → j ≢ i → v.site j ≡ w.site j) → (j : ℕ) → put c.site i s j ≡ state_at j (v.site j)
@@ -152,7 +152,7 @@ module _ (n : ℕ) (few : n ≤ 16) (roster next : List (List ℕ × ℕ)) (part
       let it = found text w.packets c.shipped stands.shipped within in
       let does : step n w (Take t.site (suc k)) ≡ takes w t.site (Some it.packet) = take_here n w t.site (suc k) own ∙ ap (takes w t.site) it.is in
       let posted = packet_Has w (suc k) it.packet it.is in
-      let friend = sym (ap (is_stranger roster) (it.reads ∙ is_read n few w r t.site it.packet posted it.shipped it.of)) ∙ known in
+      let friend = sym (ap (is_stranger roster) (it.reads ∙ shipped_read it.packet it.shipped it.of)) ∙ known in
       let taken = is_taken n few w r t.site it.packet posted it.shipped it.of roster friend in
       let read = subst (λ o. IsStepped roster t.site w (takes w t.site (Some it.packet)) (after_reading roster here o)) (sym it.reads) taken in
       let one = subst (λ (s : Step). IsStepped roster t.site w s (after_reading roster here (packet_in (packet_of text)))) (sym does) read in

@@ -1,8 +1,8 @@
 -- Homes: the journals' files of sites on a disk, by what happened at all sites.
 use Rattle.std.specs.Prelude.{◌≡◌, ◌<◌, ℕ, List, [], ◌∷◌, length, Some}
 use Rattle.fed_stamp.specs.Roster.{IsRoster}
-use Rattle.fed_site.specs.Answered.{bytes_of}
-use Rattle.fed_site.specs.declared.site.Answered.{Answered}
+use Rattle.fed_site.specs.SiteAnswer.{bytes_of}
+use Rattle.fed_site.specs.declared.site.SiteAnswer.{SiteAnswer}
 use Rattle.fed_journal.specs.Journal.{entries_in}
 use Rattle.fed_home.specs.Replay.{replay}
 use Rattle.fed_turns.specs.Turn.{Course, Turn, after_turns, beginning}
@@ -22,7 +22,7 @@ IsHomeOf rosters i happenings file = IsRoster ((course_of rosters happenings).ro
     }))
 
 -- lines of a site, each with the bytes that answered it
-abbrev pub turns_at : ℕ → List (List ℕ) → List Answered → List Turn
+abbrev pub turns_at : ℕ → List (List ℕ) → List SiteAnswer → List Turn
 turns_at i (line ∷ lines) (answer ∷ answers) =
     record { site = i; line = line; answer = bytes_of answer } ∷ turns_at i lines answers
 turns_at i _ _ = []

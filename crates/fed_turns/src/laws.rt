@@ -19,7 +19,7 @@ ghost use Rattle.fed_site.specs.Known.{heard_lines, known_in, unheard};
 ghost use Rattle.fed_site.specs.Line.{packet_text};
 ghost use Rattle.fed_site.specs.Packets.{IsPacketText, is_foreign};
 ghost use Rattle.fed_site.specs.Rosters.{roster_after_lines};
-ghost use Rattle.fed_site.specs.declared.site.Answered.{Answered};
+ghost use Rattle.fed_site.specs.declared.site.SiteAnswer.{SiteAnswer};
 ghost use Rattle.fed_journal.specs.Journal.{IsBeforeOrAfter, entries_in};
 ghost use Rattle.fed_journal.specs.Lines.{recovered};
 ghost use Rattle.fed_home.specs.Replay.{AreReplies, Replayed, replay};
@@ -194,7 +194,7 @@ pub fn homes_go_on()
           state = state_at i ((run (length whole) (events_from (beginning rosters) (turns_from (beginning rosters) happenings))).site i);
         }) }
     ensures answered { (whole : List (List ℕ × ℕ)) (rosters : ℕ → List (List ℕ × ℕ)) (i : ℕ) (happenings : List Happening) (old new : List ℕ) (now : Replayed)
-        (lines : List (List ℕ)) (answers : List Answered) → MayAllHappen whole (beginning rosters) happenings →
+        (lines : List (List ℕ)) (answers : List SiteAnswer) → MayAllHappen whole (beginning rosters) happenings →
         IsHomeOf rosters i happenings old → replay (entries_in old) ≡ Some now →
         AreReplies now.roster now.state lines answers →
         recovered new ≡ Ok (entries_in old ++ kept_lines now.roster now.state lines) →

@@ -12,28 +12,28 @@ use thiserror::Error;
 #[derive(Clone, Copy, PartialEq, Eq, Debug, Drop, Error)]
 pub enum UsageFault {
     /// 1: the first word names no utility, or there is none.
-    #[error("unknown utility")]
+    #[error("the first word names no utility")]
     UnknownUtility,
     /// 2: the utility has no option of this letter.
-    #[error("unknown option")]
+    #[error("the utility has no such option")]
     UnknownOption,
     /// 3: there is no word behind an option that takes an argument.
     #[error("an option lacks its argument")]
     MissingArgument,
     /// 4: an argument is out of its range or form, or names no resource.
-    #[error("bad value")]
+    #[error("a value has a wrong form or is out of range, or no such resource exists")]
     BadValue,
     /// 5: an operand hasn't the form of an identifier.
-    #[error("bad identifier")]
+    #[error("an identifier has a wrong form")]
     BadIdentifier,
     /// 6: the roster has no site of this name.
-    #[error("unknown site")]
+    #[error("no site of the roster has this name")]
     UnknownSite,
     /// 7: the utility takes one or more jobs, and no operand stands behind the options.
     #[error("no job is named")]
     MissingOperand,
     /// 8: an allocation failed.
-    #[error("out of memory")]
+    #[error("there was no memory for it")]
     NoMemory,
 }
 

@@ -13,7 +13,7 @@ use fed_journal::{FileDevice, Journal};
 use fed_serve::{
     MAX_TAKE_BYTES, answered_status, at_most_longest, line_of_words, serve_all, take_line,
 };
-use fed_site::{Answered, Site, words_beside, words_of_lines};
+use fed_site::{Site, SiteAnswer, words_beside, words_of_lines};
 use fed_stamp::{SITES, SiteId};
 use nettle_words::{Asked, Task};
 use std::alloc::{AllocError, Global};
@@ -42,7 +42,7 @@ fn read_line(streams: &(impl Input + AllocGlobal), words: &[&str]) -> Result<Vec
 
 /// Tells on standard error why a line isn't done as it asks, or what else there is to say of it. The status tells the
 /// first also where standard error takes nothing, or where there is no memory for the words.
-fn tell_user(streams: &(impl Eprint + AllocGlobal), site: &Site, line: &[u8], answer: &Answered) {
+fn tell_user(streams: &(impl Eprint + AllocGlobal), site: &Site, line: &[u8], answer: &SiteAnswer) {
     let _ = match words_beside(streams.alloc(), site, line, answer) {
         Ok(Some(words)) => eprintln!(streams; "nettlebeam: {words}"),
         Ok(None) => Ok(()),
@@ -51,7 +51,7 @@ fn tell_user(streams: &(impl Eprint + AllocGlobal), site: &Site, line: &[u8], an
 }
 
 /// Tells the cause alone of why a line isn't done as it asks, if so.
-fn tell_cause(streams: &impl Eprint, answer: &Answered) -> io::Result<()> {
+fn tell_cause(streams: &impl Eprint, answer: &SiteAnswer) -> io::Result<()> {
     match answer.complaint() {
         Some(complaint) => eprintln!(streams; "nettlebeam: {complaint}"),
         None => Ok(()),
@@ -59,7 +59,7 @@ fn tell_cause(streams: &impl Eprint, answer: &Answered) -> io::Result<()> {
 }
 
 /// Writes an answer.
-fn write_answer(streams: &impl Print, answer: &Answered) -> io::Result<()> {
+fn write_answer(streams: &impl Print, answer: &SiteAnswer) -> io::Result<()> {
     let mut writer = io::writer(streams);
     writer.write_all(answer.bytes())?;
     writer.flush()
@@ -70,7 +70,7 @@ fn give_answer(
     streams: &(impl Print + Eprint + AllocGlobal),
     site: &Site,
     line: &[u8],
-    answer: &Answered,
+    answer: &SiteAnswer,
 ) -> Result<u8, Fault> {
     write_answer(streams, answer).map_err(Fault::Output)?;
     tell_user(streams, site, line, answer);

@@ -1,7 +1,7 @@
 use Rattle.std.specs.Borrow.{Bor}
 use Rattle.std.proofs.Common.{◌∙◌, sym, ap, ℕ, List, Vec, map}
 use Rattle.std.specs.declared.alloc.Global.{Global}
-use Rattle.fed_site.specs.Answered.{kept_of}
+use Rattle.fed_site.specs.SiteAnswer.{kept_of}
 use Rattle.fed_site.specs.Told.{answers_in}
 use Rattle.fed_home.proofs.Answering.{starts, answered_more, keeps_more, keeps_same, all_answered, all_replies, all_kept, answer_more, told_none, told_more}
 use Rattle.fed_home.proofs.runs.answer_lines.Goals as goal

@@ -1,7 +1,7 @@
 use Rattle.std.specs.Prelude.{false}
 use Rattle.std.specs.List.{flat_map}
 use Rattle.std.proofs.Common.{◌≡◌, ℕ, List, [], ◌∷◌, ◌++◌, refl, ap}
-use Rattle.fed_site.specs.Answered.{bytes_of}
+use Rattle.fed_site.specs.SiteAnswer.{bytes_of}
 use Rattle.fed_site.specs.Told.{answers_in}
 use Rattle.fed_site.specs.declared.tellings.Told.{Told}
 use Rattle.fed_serve.specs.Written.{told_text}

@@ -1,5 +1,4 @@
 use Rattle.std.specs.Borrow.{Bor}
-use Rattle.std.specs.Io.KnownBytes.{Appends}
 use Rattle.std.specs.Prelude.{option_map}
 use Rattle.std.specs.Str.Lines.{lines}
 use Rattle.std.proofs.Common.{◌≡◌, ◌∙◌, ◌∷◌, ◌++◌, List, ℕ, ap, append_assoc, refl, rules, sym}

@@ -1,4 +1,3 @@
-use Rattle.std.proofs.Common.{◌∙◌}
 use Rattle.std.proofs.lemmas.Result.{IfOk-weaker}
 use Rattle.fed_site.proofs.LookValues.{word_found}
 use Rattle.fed_site.proofs.roster_lines.site_word.Goals as goal

@@ -5,7 +5,7 @@ use Rattle.fed_script.specs.LineView.{said_by}
 use Rattle.fed_qstat.specs.Listed.{listed}
 use Rattle.fed_machine.specs.Planned.{plan_if_any}
 use Rattle.fed_site.specs.Site.{SiteValue}
-use Rattle.fed_site.specs.declared.site.Answered.TheVariants.{Text}
+use Rattle.fed_site.specs.declared.site.SiteAnswer.TheVariants.{Text}
 use Rattle.fed_site.proofs.Lines.{lists_said, plans_said}
 use Rattle.fed_site.proofs.site.Site.do_line.Goals as goal
 

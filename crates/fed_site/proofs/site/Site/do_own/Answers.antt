@@ -1,6 +1,6 @@
 use Rattle.std.proofs.Common.{◌≡◌, ap, subst, ◌∙◌}
 use Rattle.fed_replica.specs.State.{state_of}
-use Rattle.fed_site.specs.declared.site.Answered.TheVariants.{Text}
+use Rattle.fed_site.specs.declared.site.SiteAnswer.TheVariants.{Text}
 use Rattle.fed_site.specs.Acts.{DoneAs}
 use Rattle.fed_site.specs.OwnLineView.{read_as}
 use Rattle.fed_site.specs.Says.{after_text}

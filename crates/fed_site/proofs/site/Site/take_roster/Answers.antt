@@ -1,7 +1,14 @@
-use Rattle.std.proofs.Common.{◌≡◌, ◌∙◌, ◌≤◌, sym, true, length, arith}
-use Rattle.fed_site.specs.Rosters.{begins}
-use Rattle.fed_site.proofs.RosterLines.{begins_length}
+use Rattle.std.specs.Prelude.{not}
+use Rattle.std.proofs.Common.{◌≡◌, ◌∙◌, ◌≤◌, ap, sym, true, length, arith, rules}
+use Rattle.fed_site.specs.Rosters.{are_same, begins}
+use Rattle.fed_site.proofs.RosterLines.{begins_length, rosters_eq}
 use Rattle.fed_site.proofs.site.Site.take_roster.Goals as goal
+
+pub returns : goal.returns
+returns c =
+    let kept : c.ne-kept.result ≡ not (are_same c.self.inside.roster c.in-Some.roster) =
+    c.ne-kept.ensures ∙ ap not (rosters_eq c.get-3.result.now c.get-4.result.now) ∙ (λ i. not (are_same (c.get-3.ensures i) (c.get-4.ensures i))) in
+    search (rules, kept)
 
 pub invariant_of-self : goal.invariant_of-self
 invariant_of-self c =
