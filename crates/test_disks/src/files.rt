@@ -4,7 +4,10 @@ ghost use Rattle.fed_journal.specs.Device.{LeavesJust};
 ghost use Rattle.fed_journal.specs.Files.{file_may_leave, file_seen};
 ghost use Rattle.fed_journal.specs.Journal.{IsRead};
 
-use fed_journal::{Device, FileDevice, Journal, JournalFault, Recovered, Replacement, are_lines};
+use fed_journal::{
+    Device, FileDevice, Journal, JournalFault, OpenFault, OpenedFile, Recovered, Replacement,
+    are_lines,
+};
 use std::alloc::Global;
 use std::fs;
 use std::io::{self, ErrorKind};
@@ -128,6 +131,33 @@ fn another_file_of_the_name_is_not_replaced(rt: HostRuntime) -> Result<(), Fail>
     let other = fs::read(&rt, "journal_moved/journal")?;
     assert_eq!(rt; other.as_slice(), b"another".as_slice());
     assert!(rt; !fs::exists(&rt, "journal_moved/journal.new")?);
+    fs::remove_dir_all(&rt, directory)?;
+    Ok(())
+}
+
+/// Whether a file can't be taken, as it is in use.
+fn is_in_use(rt: &HostRuntime, file: OpenedFile) -> bool {
+    matches!(file.take(rt), Err(OpenFault::InUse))
+}
+
+// Two are opened beside the one that has the lock. Of these one is taken while it has it, and one behind a replacement, which
+// finds what a crash left of an earlier one.
+#[test]
+fn a_file_that_is_replaced_is_not_taken(rt: HostRuntime) -> Result<(), Fail> {
+    let directory = "journal_waiting";
+    fresh(&rt, directory)?;
+    let mut device = FileDevice::make(&rt, directory, NAME)?;
+    let held = OpenedFile::open(&rt, directory, NAME)?;
+    let waiting = OpenedFile::open(&rt, directory, NAME)?;
+    assert!(rt; is_in_use(&rt, held));
+    fs::write(&rt, "journal_waiting/journal.new", ONE_GROUP)?;
+    let replaced = device.replace(NEW.to_vec(rt.alloc())?)?;
+    assert_eq!(rt; refusal(replaced), None);
+    drop(device);
+    assert!(rt; is_in_use(&rt, waiting));
+    let mut again = FileDevice::open(&rt, directory, NAME)?;
+    let bytes = again.read(rt.alloc())?;
+    assert_eq!(rt; bytes.as_slice(), NEW);
     fs::remove_dir_all(&rt, directory)?;
     Ok(())
 }
