@@ -3,9 +3,9 @@
 
 mod bodies;
 mod faults;
+mod identifiers;
 mod jobs;
 mod laws;
-mod identifiers;
 mod members;
 mod printing;
 pub mod readings;
