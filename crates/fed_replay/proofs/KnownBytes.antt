@@ -1,12 +1,9 @@
 -- Reads, one after another, and what is left at the end.
-use Rattle.std.proofs.Common.{◌≡◌, ℕ, List, [], Option, Some, None, refl, sym, append_assoc, append-nil}
+use Rattle.std.proofs.Common.{◌≡◌, ℕ, List, Option, Some, None, sym, append_assoc, append-nil}
+use Rattle.std.proofs.KnownBytes.{Consumes-nil}
 use Rattle.std.specs.Prelude.{IfSome}
 use Rattle.std.specs.Io.KnownBytes.{Consumes, IsAtEnd}
 use Rattle.fed_replay.specs.Reading.{AppendsRead}
-
-pub Consumes-none : (known : Option (List ℕ)) → Consumes known known []
-Consumes-none None = tt
-Consumes-none (Some xs) = refl
 
 -- what one read takes, and then the next
 pub Consumes-more : (first middle last : Option (List ℕ)) (old new : List ℕ) → Consumes first middle old → AppendsRead middle last old new → Consumes first last new
@@ -20,4 +17,4 @@ Consumes-all None last bytes consumed ended = tt
 Consumes-all (Some xs) None bytes consumed ended = absurd consumed
 Consumes-all (Some xs) (Some ys) bytes consumed ended = rw (consumed, ended) (sym (append-nil bytes))
 
-pub ruleset Consumes_steps = (Consumes-none, Consumes-more, Consumes-all)
+pub ruleset Consumes_steps = (Consumes-nil, Consumes-more, Consumes-all)

@@ -6,10 +6,10 @@ use Rattle.std.specs.Option.{option_map_or}
 use Rattle.std.specs.Str.Lines.{lines}
 use Rattle.std.proofs.lemmas.Bool.{eqb-true}
 use Rattle.std.proofs.lemmas.List.{length-append, take-append-le, take_all}
+use Rattle.std.proofs.KnownBytes.{Appends-nil, Appends-trans}
 use Rattle.fed_replay.specs.Ends.{HasSaid}
 use Rattle.fed_replay.specs.Said.{Said, answers, ends_before, said_first, said_from}
 use Rattle.fed_replay.specs.Script.{Answered, State, answered, says}
-use Rattle.fed_replay.proofs.Written.{Appends-more, Appends-none}
 
 -- these lines could be read, were answered by this text and led to this state: whatever follows them is said on from
 -- there
@@ -51,7 +51,7 @@ pub record Progress (before after : Option (List ℕ)) (script rest : List (List
   pub appended : Appends before after written
 
 pub Progress-none : (known : Option (List ℕ)) (script : List (List ℕ)) → Progress known known script script None 0
-Progress-none known script = record { front = []; written = []; ran = none_run; cut = refl; count = refl; appended = Appends-none known }
+Progress-none known script = record { front = []; written = []; ran = none_run; cut = refl; count = refl; appended = Appends-nil known }
 
 pub Progress-more : (before middle after : Option (List ℕ)) (script rest later : List (List ℕ)) (old new : State) (bytes text : List ℕ) (number : ℕ) → Progress before middle script rest old number → rest ≡ bytes ∷ later
     → Some (says new text) ≡ answered old bytes → Appends middle after text → Progress before after script later new (number + 1)
@@ -61,7 +61,7 @@ Progress-more before middle after script rest later old new bytes text number pr
   ran = one_more progress.front progress.written old bytes (says new text) progress.ran (sym ran);
   cut = progress.cut ∙ rw cut (sym (append_assoc progress.front (bytes ∷ []) later));
   count = omega (arith, length-append progress.front (bytes ∷ []), progress.count);
-  appended = Appends-more before middle after progress.written text progress.appended appended;
+  appended = Appends-trans before middle after progress.written text progress.appended appended;
 }
 
 -- an empty line does nothing
@@ -76,7 +76,7 @@ answered_empty (Some s) = refl
 pub Progress-empty : (before after : Option (List ℕ)) (script rest later : List (List ℕ)) (state : State) (bytes : List ℕ) (number : ℕ) → Progress before after script rest state number → rest ≡ bytes ∷ later
     → true ≡ (length bytes == 0) → Progress before after script later state (number + 1)
 Progress-empty before after script rest later state bytes number progress cut empty =
-    Progress-more before after after script rest later state state bytes [] number progress cut (rw (empty_line bytes empty) (answered_empty state)) (Appends-none after)
+    Progress-more before after after script rest later state state bytes [] number progress cut (rw (empty_line bytes empty) (answered_empty state)) (Appends-nil after)
 
 -- the text of an answer that was given
 pub ran_line : {T : Type 0} (o : Option T) (t : T) (bytes : T → List ℕ) (text : List ℕ) (new : State) (a : Option (Answered State)) → option_map (λ x. says new (bytes x)) o ≡ a → o ≡ Some t → text ≡ bytes t → Some (says new text) ≡ a
