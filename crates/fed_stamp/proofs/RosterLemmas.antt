@@ -3,10 +3,11 @@ use Rattle.std.proofs.Common.{◌≡◌, ◌≢◌, ℕ, zero, suc, ◌+◌, ◌
 use Rattle.std.specs.Option.{option_map, option_or}
 use Rattle.std.specs.List.{cons_option}
 use Rattle.std.specs.Cmp.Lexicographic.{pointwise, same_text, nat_list_eq_equiv}
-use Rattle.std.proofs.lemmas.Bool.{cases_Bool, cases_eq, cases_lt, and_parts, and_from, leb-true, le-leb, false≢true, not-false}
-use Rattle.std.proofs.lemmas.List.{length-replicate, length-set, get_or-set_same, get_or-set_other, get_or_default, get_or-map, length-append, take_more, ext_get_or}
-use Rattle.std.proofs.lemmas.Option.{get_or_from_slice_get, slice_get-get_or}
+use Rattle.std.proofs.lemmas.Bool.{cases_Bool, cases_eq, cases_lt, and_parts, and_from, leb-true, le-leb, false≢true, not-false, not_from_true}
+use Rattle.std.proofs.lemmas.List.{length-replicate, length-set, get_or-set_same, get_or-set_other, get_or_default, get_or-map, length-append, take_more, ext_get_or, length-map}
+use Rattle.std.proofs.lemmas.Option.{get_or_from_slice_get, slice_get-get_or, slice_get_past, slice_get_within}
 use Rattle.std.proofs.lemmas.List.Elements.{filter_map-append}
+use Rattle.std.proofs.Math.ListN.{get_or-replicate}
 use Rattle.fed_stamp.proofs.LeastIndex.{least_index_none, none_below, none_from_not_some}
 use Rattle.fed_stamp.specs.Indexes.{least_index}
 use Rattle.fed_stamp.specs.Roster.{IsRoster, is_site_name, is_node_count, name_at, nodes_at, is_named, is_misnamed, is_repeated, has_wrong_nodes, first_fault, places, sites_in, sites_of}
@@ -47,12 +48,6 @@ module _ (sites : List (List ℕ × ℕ)) where
         counted = λ k d l. not-false _ (rw (get_or_default sites k d ([], 0) l) (none_below (has_wrong_nodes sites) (length sites) p.3 k l));
       }
 
-  not_true : (b : Bool) → b ≡ true → not b ≡ false
-  not_true b e = rw (e) refl
-
-  not_some : (o : Option ℕ) → None ≡ o → is_some o ≡ false
-  not_some o e = rw (← e) refl
-
   differ : (xs ys : List ℕ) → xs ≢ ys → pointwise nat_eq xs ys ≡ false
   differ xs ys d = elim (cases_Bool (pointwise nat_eq xs ys)) [ inl t ↦ absurd (d (same_text xs ys (sym t))) | inr f ↦ f ]
 
@@ -60,9 +55,9 @@ module _ (sites : List (List ℕ × ℕ)) where
   unfolding first_fault
   no_fault_from_roster r =
       let b : (nat_le 1 (length sites) && nat_le (length sites) 16) ≡ true = and_from _ _ (le-leb 1 _ r.at_least) (le-leb _ 16 r.at_most) in
-      let x : None ≡ least_index (is_misnamed sites) (length sites) = least_index_none (is_misnamed sites) (length sites) (λ k l. not_true _ (r.named k ([], 0) l)) in
-      let y : None ≡ least_index (is_repeated sites) (length sites) = least_index_none (is_repeated sites) (length sites) (λ k l. not_some _ (least_index_none (is_named sites (name_at sites k)) k (λ j u. differ _ _ (r.apart j k ([], 0) u l)))) in
-      let z : None ≡ least_index (has_wrong_nodes sites) (length sites) = least_index_none (has_wrong_nodes sites) (length sites) (λ k l. not_true _ (r.counted k ([], 0) l)) in
+      let x : None ≡ least_index (is_misnamed sites) (length sites) = least_index_none (is_misnamed sites) (length sites) (λ k l. not_from_true _ (r.named k ([], 0) l)) in
+      let y : None ≡ least_index (is_repeated sites) (length sites) = least_index_none (is_repeated sites) (length sites) (λ k l. ap is_some (sym (least_index_none (is_named sites (name_at sites k)) k (λ j u. differ _ _ (r.apart j k ([], 0) u l))))) in
+      let z : None ≡ least_index (has_wrong_nodes sites) (length sites) = least_index_none (has_wrong_nodes sites) (length sites) (λ k l. not_from_true _ (r.counted k ([], 0) l)) in
       rw (b, ← x, ← y, ← z) refl
 
 -- ---- what a slice of pairs lists
@@ -88,13 +83,8 @@ pub named_from_test : (pairs : List (Bor (List ℕ) × ℕ)) (i j : ℕ) (d : Bo
 named_from_test pairs i j d b h k e = ap₂ (pointwise nat_eq) (name_at-sites_of pairs i d h) (name_at-sites_of pairs j d k) ∙ sym e
 
 -- ---- how a roster is stored
-replicate_none : (n k : ℕ) (d : Option (List ℕ × ℕ)) → k < n → get_or (replicate n None) k d ≡ None
-replicate_none zero k d h = absurd (omega arith)
-replicate_none (suc n) zero d h = refl
-replicate_none (suc n) (suc k) d h = replicate_none n k d (omega arith)
-
 padded_place : (sites : List (List ℕ × ℕ)) (n k : ℕ) (d : Option (List ℕ × ℕ)) → k < length sites + n → get_or (map Some sites ++ replicate n None) k d ≡ slice_get sites k
-padded_place [] n k d h = replicate_none n k d (omega arith)
+padded_place [] n k d h = get_or-replicate n k None d (omega arith)
 padded_place (s ∷ sites) n zero d h = refl
 padded_place (s ∷ sites) n (suc k) d h = padded_place sites n k d (omega arith)
 
@@ -114,18 +104,8 @@ sites_in_padded (s ∷ sites) n = ap (λ t. s ∷ t) (sites_in_padded sites n)
 pub sites_in-places : (sites : List (List ℕ × ℕ)) → sites_in (places sites) ≡ sites
 sites_in-places sites = sites_in_padded sites (16 - length sites)
 
-length_some : (sites : List (List ℕ × ℕ)) → length (map Some sites) ≡ length sites
-length_some [] = refl
-length_some (s ∷ sites) = ap suc (length_some sites)
-
 length_places : (sites : List (List ℕ × ℕ)) → length sites ≤ 16 → length (places sites) ≡ 16
-length_places sites h = let e : length (map Some sites) ≡ length sites = length_some sites in omega (arith, length-append (map Some sites) (replicate (16 - length sites) None), length-replicate {A = Option (List ℕ × ℕ)} (16 - length sites) None)
-
--- past the end there is no site
-past : (sites : List (List ℕ × ℕ)) (k : ℕ) → length sites ≤ k → slice_get sites k ≡ None
-past [] k h = refl
-past (s ∷ sites) zero h = absurd (omega arith)
-past (s ∷ sites) (suc k) h = past sites k (omega arith)
+length_places sites h = let e : length (map Some sites) ≡ length sites = length-map sites Some in omega (arith, length-append (map Some sites) (replicate (16 - length sites) None), length-replicate {A = Option (List ℕ × ℕ)} (16 - length sites) None)
 
 -- the first i sites are in their places, and the other places are empty
 pub record IsFilledTo (sites : List (List ℕ × ℕ)) (stored : List (Option (List ℕ × ℕ))) (i : ℕ) : Type 0 where
@@ -139,7 +119,7 @@ filled_all sites stored i m l u f = ext_get_or None stored (places sites) (f.len
     let p : get_or (places sites) k None ≡ slice_get sites k = place sites k None (rw (← f.len) h) in
     elim (cases_lt k i) [
       | inl b ↦ f.front k b ∙ sym p
-      | inr b ↦ f.rest k b ∙ sym (p ∙ past sites k (omega arith))
+      | inr b ↦ f.rest k b ∙ sym (p ∙ slice_get_past sites k (omega arith))
     ])
 
 cons_len : (xs : List (List ℕ × ℕ)) (o : Option (List ℕ × ℕ)) → length (xs ++ cons_option o []) ≡ length xs + (if is_some o then 1 else 0)
@@ -163,10 +143,7 @@ module _ (sites : List (List ℕ × ℕ)) (i : ℕ) where
 
   -- where a site was read the index is within the roster, and else past it
   pub within_from_site : (s : List ℕ × ℕ) → slice_get sites i ≡ Some s → i < length sites
-  within_from_site s e = elim (cases_lt i (length sites)) [
-    | inl l ↦ l
-    | inr l ↦ absurd (let p : slice_get sites i ≡ None = past sites i l in cc)
-  ]
+  within_from_site s e = slice_get_within sites i s e
 
   pub past_from_none : slice_get sites i ≡ None → length sites ≤ i
   past_from_none e = elim (cases_lt i (length sites)) [
