@@ -1,9 +1,10 @@
 -- Forms are made of forms.
-use Rattle.std.proofs.Common.{◌≡◌, ℕ, Bool, true, false, Option, Some, None, suc, length, eqb, cond, List, [], ◌∷◌, map, Ok, Err, refl, sym, ap, subst, ◌∙◌, arith}
+use Rattle.std.proofs.Common.{◌≡◌, ℕ, Bool, true, false, Option, Some, None, length, eqb, cond, List, [], ◌∷◌, map, Ok, Err, refl, sym, ap, subst, ◌∙◌, ap₂}
 use Rattle.std.specs.Prelude.{is_some, IfSome}
 use Rattle.std.specs.List.{AllByRecursion}
-use Rattle.std.proofs.lemmas.Bool.{eqb-true}
+use Rattle.std.proofs.lemmas.Bool.{eqb-true, eq-eqb}
 use Rattle.std.proofs.lemmas.Slice.Eq.{bytes_eq-Decides}
+use Rattle.std.proofs.lemmas.List.{length-map}
 use Rattle.serde_json.specs.Data.{Data, null, boolean, number, string, array, object, Items, no_items, item}
 use Rattle.serde_json.specs.Find.{as_null}
 use Rattle.serde_json.specs.View.{items_of}
@@ -68,15 +69,12 @@ word_takes word (object ms) e = absurd cc
 -- ---- forms of forms
 
 module _ {A B : Type 0} (f : Data → Reading A) (g : Data → Reading B) (v : A → Data) (w : B → Data) (P : A → Type 0) (Q : B → Type 0) where
-  two : (a x b y : Data) → a ≡ x → b ≡ y → list_value (a ∷ b ∷ []) ≡ list_value (x ∷ y ∷ [])
-  two a x b y p q = rw (p, q) refl
-
   pair_from_takes : IsForm f v P → IsForm g w Q → (ds : List Data) (p : A × B) → pair_from f g ds ≡ Ok p → (list_value ds ≡ pair_value v w p) × (P p.0 × Q p.1)
   pair_from_takes F G (a ∷ b ∷ []) p e =
       let r = both_ok (f a) (g b) p e in
       let x = F.takes a p.0 r.0 in
       let y = G.takes b p.1 r.1 in
-      (two a (v p.0) b (w p.1) x.0 y.0, (x.1, y.1))
+      (ap₂ (λ (x y : Data). list_value (x ∷ y ∷ [])) x.0 y.0, (x.1, y.1))
   pair_from_takes F G [] p e = absurd cc
   pair_from_takes F G (a ∷ []) p e = absurd cc
   pair_from_takes F G (a ∷ b ∷ c ∷ ds) p e = absurd cc
@@ -118,15 +116,9 @@ tested_form {A} f v P test F = record {
   again = λ x h. rw (F.again x h.0, h.1) refl;
 }
 
-eqb-same : (n : ℕ) → eqb n n ≡ true
-eqb-same n = grind arith
-
 -- ---- arrays of one form
 
 module _ {A : Type 0} (f : Data → Reading A) (v : A → Data) (P : A → Type 0) where
-  next : (a : Data) (ds : List Data) (x : A) (xs : List A) → a ≡ v x → ds ≡ map v xs → a ∷ ds ≡ v x ∷ map v xs
-  next a ds x xs p q = rw (p, q) refl
-
   pub all_takes : IsForm f v P → (ds : List Data) (xs : List A) → all_of f ds ≡ Ok xs → (ds ≡ map v xs) × AllByRecursion P xs
   all_takes F [] xs e = subst (λ (xs : List A). ([] ≡ map v xs) × AllByRecursion P xs) (ok_is [] xs e) (refl, tt)
   all_takes F (d ∷ ds) xs e =
@@ -134,7 +126,7 @@ module _ {A : Type 0} (f : Data → Reading A) (v : A → Data) (P : A → Type 
       let r = both_ok (f d) (all_of f ds) m.0 m.1 in
       let here = F.takes d m.0.0 r.0 in
       let rest = all_takes F ds m.0.1 r.1 in
-      subst (λ (xs : List A). (d ∷ ds ≡ map v xs) × AllByRecursion P xs) m.2 (next d ds m.0.0 m.0.1 here.0 rest.0, (here.1, rest.1))
+      subst (λ (xs : List A). (d ∷ ds ≡ map v xs) × AllByRecursion P xs) m.2 (ap₂ (λ (b : Data) (bs : List Data). b ∷ bs) here.0 rest.0, (here.1, rest.1))
 
   pub all_again : IsForm f v P → (xs : List A) → AllByRecursion P xs → all_of f (map v xs) ≡ Ok xs
   all_again F [] h = refl
@@ -149,20 +141,16 @@ module _ {A : Type 0} (f : Data → Reading A) (v : A → Data) (P : A → Type 
     again = λ xs h. rw (list_of-items_of (map v xs)) (all_again F xs h);
   }
 
-  length-map : (xs : List A) → length (map v xs) ≡ length xs
-  length-map [] = refl
-  length-map (x ∷ xs) = ap suc (length-map xs)
-
   pub row_form : (n : ℕ) → IsForm f v P → IsForm (row_of n f) (λ xs. list_value (map v xs)) (λ xs. (length xs ≡ n) × AllByRecursion P xs)
   row_form n F = record {
     takes = λ d xs e.
         let l = bind_ok (elements_of d) (λ ds. cond (eqb (length ds) n) (all_of f ds) (Err Shape)) xs e in
         let w = when_ok (eqb (length l.0) n) Shape (all_of f l.0) xs l.2 in
         let t = all_takes F l.0 xs w.1 in
-        let many : length xs ≡ n = sym (length-map xs) ∙ ap length (sym t.0) ∙ eqb-true (length l.0) n w.0 in
+        let many : length xs ≡ n = sym (length-map xs v) ∙ ap length (sym t.0) ∙ eqb-true (length l.0) n w.0 in
         (elements_takes d l.0 l.1 ∙ ap list_value t.0, (many, t.1));
     again = λ xs h.
-        let many : eqb (length (map v xs)) n ≡ true = rw (length-map xs, h.0) (eqb-same n) in
+        let many : eqb (length (map v xs)) n ≡ true = rw (length-map xs v, h.0) (eq-eqb n n refl) in
         rw (list_of-items_of (map v xs), many) (all_again F xs h.1);
   }
 

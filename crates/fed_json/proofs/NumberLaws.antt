@@ -1,7 +1,7 @@
 -- Whole numbers are read as what they are the values of.
-use Rattle.std.proofs.Common.{◌≡◌, ℕ, ◌≤◌, true, leb, Ok, refl, arith}
+use Rattle.std.proofs.Common.{◌≡◌, ℕ, leb, Ok, refl}
 use Rattle.std.specs.Prelude.{ℤ, pos, negsuc, ◌&&◌}
-use Rattle.std.proofs.lemmas.Bool.{and_parts}
+use Rattle.std.proofs.lemmas.Bool.{and_parts, leb-true, le-leb}
 use Rattle.serde_json.specs.Data.{Data, null, boolean, number, string, array, object, unsigned, negative, float}
 use Rattle.fed_lattice.proofs.ResultLaws.{when_ok}
 use Rattle.fed_json.specs.declared.flaws.Flaw.TheVariants.{Range}
@@ -9,18 +9,12 @@ use Rattle.fed_json.specs.Numbers.{natural_value, integer_value, natural_in, int
 use Rattle.fed_model.specs.Ranges.{IsFrom}
 use Rattle.fed_json.proofs.Forms.{IsForm}
 
-le_from_test : (n m : ℕ) → leb n m ≡ true → n ≤ m
-le_from_test n m e = grind arith
-
-test_from_le : (n m : ℕ) → n ≤ m → leb n m ≡ true
-test_from_le n m h = grind arith
-
 natural_takes : (least most : ℕ) (d : Data) (n : ℕ) → natural_in least most d ≡ Ok n → (d ≡ natural_value n) × IsFrom least most n
 natural_takes least most (number (unsigned m)) n e =
     let w = when_ok (leb least m && leb m most) Range (Ok m) n e in
     let same : m ≡ n = cc in
     let t = and_parts (leb least m) (leb m most) w.0 in
-    rw (← same) (refl, (le_from_test least m t.0, le_from_test m most t.1))
+    rw (← same) (refl, (leb-true least m t.0, leb-true m most t.1))
 natural_takes least most (number (negative z)) n e = absurd cc
 natural_takes least most (number (float x)) n e = absurd cc
 natural_takes least most null n e = absurd cc
@@ -32,7 +26,7 @@ natural_takes least most (object ms) n e = absurd cc
 pub natural_form : (least most : ℕ) → IsForm (natural_in least most) natural_value (IsFrom least most)
 natural_form least most = record {
   takes = natural_takes least most;
-  again = λ n h. rw (test_from_le least n h.0, test_from_le n most h.1) refl;
+  again = λ n h. rw (le-leb least n h.0, le-leb n most h.1) refl;
 }
 
 integer_takes : (d : Data) (z : ℤ) → integer_of d ≡ Ok z → (d ≡ integer_value z) × Unit {0}
