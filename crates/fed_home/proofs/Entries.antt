@@ -42,23 +42,21 @@ pub no_bytes : (entries : List (Vec ℕ Global)) (i : ℕ) → length entries �
 no_bytes entries i past = ap line_bytes (drop_all i entries past)
 
 -- ---- what is gathered
-pub gathered_none : (s : State) (header known : Vec ℕ Global) (one two three : List (Vec ℕ Global)) → one ≡ [] → two ≡ one ++ header ∷ [] → three ≡ two ++ known ∷ [] → IsPacketText (unheard s) 0 known.items → AreEntries s 0 (texts_of three)
+pub gathered_none : (s : State) (header known : Vec ℕ Global) (one two three : List (Vec ℕ Global)) → one ≡ [] → two ≡ one ++ header ∷ [] → three ≡ two ++ known ∷ [] → IsPacketText (unheard s) 0 known.items → AreEntries header.items s 0 (texts_of three)
 gathered_none s header known one two three a b c knows = record {
-  header = header.items;
   known = known.items;
   knows = knows;
   are = ap texts_of (c ∙ ap (λ (es : List (Vec ℕ Global)). es ++ known ∷ []) (b ∙ ap (λ (es : List (Vec ℕ Global)). es ++ header ∷ []) a));
 }
 
-pub gathered_more : (s : State) (count : ℕ) (entries new : List (Vec ℕ Global)) (text : Vec ℕ Global) → AreEntries s count (texts_of entries) → new ≡ entries ++ text ∷ [] → text.items ≡ heard_text s count → AreEntries s (count + 1) (texts_of new)
-gathered_more s count entries new text are is told = record {
-  header = are.header;
+pub gathered_more : (header : List ℕ) (s : State) (count : ℕ) (entries new : List (Vec ℕ Global)) (text : Vec ℕ Global) → AreEntries header s count (texts_of entries) → new ≡ entries ++ text ∷ [] → text.items ≡ heard_text s count → AreEntries header s (count + 1) (texts_of new)
+gathered_more header s count entries new text are is told = record {
   known = are.known;
   knows = are.knows;
   are = ap texts_of is
       ∙ map-append (λ (entry : Vec ℕ Global). entry.items) entries (text ∷ [])
       ∙ (λ i. are.are i ++ told i ∷ [])
-      ∙ (λ i. are.header ∷ (are.known ∷ heard_texts s (sym (add-one count) i)));
+      ∙ (λ i. header ∷ (are.known ∷ heard_texts s (sym (add-one count) i)));
 }
 
 -- ---- how many

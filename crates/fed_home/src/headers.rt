@@ -1,12 +1,14 @@
 //! The first entry of a site's journal, as `nettlebeam 3 argonne argonne:8 lemont:4`.
 ghost use Rattle.std.specs.Prelude.{◌≡◌, IfOk};
 ghost use Rattle.fed_words.specs.Item.{words_of as texts_of};
-ghost use Rattle.fed_home.specs.Header.{format_of, header_in, header_of, site_among};
+ghost use Rattle.fed_replica.specs.State.{state_of};
+ghost use Rattle.fed_home.specs.Header.{format_of, header_in, header_of, header_text, site_among};
 
 use fed_lattice::NoMemory;
+use fed_qstat::site_text;
 use fed_script::{BoxedRoster, read_roster, told_words};
-use fed_site::Site;
-use fed_stamp::{SITES, SiteId};
+use fed_site::{Site, roster_text};
+use fed_stamp::SiteId;
 use std::alloc::Global;
 
 /// The formats of a journal.
@@ -116,19 +118,12 @@ pub fn read_header(alloc: Global, line: &[u8]) -> Result<Option<Header>, NoMemor
 }
 
 /// The header of a site's journal in format 4.
-pub(crate) fn write_header(alloc: Global, site: &Site) -> Result<Vec<u8>, NoMemory> {
+pub(crate) fn write_header(alloc: Global, site: &Site) -> Result<Vec<u8>, NoMemory>
+    ensures { IfOk result (λ header. header.items ≡ header_text site.now.roster (state_of site.now.replica).site) }
+{
     let roster = site.roster();
-    let mut text = String::from_str(alloc, "nettlebeam 4")?;
-    if let Some(name) = roster.name(site.here()) {
-        text.push_str(format!(in alloc; " {name}")?.as_str())?;
-    }
-    for number in 0..SITES as u8 {
-        if let Some(other) = SiteId::new(number)
-            && let Some(name) = roster.name(other)
-            && let Some(nodes) = roster.nodes(other)
-        {
-            text.push_str(format!(in alloc; " {name}:{nodes}")?.as_str())?;
-        }
-    }
-    Ok(text.into_bytes())
+    let name = site_text(alloc, roster, site.here())?;
+    let sites = roster_text(alloc, roster)?;
+    let header = format!(in alloc; "nettlebeam 4 {name} {sites}")?;
+    Ok(header.into_bytes())
 }

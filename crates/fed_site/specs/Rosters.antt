@@ -54,6 +54,10 @@ roster_after_lines known (line ∷ lines) = roster_after_lines (roster_after kno
 abbrev pub word_of_site : List ℕ × ℕ → List ℕ
 word_of_site site = site.0 ++ 58 ∷ decimal site.1
 
--- the words that name the roster, in one line
+-- the words that name the roster, parted by blanks
+abbrev pub text_of_roster : List (List ℕ × ℕ) → List ℕ
+text_of_roster roster = join_by word_of_site (codes " ") roster
+
+-- they in one line
 abbrev pub line_of_roster : List (List ℕ × ℕ) → List ℕ
-line_of_roster roster = answer_line (join_by word_of_site (codes " ") roster)
+line_of_roster roster = answer_line (text_of_roster roster)

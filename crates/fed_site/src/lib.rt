@@ -31,6 +31,7 @@ pub use identifier_lines::IdentifierLine;
 pub use line_words::words_of_lines;
 pub use look_texts::look_text;
 pub use plan_objects::plan_json;
+pub use roster_lines::roster_text;
 pub use seen::seen_lines;
 pub use site::{Site, SiteAnswer};
 pub use tellings::{Told, words_beside};

@@ -1,6 +1,6 @@
-//! The line of a roster.
+//! The words and the line of a roster.
 ghost use Rattle.std.specs.Prelude.{◌≡◌, ◌<◌, IfOk, length, map, slice_index_or, string_bytes, []};
-ghost use Rattle.fed_site.specs.Rosters.{line_of_roster, word_of_site};
+ghost use Rattle.fed_site.specs.Rosters.{line_of_roster, text_of_roster, word_of_site};
 
 use fed_easy::nodes_of;
 use fed_lattice::NoMemory;
@@ -30,13 +30,20 @@ fn site_words(alloc: Global, roster: &Roster) -> Result<Vec<String>, AllocError>
     Ok(words)
 }
 
-/// The roster in one line, `NAME:NODES NAME:NODES ..`: behind `roster` these words tell a site the same. The only error is
-/// `NoMemory`.
+/// The roster in words, `NAME:NODES NAME:NODES ..`: behind `roster` they tell a site the same, and behind a site's name a
+/// journal's header. The only error is `NoMemory`.
+pub fn roster_text(alloc: Global, roster: &Roster) -> Result<String, NoMemory>
+    ensures { IfOk result (λ text. string_bytes text ≡ text_of_roster roster.now) }
+{
+    let words = site_words(alloc, roster)?;
+    Ok(words.join(alloc, " ")?)
+}
+
+/// These words in one line. The only error is `NoMemory`.
 pub(crate) fn roster_line(alloc: Global, roster: &Roster) -> Result<String, NoMemory>
     ensures { IfOk result (λ text. string_bytes text ≡ line_of_roster roster.now) }
 {
-    let words = site_words(alloc, roster)?;
-    let mut text = words.join(alloc, " ")?;
+    let mut text = roster_text(alloc, roster)?;
     text.push_str("\n")?;
     Ok(text)
 }
