@@ -64,13 +64,15 @@ def has_program(tool, program):
     return False
 
 
-def words_of(tool, about, scenes=()):
-    """The words of a tool: the program that it plays with, and the scenes to play where it has some. It ends where the
-    program isn't there."""
+def words_of(tool, about, scenes=(), has_lanes=False):
+    """The words of a tool: the program that it plays with, the scenes to play where it has some, and how many at a time where
+    it can play them side by side. It ends where the program isn't there."""
     parser = argparse.ArgumentParser(description=about, formatter_class=argparse.RawDescriptionHelpFormatter)
     parser.add_argument("--program", default=PROGRAM)
     if scenes:
         parser.add_argument("scenes", nargs="*", metavar="SCENE", help=", ".join(scenes))
+    if has_lanes:
+        parser.add_argument("--lanes", type=int, default=1, help="how many scenes are played at a time")
     words = parser.parse_args()
     words.program = os.path.abspath(words.program)
     if not has_program(tool, words.program):

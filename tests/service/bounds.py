@@ -12,7 +12,7 @@ import urllib.request
 
 from tests.playing import TOP
 from tests.service.scenes import OTHER, as_user, is_root, read
-from tests.service.sites import ask, until
+from tests.service.sites import ask, free_port, until
 from tests.service.strangers import connect, head
 
 NAMES = 28_000
@@ -169,11 +169,12 @@ def spool_room(tally, federation):
 def nearly_full(tally, federation):
     """Where a site is three quarters full, what is gone is retired early, the oldest first; log and page say how full it is."""
     lines = ["ann qsub -h"] * 7600 + [f"ann qdel {' '.join(map(str, range(first, first + 100)))}" for first in range(1, 5001, 100)]
-    site, _ = filled(federation, lines, more="[page]\nport = 8471\n")
+    port = free_port()
+    site, _ = filled(federation, lines, more=f"[page]\nport = {port}\n")
     until(lambda: len(site.jobs()) == 7000, 60, "600 of the jobs that are gone are retired")
     tally.same("the oldest", min(int(name.partition(".")[0]) for name in site.jobs()), 601)
     tally.true("the log says how full it was", "the site has 7600 of 10000 jobs, and 5000 of them are gone" in site.logged())
-    until(lambda: "<b>7600</b>of 10000" in page_of(8471) or "<b>7000</b>of 10000" in page_of(8471), 70, "the page says how full it is")
+    until(lambda: "<b>7600</b>of 10000" in page_of(port) or "<b>7000</b>of 10000" in page_of(port), 70, "the page says how full it is")
     recorded = sum(len(read(f"{site.home}/spool/accounting/{it}").splitlines()) for it in os.listdir(f"{site.home}/spool/accounting") if it != "recorded")
     tally.same("all that are gone are recorded", recorded, 5000)
 

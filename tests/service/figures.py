@@ -6,7 +6,7 @@ import time
 from tests.service.bounds import page_of
 from tests.service.guards import status_of
 from tests.service.scenes import OPERATOR, OTHER, as_user, is_root, read
-from tests.service.sites import until
+from tests.service.sites import free_port, until
 
 SAMPLE = re.compile(r'(nettlebeam_[a-z_]+(?:\{(?:[a-z]+="[^"\\]*",?)+\})?) ([0-9.e+-]+)$')
 
@@ -25,14 +25,15 @@ def metrics(tally, federation):
     """What is measured is told in Prometheus' text on the page's port, to this machine alone."""
     federation.has_links = True
     backup = "backup = cp {home}/site/journal {home}/copy"
-    argonne, lemont = federation.make("argonne:4", "lemont:2", pages={"argonne": 8473}, site=f"[site]\n{backup}")
+    port = free_port()
+    argonne, lemont = federation.make("argonne:4", "lemont:2", pages={"argonne": port}, site=f"[site]\n{backup}")
     job, held = argonne.submit("true\n"), argonne.submit("#" * 9000, "-h")
     argonne.finished(job)
     argonne.utility("qask", "nothing")
     until(lambda: held in lemont.jobs(), 20, "packets go")
     time.sleep(3)
-    until(lambda: samples(8473)['nettlebeam_jobs{state="gone"}'] == 1, 30, "they are counted anew")
-    told = samples(8473)
+    until(lambda: samples(port)['nettlebeam_jobs{state="gone"}'] == 1, 30, "they are counted anew")
+    told = samples(port)
     tally.same("each line is a sample", [line for line, value in told.items() if value is None], [])
     wanted = {'jobs{state="held"}': 1, 'jobs{state="gone"}': 1, 'jobs{state="running"}': 0, "site_jobs": 2, "site_jobs_limit": 10_000, 'peer_reached{peer="lemont"}': 1}
     tally.same("jobs and peers", {name: told.get(f"nettlebeam_{name}") for name in wanted}, wanted)
@@ -41,7 +42,7 @@ def metrics(tally, federation):
     tally.same("ages", [name for name in ages if not 0 <= told.get(f"nettlebeam_{name}", -1) < 30], [])
     tally.true("answers", told['nettlebeam_answers_total{status="0"}'] >= 4 and told['nettlebeam_answers_total{status="2"}'] == 1)
     tally.true("and their seconds", 0 < told["nettlebeam_answer_seconds_total"] < 60)
-    tally.same("not by another name", status_of(8473, "evil.example"), 403)
+    tally.same("not by another name", status_of(port, "evil.example"), 403)
 
 
 def usage(tally, federation):

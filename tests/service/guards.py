@@ -9,7 +9,7 @@ import urllib.error
 import urllib.request
 
 from tests.service.scenes import OPERATOR, OTHER, as_user, is_root, read
-from tests.service.sites import until
+from tests.service.sites import free_port, until
 from nettlebeam_service.peers.folder_link import FolderLink
 
 
@@ -142,11 +142,12 @@ def escapes(tally, federation):
 
 def page_names(tally, federation):
     """The page is answered by this machine's names whatever the port, as behind `ssh -L`, and by no other name."""
-    (site,) = federation.make("argonne:4", jobs="run = no", more="[page]\nport = 8472\n")
-    hosts = ("127.0.0.1:8472", "localhost:9000", "127.0.0.1:80", "LocalHost", "[::1]:9000")
-    tally.same("these names", [status_of(8472, host) for host in hosts], [200] * 5)
-    others = ("evil.example", "evil.example:8472", "localhost.evil.example:8472", "127.0.0.1.evil.example", "127.0.0.1:8472@evil.example", "[::2]:8472", "127.0.0.1:")
-    tally.same("and no others", [status_of(8472, host) for host in others], [403] * 7)
+    port = free_port()
+    (site,) = federation.make("argonne:4", jobs="run = no", more=f"[page]\nport = {port}\n")
+    hosts = (f"127.0.0.1:{port}", "localhost:9000", "127.0.0.1:80", "LocalHost", "[::1]:9000")
+    tally.same("these names", [status_of(port, host) for host in hosts], [200] * 5)
+    others = ("evil.example", f"evil.example:{port}", f"localhost.evil.example:{port}", "127.0.0.1.evil.example", f"127.0.0.1:{port}@evil.example", f"[::2]:{port}", "127.0.0.1:")
+    tally.same("and no others", [status_of(port, host) for host in others], [403] * 7)
     tally.true("the site answers", site.said("seen"))
 
 
@@ -164,7 +165,8 @@ def left_alone(tally, federation):
     """`why`, `qstat -s` and the page don't say that a job starts which is left alone, since nothing is run as its owner."""
     if not is_root(tally):
         return
-    (site,) = federation.make("argonne:4", more="[page]\nport = 8472\n")
+    port = free_port()
+    (site,) = federation.make("argonne:4", more=f"[page]\nport = {port}\n")
     done = site.utility("qsub", given="true\n", before=as_user(OTHER), cwd="/")
     job = done[1].strip()
     until(lambda: "left alone" in site.logged(), 20, "the log says so")
@@ -172,7 +174,7 @@ def left_alone(tally, federation):
     tally.same("why tells more than the site does", (told.answer, told.words), (b"starts\n", f"{job} doesn't: left alone, since nothing is run here as its owner"))
     tally.true("qstat -s", "left alone" in site.utility("qstat", "-s", job)[1])
     for path in ("", f"jobs/{job}"):
-        with urllib.request.urlopen(f"http://127.0.0.1:8472/{path}", timeout=20) as response:
+        with urllib.request.urlopen(f"http://127.0.0.1:{port}/{path}", timeout=20) as response:
             tally.true(f"the page /{path}", b"left alone, since nothing is run here as its owner" in response.read())
 
 
