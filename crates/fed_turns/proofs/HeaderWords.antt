@@ -1,24 +1,25 @@
 -- The header of a compacted journal is read as what it was made of.
-use Rattle.std.specs.Prelude.{nat_lt, not, codes, filter, map, is_some, option_and_then, option_map, unwrap_or, Some, None, if◌then◌else◌}
+use Rattle.std.specs.Prelude.{nat_lt, not, codes, filter, map, is_some, option_and_then, option_map, unwrap_or, Option, Some, None, Ok, Err, if◌then◌else◌}
 use Rattle.std.specs.Char.{is_ascii_whitespace}
-use Rattle.std.specs.Cmp.Lexicographic.{nat_list_eq_equiv, same_text}
 use Rattle.std.specs.Fmt.{decimal}
 use Rattle.std.specs.Int.{IsInRange}
 use Rattle.std.specs.List.{All, filter_map, join_by, list_all, list_any}
+use Rattle.std.specs.Option.{ok_or}
 use Rattle.std.specs.Result.{result_ok}
-use Rattle.std.proofs.Common.{◌≡◌, ℕ, ◌<◌, ◌≤◌, ◌^◌, ◌-◌, Bool, true, false, ◌||◌, List, [], ◌∷◌, ◌++◌, length, get_or, append-nil, refl, sym, ap, ◌∙◌, inl, inr, arith}
-use Rattle.std.proofs.lemmas.Bool.{and_from, and_parts, cases_Bool, leb-true, le-leb, lt-ltb, not-false, or_parts}
+use Rattle.std.proofs.Common.{◌≡◌, ℕ, ◌<◌, ◌≤◌, ◌^◌, ◌-◌, Bool, true, false, ◌||◌, List, [], ◌∷◌, ◌++◌, length, get_or, append-nil, refl, sym, ap, ◌∙◌, arith}
+use Rattle.std.proofs.lemmas.Bool.{and_from, and_parts, leb-true, le-leb, lt-ltb, not-false, or_parts}
 use Rattle.std.proofs.lemmas.Bool.Decides.{nat_tests}
 use Rattle.std.proofs.lemmas.List.Elements.{All-head, All-tail}
 use Rattle.std.proofs.lemmas.List.Folds.{list_all-append}
 use Rattle.std.proofs.lemmas.Option.{slice_get-get_or}
-use Rattle.fed_stamp.specs.Roster.{IsRoster, first_fault, is_named, is_node_count, is_site_byte, is_site_name, name_at, ok_unless}
+use Rattle.fed_stamp.specs.Roster.{IsRoster, first_fault, is_node_count, is_site_byte, is_site_name, name_at, ok_unless}
 use Rattle.fed_stamp.specs.Word.{is_name}
-use Rattle.fed_stamp.proofs.LeastIndex.{least_index_found}
 use Rattle.fed_stamp.proofs.RosterLemmas.{no_fault_from_roster}
+use Rattle.fed_words.specs.declared.faults.UsageFault.TheVariants.{UnknownSite}
 use Rattle.fed_words.specs.Number.{is_within}
 use Rattle.fed_words.specs.Site.{site_named}
 use Rattle.fed_words.proofs.Cuts.{Free, cut-after, cut-before, cut-found, free-append, split-first, split-none}
+use Rattle.fed_words.proofs.Readback.{site_in-name}
 use Rattle.fed_words.proofs.Texts.{free-decimal, free-site_name, number_in-decimal}
 use Rattle.fed_script.specs.Forms.{◌>>=◌}
 use Rattle.fed_script.specs.Line.{told, words_in}
@@ -93,13 +94,13 @@ name_some name e =
 name_word : (name : List ℕ) → is_site_name name ≡ true → IsWord name
 name_word name e = record { some = name_some name e; free = free-site_name is_outside name site_byte e }
 
+longer : (xs : List ℕ) (y : ℕ) (ys : List ℕ) → 0 < length (xs ++ y ∷ ys)
+longer [] y ys = omega arith
+longer (x ∷ xs) y ys = omega arith
+
 module _ (site : List ℕ × ℕ) (named : is_site_name site.0 ≡ true) (counted : is_node_count site.1 ≡ true) where
   few : site.1 ≤ 1_000_000
   few = leb-true site.1 1_000_000 (and_parts _ _ counted).1
-
-  longer : (xs : List ℕ) (y : ℕ) (ys : List ℕ) → 0 < length (xs ++ y ∷ ys)
-  longer [] y ys = omega arith
-  longer (x ∷ xs) y ys = omega arith
 
   site_word : IsWord (word_of_site site)
   site_word = record {
@@ -133,6 +134,14 @@ each_back [] all = refl
 each_back (s ∷ sites) all =
     rw (All-head (λ t. site_of (word_of_site t) ≡ Some t) s sites all) (ap (λ t. s ∷ t) (each_back sites (All-tail (λ t. site_of (word_of_site t) ≡ Some t) s sites all)))
 
+words_are : (sites : Sites) → 0 < length sites → All (λ s. IsWord (word_of_site s)) sites → (words_of (text_of_roster sites) ≡ map word_of_site sites) × (is_readable (text_of_roster sites) ≡ true)
+words_are [] some all = absurd (omega arith)
+words_are (s ∷ sites) some all = (words_of-joined word_of_site s sites all, readable-joined word_of_site s sites all)
+
+given : (o : Option ℕ) (i : ℕ) → ok_or o UnknownSite ≡ Ok i → o ≡ Some i
+given None i e = cc
+given (Some j) i e = cc
+
 module _ (roster : Sites) (lawful : IsRoster roster) where
   sites_back : sites_in (map word_of_site roster) ≡ Some roster
   sites_back =
@@ -145,23 +154,15 @@ module _ (roster : Sites) (lawful : IsRoster roster) where
       ∙ ap (λ b. if b then None else result_ok (ok_unless (first_fault roster) roster)) free
       ∙ ap (λ f. result_ok (ok_unless f roster)) (no_fault_from_roster roster lawful)
 
-  words_are : (sites : Sites) → 0 < length sites → All (λ s. IsWord (word_of_site s)) sites → (words_of (text_of_roster sites) ≡ map word_of_site sites) × (is_readable (text_of_roster sites) ≡ true)
-  words_are [] some all = absurd (omega arith)
-  words_are (s ∷ sites) some all = (words_of-joined word_of_site s sites all, readable-joined word_of_site s sites all)
-
   -- ---- the site's name
   module _ (here : ℕ) (within : here < length roster) where
     name_is : text_of_site roster here ≡ name_at roster here
     name_is = ap (λ o. unwrap_or (option_map (λ (s : List ℕ × ℕ). s.0) o) (35 ∷ decimal here)) (slice_get-get_or roster here ([], 0) within)
 
-    before : (k : ℕ) → k < here → is_named roster (name_at roster here) k ≡ false
-    before k less = elim (cases_Bool (is_named roster (name_at roster here) k)) [
-      | inl same ↦ absurd (lawful.apart k here ([], 0) less within (same_text (name_at roster k) (name_at roster here) (sym same)))
-      | inr other ↦ other
-    ]
-
     name_back : site_named roster (name_at roster here) ≡ Some here
-    name_back = sym (least_index_found (is_named roster (name_at roster here)) (length roster) here within (nat_list_eq_equiv.refl (name_at roster here)) before)
+    name_back = given (site_named roster (name_at roster here)) here
+        (ap (λ b. if b then ok_or (site_named roster (name_at roster here)) UnknownSite else Err UnknownSite) (sym (lawful.named here ([], 0) within))
+        ∙ site_in-name roster lawful UnknownSite here within)
 
     -- ---- the header
     header_words : words_in (header_text roster here) ≡ Some (codes "nettlebeam" ∷ codes "4" ∷ name_at roster here ∷ map word_of_site roster)
