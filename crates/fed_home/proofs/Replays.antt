@@ -108,7 +108,7 @@ behind_more : (first : List (List ℕ)) (o : Option Header) (r : Replayed) (line
 behind_more first None r lines e = cc
 behind_more first (Some h) r lines e = begun_more h.format h.roster h.site first r lines e
 
-ok_given : (came : Result Replayed HomeFault) (r : Replayed) → result_ok came ≡ Some r → came ≡ Ok r
+pub ok_given : (came : Result Replayed HomeFault) (r : Replayed) → result_ok came ≡ Some r → came ≡ Ok r
 ok_given (Ok x) r e = ap Ok (same_Some x r e)
 ok_given (Err fault) r e = cc
 

@@ -106,12 +106,12 @@ latest_none : latest_retires [] ≡ zeros
 unfolding latest_retires
 latest_none = refl
 
+-- a site with what it has heard of the sites below a number
+abbrev pub heard_upto : State → ℕ → State
+heard_upto s k = record { site = s.site; view = s.view; heard = λ from. if nat_lt from k then s.heard from else zeros }
+
 module _ (roster : List (List ℕ × ℕ)) (few : length roster ≤ 16) (s : State) (ops : History Body) (within : IsWithinLimits ops) (is : s.view ≡ view ops)
     (known : list_any (λ counter. nat_lt 0 counter) (drop (length roster) s.view.version) ≡ false) (h : IsHeardOf roster s) where
-  -- with what was heard of the sites below a number
-  abbrev upto : ℕ → State
-  upto k = record { site = s.site; view = s.view; heard = λ from. if nat_lt from k then s.heard from else zeros }
-
   -- nothing that a packet tells which has no records
   joined_nothing : (v : List ℕ) → is_below v (version_of ops) ≡ true → length v ≡ 16 → join_records (view ops) (board_reads (record { version = v; retired = []; jobs = []; reservations = [] })) ≡ view ops
   unfolding join_records
@@ -178,16 +178,16 @@ module _ (roster : List (List ℕ × ℕ)) (few : length roster ≤ 16) (s : Sta
       line_is : own_line_of roster s.site (codes "take " ++ text) ≡ carries text
       line_is = ap (λ o. option_map_or carries o (option_map_or (own_words roster s.site) (words_in (codes "take " ++ text)) (says None))) is_packet
 
-      same_roster : roster_after roster (codes "take " ++ text) ≡ roster
+      pub same_roster : roster_after roster (codes "take " ++ text) ≡ roster
       same_roster = ap (roster_told roster) (packet_tells_none (codes "take " ++ text) text is_packet)
 
       not_foreign : is_foreign roster p ≡ false
       not_foreign = or_from (nat_le (length roster) k) _ (lt-leb (length roster) k small) (none_behind (s.heard k) s.view.version (length roster) below known)
 
-      not_forgotten : is_forgotten (upto k) p ≡ false
+      not_forgotten : is_forgotten (heard_upto s k) p ≡ false
       not_forgotten = le-ltb (counter_of s.view.version s.site) (counter_of (s.heard k) s.site) (each_from_below (s.heard k) s.view.version below s.site)
 
-      none_lacking : lacking (upto k) p ≡ None
+      none_lacking : lacking (heard_upto s k) p ≡ None
       none_lacking = sym (least_index_none (λ site. nat_lt (counter_of s.view.version site) (counter_of (s.heard k) site)) 16 (λ site _.
           le-ltb (counter_of s.view.version site) (counter_of (s.heard k) site) (each_from_below (s.heard k) s.view.version below site)))
 
@@ -197,15 +197,15 @@ module _ (roster : List (List ℕ × ℕ)) (few : length roster ≤ 16) (s : Sta
           ∙ joined_nothing (s.heard k) (ap (λ (v : View). is_below (s.heard k) v.version) (sym is) ∙ below) (h.counters k)
           ∙ sym is
 
-      heard_same : (from : ℕ) → put (upto k).heard k (joined ((upto k).heard k) (s.heard k)) from ≡ (upto (suc k)).heard from
+      heard_same : (from : ℕ) → put (heard_upto s k).heard k (joined ((heard_upto s k).heard k) (s.heard k)) from ≡ (heard_upto s (suc k)).heard from
       heard_same from = elim (cases_eq from k) [
         | inl same ↦ (
-            let at : put (upto k).heard k (joined ((upto k).heard k) (s.heard k)) from ≡ joined ((upto k).heard k) (s.heard k) = cond-true (nat_eq from k) (joined ((upto k).heard k) (s.heard k)) ((upto k).heard from) (eq-eqb from k same) in
-            let none : (upto k).heard k ≡ zeros = cond-false (nat_lt k k) (s.heard k) zeros (le-ltb k k (omega arith)) in
+            let at : put (heard_upto s k).heard k (joined ((heard_upto s k).heard k) (s.heard k)) from ≡ joined ((heard_upto s k).heard k) (s.heard k) = cond-true (nat_eq from k) (joined ((heard_upto s k).heard k) (s.heard k)) ((heard_upto s k).heard from) (eq-eqb from k same) in
+            let none : (heard_upto s k).heard k ≡ zeros = cond-false (nat_lt k k) (s.heard k) zeros (le-ltb k k (omega arith)) in
             at ∙ ap (λ v. joined v (s.heard k)) none ∙ joined_zeros 16 (s.heard k) (h.counters k)
             ∙ ap s.heard (sym same) ∙ sym (cond-true (nat_lt from (suc k)) (s.heard from) zeros (lt-ltb from (suc k) (omega arith))))
         | inr apart ↦ (
-            let at : put (upto k).heard k (joined ((upto k).heard k) (s.heard k)) from ≡ (upto k).heard from = cond-false (nat_eq from k) (joined ((upto k).heard k) (s.heard k)) ((upto k).heard from) (ne_eqb from k apart) in
+            let at : put (heard_upto s k).heard k (joined ((heard_upto s k).heard k) (s.heard k)) from ≡ (heard_upto s k).heard from = cond-false (nat_eq from k) (joined ((heard_upto s k).heard k) (s.heard k)) ((heard_upto s k).heard from) (ne_eqb from k apart) in
             at ∙ ap (λ b. if b then s.heard from else zeros) (later from apart))
       ]
         where
@@ -215,17 +215,17 @@ module _ (roster : List (List ℕ × ℕ)) (few : length roster ≤ 16) (s : Sta
             | inr g ↦ le-ltb from k g ∙ sym (le-ltb from (suc k) (omega arith))
           ]
 
-      taken : (site_says roster (upto k) (codes "take " ++ text)).after ≡ upto (suc k)
+      pub taken : (site_says roster (heard_upto s k) (codes "take " ++ text)).after ≡ heard_upto s (suc k)
       taken =
-          ap (λ l. (after_own roster (upto k) l).after) line_is
-          ∙ ap (λ r. (after_reading roster (upto k) r).after) is_read
-          ∙ ap (λ d. d.after) (cond-false (is_foreign roster p) (undone (upto k) (answer_line (codes "foreign")) Complaint.Foreign) (if is_forgotten (upto k) p then undone (upto k) (answer_line (codes "forgotten")) Complaint.Forgotten else after_receipt roster (upto k) p) not_foreign)
-          ∙ ap (λ d. d.after) (cond-false (is_forgotten (upto k) p) (undone (upto k) (answer_line (codes "forgotten")) Complaint.Forgotten) (after_receipt roster (upto k) p) not_forgotten)
-          ∙ ap (λ o. after_packet_unless o (upto k) p) none_lacking
+          ap (λ l. (after_own roster (heard_upto s k) l).after) line_is
+          ∙ ap (λ r. (after_reading roster (heard_upto s k) r).after) is_read
+          ∙ ap (λ d. d.after) (cond-false (is_foreign roster p) (undone (heard_upto s k) (answer_line (codes "foreign")) Complaint.Foreign) (if is_forgotten (heard_upto s k) p then undone (heard_upto s k) (answer_line (codes "forgotten")) Complaint.Forgotten else after_receipt roster (heard_upto s k) p) not_foreign)
+          ∙ ap (λ d. d.after) (cond-false (is_forgotten (heard_upto s k) p) (undone (heard_upto s k) (answer_line (codes "forgotten")) Complaint.Forgotten) (after_receipt roster (heard_upto s k) p) not_forgotten)
+          ∙ ap (λ o. after_packet_unless o (heard_upto s k) p) none_lacking
           ∙ (λ i. record { site = s.site; view = view_same i; heard = λ from. heard_same from i })
 
     -- a site of which nothing was heard
-    passed : is_below (s.heard k) zeros ≡ true → upto k ≡ upto (suc k)
+    pub passed : is_below (s.heard k) zeros ≡ true → heard_upto s k ≡ heard_upto s (suc k)
     passed e = (λ i. record { site = s.site; view = s.view; heard = λ from. same from i })
       where
         same : (from : ℕ) → (if nat_lt from k then s.heard from else zeros) ≡ (if nat_lt from (suc k) then s.heard from else zeros)
@@ -239,35 +239,35 @@ module _ (roster : List (List ℕ × ℕ)) (few : length roster ≤ 16) (s : Sta
           ]
         ]
 
-  from_here : (k n : ℕ) → after_lines roster (upto k) (heard_lines s k n) ≡ upto (k + n)
-  from_here k zero = ap upto (let e : k ≡ k + 0 = omega arith in e)
+  from_here : (k n : ℕ) → after_lines roster (heard_upto s k) (heard_lines s k n) ≡ heard_upto s (k + n)
+  from_here k zero = ap (heard_upto s) (let e : k ≡ k + 0 = omega arith in e)
   from_here k (suc n) = elim (cases_Bool (is_below (s.heard k) zeros)) [
     | inl none ↦
-        ap (λ b. after_lines roster (upto k) (option_map_or (λ line. line ∷ heard_lines s (suc k) n) (if b then None else Some (codes "take " ++ text k)) (heard_lines s (suc k) n))) none
-        ∙ ap (λ t. after_lines roster t (heard_lines s (suc k) n)) (passed k none) ∙ from_here (suc k) n ∙ ap upto (let e : suc k + n ≡ k + suc n = omega arith in e)
+        ap (λ b. after_lines roster (heard_upto s k) (option_map_or (λ line. line ∷ heard_lines s (suc k) n) (if b then None else Some (codes "take " ++ text k)) (heard_lines s (suc k) n))) none
+        ∙ ap (λ t. after_lines roster t (heard_lines s (suc k) n)) (passed k none) ∙ from_here (suc k) n ∙ ap (heard_upto s) (let e : suc k + n ≡ k + suc n = omega arith in e)
     | inr some ↦ (
         let small : k < length roster = elim (cases_lt k (length roster)) [
           | inl l ↦ l
           | inr g ↦ absurd (both_ways (is_below (s.heard k) zeros) some (ap (λ v. is_below v zeros) (h.others k g) ∙ below_itself zeros))
         ] in
-        ap (λ b. after_lines roster (upto k) (option_map_or (λ line. line ∷ heard_lines s (suc k) n) (if b then None else Some (codes "take " ++ text k)) (heard_lines s (suc k) n))) some
-        ∙ ap (λ r. after_lines r (site_says roster (upto k) (codes "take " ++ text k)).after (heard_lines s (suc k) n)) (same_roster k small)
+        ap (λ b. after_lines roster (heard_upto s k) (option_map_or (λ line. line ∷ heard_lines s (suc k) n) (if b then None else Some (codes "take " ++ text k)) (heard_lines s (suc k) n))) some
+        ∙ ap (λ r. after_lines r (site_says roster (heard_upto s k) (codes "take " ++ text k)).after (heard_lines s (suc k) n)) (same_roster k small)
         ∙ ap (λ t. after_lines roster t (heard_lines s (suc k) n)) (taken k small)
-        ∙ from_here (suc k) n ∙ ap upto (let e : suc k + n ≡ k + suc n = omega arith in e))
+        ∙ from_here (suc k) n ∙ ap (heard_upto s) (let e : suc k + n ≡ k + suc n = omega arith in e))
   ]
 
-  pub restored : (n : ℕ) → length roster ≤ n → after_lines roster (unheard s) (heard_lines s 0 n) ≡ s
-  restored n whole =
-      ap (λ t. after_lines roster t (heard_lines s 0 n)) start ∙ from_here 0 n ∙ ap upto (let e : 0 + n ≡ n = omega arith in e) ∙ all
-    where
-      start : unheard s ≡ upto 0
-      start = (λ i. record { site = s.site; view = s.view; heard = λ from. sym (cond-false (nat_lt from 0) (s.heard from) zeros (le-ltb from 0 (omega arith))) i })
+  pub heard_upto_none : unheard s ≡ heard_upto s 0
+  heard_upto_none = (λ i. record { site = s.site; view = s.view; heard = λ from. sym (cond-false (nat_lt from 0) (s.heard from) zeros (le-ltb from 0 (omega arith))) i })
 
+  pub heard_upto_all : (n : ℕ) → length roster ≤ n → heard_upto s n ≡ s
+  heard_upto_all n whole = (λ i. record { site = s.site; view = s.view; heard = λ from. each from i })
+    where
       each : (from : ℕ) → (if nat_lt from n then s.heard from else zeros) ≡ s.heard from
       each from = elim (cases_lt from n) [
         | inl l ↦ cond-true (nat_lt from n) (s.heard from) zeros (lt-ltb from n l)
         | inr g ↦ cond-false (nat_lt from n) (s.heard from) zeros (le-ltb from n g) ∙ sym (h.others from (omega arith))
       ]
 
-      all : upto n ≡ s
-      all = (λ i. record { site = s.site; view = s.view; heard = λ from. each from i })
+  pub restored : (n : ℕ) → length roster ≤ n → after_lines roster (unheard s) (heard_lines s 0 n) ≡ s
+  restored n whole =
+      ap (λ t. after_lines roster t (heard_lines s 0 n)) heard_upto_none ∙ from_here 0 n ∙ ap (heard_upto s) (let e : 0 + n ≡ n = omega arith in e) ∙ heard_upto_all n whole

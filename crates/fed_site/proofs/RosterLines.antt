@@ -66,37 +66,54 @@ begins_names (x ∷ xs) (y ∷ ys) zero e less = sym ((bytes_eq-Decides x.0 y.0)
 begins_names (x ∷ xs) (y ∷ ys) (suc i) e less = begins_names xs ys i (and_parts (bytes_eq x.0 y.0) (begins xs ys) e).1 (omega (arith, less))
 
 -- ---- rosters that are read
-faultless : (sites roster : List (List ℕ × ℕ)) (f : Option RosterFault) → first_fault sites ≡ f → result_ok (ok_unless f sites) ≡ Some roster → IsRoster roster
-faultless sites roster None is e = let same : sites ≡ roster = cc in subst IsRoster same (roster_from_no_fault sites is)
-faultless sites roster (Some fault) is e = let none : None ≡ Some roster = e in cc
+-- no site has a reserved name
+abbrev pub IsUnreserved : List (List ℕ × ℕ) → Type 0
+IsUnreserved roster = list_any (λ site. is_reserved site.0) roster ≡ false
 
-reserved : (sites roster : List (List ℕ × ℕ)) (b : Bool) → (if b then None else result_ok (ok_unless (first_fault sites) sites)) ≡ Some roster → IsRoster roster
-reserved sites roster true e = cc
-reserved sites roster false e = faultless sites roster (first_fault sites) refl e
+abbrev IsRead : Sites → Type 0
+IsRead roster = IsRoster roster × IsUnreserved roster
 
-named : (roster : List (List ℕ × ℕ)) (o : Option (List (List ℕ × ℕ)))
-    → option_and_then (λ sites. if list_any (λ site. is_reserved site.0) sites then None else result_ok (ok_unless (first_fault sites) sites)) o ≡ Some roster → IsRoster roster
+faultless : (sites roster : Sites) (f : Option RosterFault) → first_fault sites ≡ f → IsUnreserved sites → result_ok (ok_unless f sites) ≡ Some roster → IsRead roster
+faultless sites roster None is free e = let same : sites ≡ roster = cc in subst IsRead same (roster_from_no_fault sites is, free)
+faultless sites roster (Some fault) is free e = let none : None ≡ Some roster = e in cc
+
+unreserved : (sites roster : Sites) (b : Bool) → list_any (λ site. is_reserved site.0) sites ≡ b → (if b then None else result_ok (ok_unless (first_fault sites) sites)) ≡ Some roster → IsRead roster
+unreserved sites roster true is e = cc
+unreserved sites roster false is e = faultless sites roster (first_fault sites) refl is e
+
+named : (roster : Sites) (o : Option Sites)
+    → option_and_then (λ sites. if list_any (λ site. is_reserved site.0) sites then None else result_ok (ok_unless (first_fault sites) sites)) o ≡ Some roster → IsRead roster
 named roster None e = cc
-named roster (Some sites) e = reserved sites roster (list_any (λ site. is_reserved site.0) sites) e
+named roster (Some sites) e = unreserved sites roster (list_any (λ site. is_reserved site.0) sites) refl e
 
 pub read_lawful : (words : List (List ℕ)) (roster : List (List ℕ × ℕ)) → roster_of words ≡ Some roster → IsRoster roster
-read_lawful words roster e = named roster (sites_in words) e
+read_lawful words roster e = (named roster (sites_in words) e).0
+
+pub read_unreserved : (words : List (List ℕ)) (roster : List (List ℕ × ℕ)) → roster_of words ≡ Some roster → IsUnreserved roster
+read_unreserved words roster e = (named roster (sites_in words) e).1
 
 -- ---- the next roster
-next_lawful : (known : List (List ℕ × ℕ)) → IsRoster known → (told : Option (List (List ℕ × ℕ))) → ((sites : List (List ℕ × ℕ)) → told ≡ Some sites → IsRoster sites) → IsRoster (unwrap_or (next_roster known told) known)
-next_lawful known lawful None read = lawful
-next_lawful known lawful (Some sites) read = go (begins known sites)
-  where
-    go : (b : Bool) → IsRoster (unwrap_or (if b then Some sites else None) known)
-    go true = read sites refl
-    go false = lawful
+-- what holds of each roster that words name still holds of the one that is known
+module _ (P : List (List ℕ × ℕ) → Type 0) (read : (words : List (List ℕ)) (roster : List (List ℕ × ℕ)) → roster_of words ≡ Some roster → P roster) where
+  next_still : (known : Sites) → P known → (told : Option Sites) → ((sites : Sites) → told ≡ Some sites → P sites) → P (unwrap_or (next_roster known told) known)
+  next_still known holds None named = holds
+  next_still known holds (Some sites) named = go (begins known sites)
+    where
+      go : (b : Bool) → P (unwrap_or (if b then Some sites else None) known)
+      go true = named sites refl
+      go false = holds
 
-words_lawful : (known : List (List ℕ × ℕ)) → IsRoster known → (words : Option (List (List ℕ))) → IsRoster (roster_told known (option_map roster_of words))
-words_lawful known lawful None = lawful
-words_lawful known lawful (Some words) = next_lawful known lawful (roster_of words) (read_lawful words)
+  words_still : (known : Sites) → P known → (words : Option (List (List ℕ))) → P (roster_told known (option_map roster_of words))
+  words_still known holds None = holds
+  words_still known holds (Some words) = next_still known holds (roster_of words) (read words)
 
-pub after_lawful : (known : List (List ℕ × ℕ)) (line : List ℕ) → IsRoster known → IsRoster (roster_after known line)
-after_lawful known line lawful = words_lawful known lawful (words_in line >>= words_behind)
+  pub after_still : (known : List (List ℕ × ℕ)) (line : List ℕ) → P known → P (roster_after known line)
+  after_still known line holds = words_still known holds (words_in line >>= words_behind)
+
+  -- after more lines
+  pub lines_still : (known : List (List ℕ × ℕ)) (lines : List (List ℕ)) → P known → P (roster_after_lines known lines)
+  lines_still known [] holds = holds
+  lines_still known (line ∷ lines) holds = lines_still (roster_after known line) lines (after_still known line holds)
 
 pub next_begins : (known : List (List ℕ × ℕ)) (told : Option (List (List ℕ × ℕ))) → begins known (unwrap_or (next_roster known told) known) ≡ true
 next_begins known None = begins_itself known
@@ -114,10 +131,6 @@ pub after_begins : (known : List (List ℕ × ℕ)) (line : List ℕ) → begins
 after_begins known line = told_begins known (told_in line)
 
 -- after more lines
-pub lines_lawful : (known : List (List ℕ × ℕ)) (lines : List (List ℕ)) → IsRoster known → IsRoster (roster_after_lines known lines)
-lines_lawful known [] lawful = lawful
-lines_lawful known (line ∷ lines) lawful = lines_lawful (roster_after known line) lines (after_lawful known line lawful)
-
 pub lines_begin : (known : List (List ℕ × ℕ)) (lines : List (List ℕ)) → begins known (roster_after_lines known lines) ≡ true
 lines_begin known [] = begins_itself known
 lines_begin known (line ∷ lines) = begins_on known (roster_after known line) (roster_after_lines known (line ∷ lines)) (after_begins known line) (lines_begin (roster_after known line) lines)

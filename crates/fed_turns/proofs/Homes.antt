@@ -1,7 +1,7 @@
 -- Homes go on as what happens does.
 use Rattle.std.specs.Prelude.{Some, None, Option, Ok, map}
 use Rattle.std.specs.Result.{result_ok}
-use Rattle.std.proofs.Common.{◌≡◌, ◌≢◌, ◌<◌, ◌==◌, ℕ, List, [], ◌∷◌, ◌++◌, All, Bool, true, false, length, refl, sym, subst, ap, ◌∙◌, inl, inr, arith}
+use Rattle.std.proofs.Common.{◌≡◌, ◌≢◌, ◌<◌, ◌≤◌, ◌==◌, ℕ, List, [], ◌∷◌, ◌++◌, All, Bool, true, false, length, refl, sym, subst, ap, ◌∙◌, inl, inr, arith}
 use Rattle.std.proofs.lemmas.Bool.{cases_Bool, eqb-true}
 use Rattle.std.proofs.lemmas.List.Elements.{All-cons, All-head, All-nil, All-tail, All-weaker}
 use Rattle.std.proofs.lemmas.Option.{same_Some}
@@ -13,12 +13,13 @@ use Rattle.fed_site.specs.declared.site.SiteAnswer.{SiteAnswer}
 use Rattle.fed_site.specs.Journal.{after_lines, kept_lines}
 use Rattle.fed_site.specs.Rosters.{roster_after, roster_after_lines}
 use Rattle.fed_site.specs.Says.{Said, site_says}
-use Rattle.fed_site.proofs.RosterLines.{begins_length, lines_begin, lines_lawful}
+use Rattle.fed_site.proofs.RosterLines.{IsUnreserved, begins_length, lines_begin, lines_still, read_lawful, read_unreserved}
 use Rattle.fed_journal.specs.Journal.{IsBeforeOrAfter, entries_in, entries_of}
 use Rattle.fed_journal.specs.Lines.{recovered}
 use Rattle.fed_home.specs.declared.headers.JournalFormat.{JournalFormat}
 use Rattle.fed_home.specs.declared.headers.JournalFormat.TheVariants.{One, Two, Three, Four}
 use Rattle.fed_home.specs.declared.headers.Header.{Header}
+use Rattle.fed_home.specs.Compaction.{AreEntriesOf}
 use Rattle.fed_home.specs.Header.{header_in}
 use Rattle.fed_home.specs.Replay.{AreReplies, Replayed, begun, begun_by, replay}
 use Rattle.fed_home.proofs.HeaderLines.{header_site}
@@ -26,8 +27,9 @@ use Rattle.fed_home.proofs.Replays.{replayed_more}
 use Rattle.fed_turns.specs.Crash.{Happening, answered, cut, MayAllHappen, lines_all, lines_at, lines_if, turns_from, turns_of}
 use Rattle.fed_turns.specs.Home.{IsHomeOf, course_of, happens_at, turns_at}
 use Rattle.fed_turns.specs.Turn.{AreBeginnings, AreCarried, Course, IsCarried, MayTurns, Turn, after_turn, after_turns, beginning, shipped_by}
-use Rattle.fed_turns.proofs.Crashes.{after_append, course_more, lines_answered, lines_stand, parted, still, still_own}
-use Rattle.fed_turns.proofs.Headers.{header_roster}
+use Rattle.fed_turns.proofs.Crashes.{after_append, all_may, course_more, lines_answered, lines_stand, parted, still, still_own}
+use Rattle.fed_turns.proofs.Headers.{header_roster, replayed_roster}
+use Rattle.fed_turns.proofs.Knowing.{entries_again}
 
 -- ---- what may happen behind what may
 module _ (whole : List (List ℕ × ℕ)) where
@@ -103,7 +105,7 @@ module _ (i : ℕ) where
         let holds : (course_of rosters (hs ++ ks)).site i ≡ after_lines (c.roster i) (c.site i) lines = went.site ∙ ap (after_lines (c.roster i) (c.site i)) is in
         let small = h.1 in
         let longer = begins_length (c.roster i) (roster_after_lines (c.roster i) lines) (lines_begin (c.roster i) lines) in (
-          subst IsRoster (sym knows) (lines_lawful (c.roster i) lines h.0),
+          subst IsRoster (sym knows) (lines_still IsRoster read_lawful (c.roster i) lines h.0),
           subst (λ (r : List (List ℕ × ℕ)). i < length r) (sym knows) (omega (arith, small, longer)),
           e ∙ ap Some (λ k. record { roster = sym knows k; state = sym holds k }),
         )
@@ -151,6 +153,14 @@ module _ (i : ℕ) where
           → (stand : Bool) × MayAllHappen whole (beginning rosters) (hs ++ cut i lines stand ∷ []) × IsHomeOf rosters i (hs ++ cut i lines stand ∷ []) file)
           (now_is old now h e) (λ left carried parts. left_home old file h lines left may carried parts)
 
+      -- ---- a journal is compacted
+      pub home_entries : length whole ≤ 16 → (file : List ℕ) (now : Replayed) (entries : List (List ℕ)) → MayAllHappen whole (beginning rosters) hs → IsHomeOf rosters i hs file → replay (entries_in file) ≡ Some now
+          → AreEntriesOf now entries → replay entries ≡ Some now
+      home_entries few file now entries may h e =
+          let free : IsUnreserved (c.roster i) = replayed_roster IsUnreserved read_unreserved now_at (entries_in file) h.2 in
+          subst (λ (x : Replayed). AreEntriesOf x entries → replay entries ≡ Some x) (now_is file now h e)
+          (entries_again whole few rosters (turns_from (beginning rosters) hs) i (all_may whole hs (beginning rosters) may) h.0 h.1 free entries)
+
     -- ---- what happens elsewhere
     pub home_of_other : (later : List Happening) (file : List ℕ) → All (λ h. happens_at h ≢ i) later → IsHomeOf rosters i hs file → IsHomeOf rosters i (hs ++ later) file
     home_of_other later file away h = more_home file file h later [] (none_there later away) h.2
@@ -187,7 +197,7 @@ new_home header file h now is begins e = go h.format begins
     from_nothing same = subst (IsNewHome file) same (
       h.site,
       λ rosters at. (
-        subst IsRoster (sym at) (header_roster header h is),
+        subst IsRoster (sym at) (header_roster IsRoster read_lawful header h is),
         subst (λ (r : List (List ℕ × ℕ)). h.site < length r) (sym at) (header_site header h is),
         e ∙ ap Some (sym same) ∙ ap Some (λ k. record { roster = sym at k; state = empty_at h.site }),
       ),

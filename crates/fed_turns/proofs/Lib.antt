@@ -13,4 +13,6 @@ pub mod Headers
 pub mod Homes
 pub mod BeginLines
 pub mod Inside
+pub mod HeaderWords
+pub mod CompactedEntries
 pub mod Knowing

@@ -1,6 +1,7 @@
 //! Laws of turns: each site answers its lines by itself, and the texts of packets are carried between sites by whatever
 //! means. Each function does nothing: its contract is the law.
 ghost use Rattle.std.specs.Prelude.{◌≡◌, ◌≢◌, ◌⊎◌, ℕ, ◌<◌, ◌≤◌, Bool, false, true, List, [], ◌∷◌, ◌++◌, length, map, codes, All, Some, Ok, option_map};
+ghost use Rattle.std.specs.List.{list_any};
 ghost use Rattle.fed_stamp.specs.Roster.{IsRoster};
 ghost use Rattle.fed_stamp.specs.Stamp.{StampValue};
 ghost use Rattle.fed_model.specs.declared.beginnings.Beginning.{Beginning};
@@ -8,6 +9,7 @@ ghost use Rattle.fed_replica.specs.State.{empty_at};
 ghost use Rattle.fed_delta.specs.Packet.{PacketValue};
 ghost use Rattle.fed_wire.specs.Reading.{packet_in};
 ghost use Rattle.fed_script.specs.Line.{Line, own_line, words_in};
+ghost use Rattle.fed_script.specs.Rosters.{is_reserved};
 ghost use Rattle.fed_script.specs.Values.{identifier, moment, number};
 ghost use Rattle.fed_qstat.specs.Outcome.{answer_line};
 ghost use Rattle.fed_model.specs.RangedEvents.{AreRanged};
@@ -22,6 +24,7 @@ ghost use Rattle.fed_site.specs.Rosters.{roster_after_lines};
 ghost use Rattle.fed_site.specs.declared.site.SiteAnswer.{SiteAnswer};
 ghost use Rattle.fed_journal.specs.Journal.{IsBeforeOrAfter, entries_in};
 ghost use Rattle.fed_journal.specs.Lines.{recovered};
+ghost use Rattle.fed_home.specs.Compaction.{AreEntriesOf};
 ghost use Rattle.fed_home.specs.Replay.{AreReplies, Replayed, replay};
 ghost use Rattle.fed_turns.specs.Alarm.{RaisesNoAlarm};
 ghost use Rattle.fed_turns.specs.Crash.{Happening, answered, cut, MayAllHappen, journal_of, lines_all, turns_from};
@@ -153,6 +156,29 @@ pub fn compacted_sites_are_restored()
         (heard_lines ((after_turns (beginning rosters) turns).site i) 0 n))
         (known_in ((after_turns (beginning rosters) turns).roster i) i text)
         ≡ Some ((after_turns (beginning rosters) turns).site i) }
+{}
+
+/// The entries of a compacted journal are read as the site that wrote them. After such lines the entries that a site writes,
+/// its header, what it knows and what it has heard of each site of its roster, are read as a site that knows this roster and
+/// holds all that the site held, where no site of the roster has a reserved name (`turns`). No header and no line names a
+/// roster that has one: so the entries that the site of a home writes stand for that site again (`homes`).
+pub fn compacted_journals_are_read()
+    ensures turns { (whole : List (List ℕ × ℕ)) (rosters : ℕ → List (List ℕ × ℕ)) (turns : List Turn) (i : ℕ) (entries : List (List ℕ)) → IsRoster whole →
+        MayTurns whole (beginning rosters) turns → IsRoster ((after_turns (beginning rosters) turns).roster i) →
+        i < length ((after_turns (beginning rosters) turns).roster i) →
+        list_any (λ site. is_reserved site.0) ((after_turns (beginning rosters) turns).roster i) ≡ false →
+        AreEntriesOf (record {
+          roster = (after_turns (beginning rosters) turns).roster i;
+          state = (after_turns (beginning rosters) turns).site i;
+        }) entries →
+        replay entries ≡ Some (record {
+          roster = (after_turns (beginning rosters) turns).roster i;
+          state = (after_turns (beginning rosters) turns).site i;
+        }) }
+    ensures homes { (whole : List (List ℕ × ℕ)) (rosters : ℕ → List (List ℕ × ℕ)) (i : ℕ) (happenings : List Happening) (file : List ℕ) (now : Replayed)
+        (entries : List (List ℕ)) → IsRoster whole → MayAllHappen whole (beginning rosters) happenings →
+        IsHomeOf rosters i happenings file → replay (entries_in file) ≡ Some now →
+        AreEntriesOf now entries → replay entries ≡ Some now }
 {}
 
 /// What happens adds to a site's journal what is kept of its lines there, by the roster that the site knew and what it held
