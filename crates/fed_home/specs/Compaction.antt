@@ -1,11 +1,10 @@
 -- The entries of a journal that is compacted.
-use Rattle.std.specs.Prelude.{◌≡◌, ◌≢◌, ◌⊎◌, ℕ, zero, suc, List, [], ◌∷◌, ◌++◌, length, Some, None}
+use Rattle.std.specs.Prelude.{◌≡◌, ◌≢◌, ℕ, zero, suc, List, [], ◌∷◌, ◌++◌, length, Some}
 use Rattle.fed_replica.specs.State.{State}
 use Rattle.fed_site.specs.Known.{unheard}
 use Rattle.fed_site.specs.Packets.{IsPacketText}
-use Rattle.fed_site.specs.Site.{SiteValue}
 use Rattle.fed_home.specs.Header.{header_text}
-use Rattle.fed_home.specs.Replay.{Replayed, heard_text, replay, replayed_of}
+use Rattle.fed_home.specs.Replay.{Replayed, heard_text, replay}
 
 -- what a site writes of what it has heard of the first sites, which are so many
 abbrev pub heard_texts : State → ℕ → List (List ℕ)
@@ -23,6 +22,5 @@ abbrev pub AreEntriesOf : Replayed → List (List ℕ) → Type 0
 AreEntriesOf site entries = AreEntries (header_text site.roster site.state.site) site.state (length site.roster) entries
 
 -- They aren't read as this site: they are no site's, or another's.
-abbrev pub AreOfAnother : SiteValue → List (List ℕ) → Type 0
-AreOfAnother site entries = (replay entries ≡ None)
-    ⊎ ((other : SiteValue) × (replay entries ≡ Some (replayed_of other)) × (other ≢ site))
+abbrev pub AreOfAnother : Replayed → List (List ℕ) → Type 0
+AreOfAnother site entries = replay entries ≢ Some site

@@ -60,7 +60,7 @@ pub(crate) fn entries_from(alloc: Global, site: &Site) -> Result<Vec<Vec<u8>>, N
 /// Whether two sites of one roster have the same.
 fn is_same_site(one: &Site, other: &Site) -> bool
     ensures same { result ≡ true → replayed_of one.now ≡ replayed_of other.now }
-    ensures apart { result ≡ false → one.now ≢ other.now }
+    ensures apart { result ≡ false → replayed_of one.now ≢ replayed_of other.now }
 {
     one.roster() == other.roster() && one.holds_the_same(other)
 }
@@ -68,7 +68,7 @@ fn is_same_site(one: &Site, other: &Site) -> bool
 /// Whether entries stand for a site.
 pub(crate) fn stand_for(alloc: Global, entries: &[Vec<u8>], site: &Site) -> Result<bool, NoMemory>
     ensures same { IfOk result (λ same. same ≡ true → replay_of (texts_of entries.now) ≡ Some (replayed_of site.now)) }
-    ensures apart { IfOk result (λ same. same ≡ false → AreOfAnother site.now (texts_of entries.now)) }
+    ensures apart { IfOk result (λ same. same ≡ false → AreOfAnother (replayed_of site.now) (texts_of entries.now)) }
 {
     match replay(alloc, entries) {
         Ok(again) => Ok(is_same_site(&again, site)),

@@ -254,7 +254,7 @@ impl<D: Device + Drop> Home<D> {
             × (entries : List (List ℕ)) × AreEntriesOf (replayed_of (site_of self.old)) entries × (bytes ≡ min (length (at_rest entries)) usize.MAX)) }
         ensures unread { IfOk result (λ came. came ≡ Compaction.Unread →
             (entries : List (List ℕ)) × AreEntriesOf (replayed_of (site_of self.old)) entries
-            × ((¬ All IsLine entries) ⊎ AreOfAnother (site_of self.old) entries)) }
+            × ((¬ All IsLine entries) ⊎ AreOfAnother (replayed_of (site_of self.old)) entries)) }
 
         // A crash at any moment of the call leaves entries that stand for the site.
         ensures any_moment { LeavesOnly D.moment D.left_since (home_device self.old) (home_device self.new)

@@ -6,6 +6,7 @@ pub mod StepLaws
 pub mod GrantAnswers
 pub mod WantOfMemory
 pub mod Lefts
+mod SameStates
 pub mod Receipts
 pub mod SameReplicas
 mod Unsettled

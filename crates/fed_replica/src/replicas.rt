@@ -20,7 +20,7 @@ ghost use Rattle.fed_replica.specs.State.{after_answer, after_packet_unless, hea
 use crate::answers::{Answered, Received, refused};
 use crate::commands::next_step;
 use crate::steps::Step;
-use fed_board::{Board, Records};
+use fed_board::{Board, Records, boards_that_read_the_same_are_equal};
 use fed_delta::{Absorb, Delta, Packet, absorb, delta_since, sender_is_in_range};
 use fed_lattice::{Causal, NoMemory, Table};
 use fed_model::Taken;
@@ -177,10 +177,13 @@ impl Replica {
         answered.said
     }
 
-    /// Whether the other replica is identical: of the same site, with the same board, and the same was heard.
+    /// Whether the other replica is identical: of the same site, with the same board, and the same was heard. All that a
+    /// replica has is read of it, so that those that read the same are identical.
     pub fn is_same(&self, other: &Replica) -> bool
-        ensures { IsTrue result ↔ (self.now ≡ other.now) }
+        ensures same { IsTrue result ↔ (self.now ≡ other.now) }
+        ensures read { IsTrue result ↔ (state_of self.now ≡ state_of other.now) }
     {
+        boards_that_read_the_same_are_equal(&self.board, &other.board);
         if self.site != other.site || self.board != other.board {
             return false;
         }

@@ -333,9 +333,11 @@ impl Site {
         heard_line(alloc, &self.replica, from)
     }
 
-    /// Whether the other site holds the same: whether it is the same site, with the same board, and has heard the same.
+    /// Whether the other site holds the same: whether it is the same site, with the same board, and has heard the same. All
+    /// that a site holds is read of it.
     pub fn holds_the_same(&self, other: &Site) -> bool
-        ensures { IsTrue result ↔ (self.now.replica ≡ other.now.replica) }
+        ensures same { IsTrue result ↔ (self.now.replica ≡ other.now.replica) }
+        ensures read { IsTrue result ↔ (state_of self.now.replica ≡ state_of other.now.replica) }
     {
         self.replica.is_same(&other.replica)
     }

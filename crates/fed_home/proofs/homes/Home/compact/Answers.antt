@@ -5,6 +5,7 @@ use Rattle.std.below.core.specs.declared.int.usize.TheConstants.{MAX}
 use Rattle.fed_journal.specs.Journal.{entries_of}
 use Rattle.fed_journal.specs.Lines.{IsLine, at_rest, texts_of}
 use Rattle.fed_home.specs.Compaction.{AreOfAnother}
+use Rattle.fed_home.specs.Replay.{replayed_of}
 use Rattle.fed_home.proofs.Compacting.{done_short, still_stands}
 use Rattle.fed_home.proofs.Entries.{length-texts_of}
 use Rattle.fed_home.proofs.homes.Home.compact.Goals as goal
@@ -35,7 +36,7 @@ returns-then-not-are_lines-clause-unread g c = λ unread.
             let no : true ≡ false = sym yes ∙ w.if-not-are_lines.true in
             cc)
         | then-not-are_lines-via-else-not-are_lines+in_ok-stand_for+then-not-branch w ↦ inr (
-            subst (λ es. AreOfAnother c.args.self.now.site (texts_of es)) w.deref-else-not-are_lines.ensures.value (w.in_ok-stand_for.ensures.apart w.if-not-branch.true))
+            subst (λ es. AreOfAnother (replayed_of c.args.self.now.site) (texts_of es)) w.deref-else-not-are_lines.ensures.value (w.in_ok-stand_for.ensures.apart w.if-not-branch.true))
       ],
     )
 
