@@ -2,6 +2,7 @@
 ghost use Rattle.std.specs.Prelude.{◌≡◌, OnOk};
 ghost use Rattle.fed_journal.specs.Device.{LeavesJust};
 ghost use Rattle.nettlebeam.specs.Copy.{may_be_replaced as may_be_replaced_by};
+ghost use Rattle.nettlebeam.specs.Fault.{of_copy};
 
 use crate::directories::{JOURNAL, NEW_JOURNAL, parent_of};
 use crate::faults::Fault;
@@ -102,7 +103,9 @@ fn write_copy<D: Device>(alloc: Global, device: &mut D, text: &[u8]) -> Result<(
 }
 
 /// Why a copy can't be written.
-fn fault_of(fault: DeviceFault) -> Fault {
+fn fault_of(fault: DeviceFault) -> Fault
+    ensures { result ≡ of_copy fault }
+{
     match fault {
         DeviceFault::NoMemory => Fault::from(fault),
         DeviceFault::Failed(error) => Fault::Kept(error),

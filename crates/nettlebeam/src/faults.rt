@@ -1,5 +1,6 @@
 //! Why the program doesn't do what it is asked.
 ghost use Rattle.std.specs.Prelude.{◌≡◌};
+ghost use Rattle.nettlebeam.specs.Fault.{IsOfError, of_compacting};
 
 use fed_home::HomeFault;
 use fed_journal::{DeviceFault, JournalFault, OpenFault};
@@ -54,24 +55,45 @@ impl Fault {
     }
 }
 
+/// An error of the system where a journal's file is opened: where there is no file, there is no site.
+fn fault_of_error(error: io::Error) -> Fault
+    ensures { IsOfError error result }
+{
+    match error.kind() {
+        ErrorKind::NotFound => Fault::NoSite,
+        _ => Fault::Home(HomeFault::Failed(error)),
+    }
+}
+
 impl From<OpenFault> for Fault {
+    ghost use Rattle.nettlebeam.specs.Fault.{IsOfOpening};
+
+    ghost from_gives = { IsOfOpening };
+
     fn from(fault: OpenFault) -> Fault {
         match fault {
             OpenFault::NoMemory => Fault::Home(HomeFault::NoMemory),
             OpenFault::InUse => Fault::InUse,
-            OpenFault::Failed(error) if error.kind() == ErrorKind::NotFound => Fault::NoSite,
-            OpenFault::Failed(error) => Fault::Home(HomeFault::Failed(error)),
+            OpenFault::Failed(error) => fault_of_error(error),
         }
     }
 }
 
 impl From<HomeFault> for Fault {
+    ghost use Rattle.nettlebeam.specs.declared.faults.Fault.TheVariants.{Home};
+
+    ghost from_gives = { λ fault r. r ≡ Home fault };
+
     fn from(fault: HomeFault) -> Fault {
         Fault::Home(fault)
     }
 }
 
 impl From<DeviceFault> for Fault {
+    ghost use Rattle.nettlebeam.specs.Fault.{of_device};
+
+    ghost from_gives = { λ fault r. r ≡ of_device fault };
+
     fn from(fault: DeviceFault) -> Fault {
         match fault {
             DeviceFault::NoMemory => Fault::Home(HomeFault::NoMemory),
@@ -81,7 +103,9 @@ impl From<DeviceFault> for Fault {
 }
 
 /// Why a journal may be the old one or the compacted one, or isn't compacted.
-pub fn fault_of_compacting(fault: HomeFault) -> Fault {
+pub fn fault_of_compacting(fault: HomeFault) -> Fault
+    ensures { result ≡ of_compacting fault }
+{
     match fault {
         HomeFault::Failed(error) => Fault::Replaced(error),
         _ => Fault::Home(fault),
@@ -89,6 +113,10 @@ pub fn fault_of_compacting(fault: HomeFault) -> Fault {
 }
 
 impl From<NotCompacted> for Fault {
+    ghost use Rattle.nettlebeam.specs.Fault.{of_cause};
+
+    ghost from_gives = { λ cause r. r ≡ of_cause cause };
+
     fn from(cause: NotCompacted) -> Fault {
         match cause {
             NotCompacted::Refused(error) => Fault::NotCompacted(error),
@@ -99,6 +127,10 @@ impl From<NotCompacted> for Fault {
 }
 
 impl From<Stop<Fault>> for Fault {
+    ghost use Rattle.nettlebeam.specs.Fault.{of_stop};
+
+    ghost from_gives = { λ stop r. r ≡ of_stop stop };
+
     fn from(stop: Stop<Fault>) -> Fault {
         match stop {
             Stop::Served(fault) => Fault::from(fault),
@@ -108,6 +140,10 @@ impl From<Stop<Fault>> for Fault {
 }
 
 impl From<ServeFault> for Fault {
+    ghost use Rattle.nettlebeam.specs.Fault.{of_serving};
+
+    ghost from_gives = { λ fault r. r ≡ of_serving fault };
+
     fn from(fault: ServeFault) -> Fault {
         match fault {
             ServeFault::Home(fault) | ServeFault::NotKept(fault) => Fault::Home(fault),
@@ -118,18 +154,32 @@ impl From<ServeFault> for Fault {
 }
 
 impl From<JournalFault> for Fault {
+    ghost use Rattle.nettlebeam.specs.Fault.{of_journal};
+
+    ghost from_gives = { λ fault r. r ≡ of_journal fault };
+
     fn from(fault: JournalFault) -> Fault {
         Fault::Home(HomeFault::from(fault))
     }
 }
 
 impl From<NoMemory> for Fault {
+    ghost use Rattle.fed_home.specs.declared.faults.HomeFault.TheVariants.{NoMemory};
+    ghost use Rattle.nettlebeam.specs.declared.faults.Fault.TheVariants.{Home};
+
+    ghost from_gives = { λ _ r. r ≡ Home NoMemory };
+
     fn from(_fault: NoMemory) -> Fault {
         Fault::Home(HomeFault::NoMemory)
     }
 }
 
 impl From<AllocError> for Fault {
+    ghost use Rattle.fed_home.specs.declared.faults.HomeFault.TheVariants.{NoMemory};
+    ghost use Rattle.nettlebeam.specs.declared.faults.Fault.TheVariants.{Home};
+
+    ghost from_gives = { λ _ r. r ≡ Home NoMemory };
+
     fn from(_error: AllocError) -> Fault {
         Fault::Home(HomeFault::NoMemory)
     }
