@@ -82,12 +82,15 @@ def given_again(tally, federation):
     (site,) = federation.make("argonne:4", more="[house]\nevery = 0.3\n")
     site.kill(signal.SIGTERM)
     shutil.copy(f"{site.home}/site/journal", f"{federation.folder}/old")
+    wanted = []
     for status in (3, 4):
         shutil.copy(f"{federation.folder}/old", f"{site.home}/site/journal")
         site.start()
         site.wait_ready()
         job, held = site.submit(f"exit {status}\n"), site.submit("true\n", "-h")
         site.ask("qdel", held)
+        # the number of the second depends on whether the first was granted before
+        wanted += [(job, status), (held, None)]
         tally.same("a job ends", (job, site.finished(job)), ("1.argonne", status))
         until(lambda status=status: len(books(site)) >= 2 * (status - 2), 20, "both are recorded")
         site.kill(signal.SIGTERM)
@@ -96,7 +99,7 @@ def given_again(tally, federation):
     site.wait_ready()
     time.sleep(2)
     told = [(it["id"], (it["finished"] or {}).get("status")) for it in books(site)]
-    tally.same("each of the four is recorded once", sorted(told, key=str), sorted([(job, 3), (job, 4), (held, None), (held, None)], key=str))
+    tally.same("each of the four is recorded once", sorted(told, key=str), sorted(wanted, key=str))
     path = f"{site.home}/spool/accounting/recorded"
     moments = [int(line.split()[1]) for line in read(path).splitlines() if line.startswith(f"{job} ")]
     tally.true("the later by its own date", len(moments) == 2 and moments[0] < moments[1])
