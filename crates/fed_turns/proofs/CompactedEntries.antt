@@ -48,7 +48,7 @@ texts_are s (suc n) =
     ∙ sym (texts_more s 0 n)
 
 -- what is written of what was heard of a site, where that is nothing or isn't
-abbrev text_if : Bool → State → ℕ → List ℕ
+abbrev pub text_if : Bool → State → ℕ → List ℕ
 text_if nothing s k = unwrap_or (if nothing then None else Some (codes "take " ++ compact_text (packet_value Two (hearing s k)))) []
 
 module _ (roster : List (List ℕ × ℕ)) (few : length roster ≤ 16) (s : State) (ops : History Body) (within : IsWithinLimits ops) (is : s.view ≡ view ops)

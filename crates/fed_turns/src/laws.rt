@@ -23,7 +23,7 @@ ghost use Rattle.fed_site.specs.Packets.{IsPacketText, is_foreign};
 ghost use Rattle.fed_site.specs.Rosters.{roster_after_lines};
 ghost use Rattle.fed_site.specs.declared.site.SiteAnswer.{SiteAnswer};
 ghost use Rattle.fed_journal.specs.Journal.{IsBeforeOrAfter, entries_in};
-ghost use Rattle.fed_journal.specs.Lines.{recovered};
+ghost use Rattle.fed_journal.specs.Lines.{IsLine, recovered};
 ghost use Rattle.fed_home.specs.Compaction.{AreEntriesOf};
 ghost use Rattle.fed_home.specs.Replay.{AreReplies, Replayed, replay};
 ghost use Rattle.fed_turns.specs.Alarm.{RaisesNoAlarm};
@@ -161,7 +161,8 @@ pub fn compacted_sites_are_restored()
 /// The entries of a compacted journal are read as the site that wrote them. After such lines the entries that a site writes,
 /// its header, what it knows and what it has heard of each site of its roster, are read as a site that knows this roster and
 /// holds all that the site held, where no site of the roster has a reserved name (`turns`). No header and no line names a
-/// roster that has one: so the entries that the site of a home writes stand for that site again (`homes`).
+/// roster that has one: so the entries that the site of a home writes stand for that site again (`homes`). No entry has a
+/// line feed, whatever the site of a roster knows (`lines`): so `Home::compact` never answers `Unread` of such a home.
 pub fn compacted_journals_are_read()
     ensures turns { (whole : List (List ℕ × ℕ)) (rosters : ℕ → List (List ℕ × ℕ)) (turns : List Turn) (i : ℕ) (entries : List (List ℕ)) → IsRoster whole →
         MayTurns whole (beginning rosters) turns → IsRoster ((after_turns (beginning rosters) turns).roster i) →
@@ -179,6 +180,7 @@ pub fn compacted_journals_are_read()
         (entries : List (List ℕ)) → IsRoster whole → MayAllHappen whole (beginning rosters) happenings →
         IsHomeOf rosters i happenings file → replay (entries_in file) ≡ Some now →
         AreEntriesOf now entries → replay entries ≡ Some now }
+    ensures lines { (now : Replayed) (entries : List (List ℕ)) → IsRoster now.roster → AreEntriesOf now entries → All IsLine entries }
 {}
 
 /// What happens adds to a site's journal what is kept of its lines there, by the roster that the site knew and what it held
