@@ -47,8 +47,8 @@ def signals(tally, federation):
     federation.cut("lemont", "argonne")
     tally.same("it is deleted where its site doesn't hear it", lemont.utility("qdel", asleep)[:2], (0, "done\n"))
     begun = lemont.jobs(asleep)[asleep]["begun"]
-    told = f"{asleep}: it was begun at argonne at second {begun['moment']}, and runs until {begun['end']} at the latest\n"
-    tally.true("why tells where it runs", lemont.utility("qask", "why", asleep, "0")[2].startswith(f"qask: {told}"))
+    told = f"begun at argonne since {begun['moment']} on 1 nodes until {begun['end']}, deleted\n"
+    tally.same("why tells where it runs", lemont.utility("qask", "why", asleep, "0")[1], told)
     until(lambda: argonne.utility("qsig", "-s", "KILL", asleep)[0] == 0, 10, "it is killed")
     tally.same("with the status of that", argonne.finished(asleep), 137)
 

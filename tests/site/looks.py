@@ -97,6 +97,16 @@ REASONS = [
     ("finish 7 90 3", "done\n"),
     ("why 7 0", "finished 3\n"),
 ]
+# of a job that is deleted while it runs
+DELETED = [
+    ("ann qsub", "13.argonne\n"),
+    ("grant 13 argonne", "granted\n"),
+    ("begin 13 50", "done\n"),
+    ("ann qdel 13", "done\n"),
+    ("why 13 60", "begun at argonne since 50 on 1 nodes until 3650, deleted\n"),
+    ("finish 13 70 143", "done\n"),
+    ("why 13 80", "deleted\n"),
+]
 # what the machine of 10 nodes has from the moment 0 on
 CHART = [
     ("head", "4.argonne: head, nodes 7, from 100 to 3700", "4.argonne"),
@@ -201,6 +211,8 @@ def looks(tally, sites):
         {"site": "argonne", "known": 11, "told": 11}, {"site": "lemont", "known": 12, "told": 11},
     ]))
     tally.same("the roster of two", sites.at("argonne", ["roster"]), "argonne:8 lemont:4\n")
+    for asked, answer in DELETED:
+        tally.same(asked, sites.run("at", "argonne", *asked.split()), (0, answer, ""))
 
 
 SCENES = {"looks": looks}

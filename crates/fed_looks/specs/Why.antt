@@ -56,9 +56,15 @@ progress_text roster (Some finished) begun waiting = codes "finished " ++ decima
 progress_text roster None (Some begun) waiting = text_of_begun roster begun
 progress_text roster None None waiting = waiting
 
+-- of a job that was deleted: where it runs, as long as it does
+abbrev pub text_of_deleted : List (List ℕ × ℕ) → Option (StampValue × Ending) → Option (StampValue × Beginning) → List ℕ
+text_of_deleted roster (Some finished) begun = codes "deleted"
+text_of_deleted roster None (Some begun) = text_of_begun roster begun ++ codes ", deleted"
+text_of_deleted roster None None = codes "deleted"
+
 -- of a job that is known, beside the plan of the site
 abbrev pub text_of_job : List (List ℕ × ℕ) → ℕ → StampValue → JobView → Option PlanValue → List ℕ
-text_of_job roster here job j plan = if j.stages.deleted then codes "deleted"
+text_of_job roster here job j plan = if j.stages.deleted then text_of_deleted roster j.stages.finished j.stages.begun
     else progress_text roster j.stages.finished j.stages.begun (unwrap_or (obstacle_of roster here j) (text_of_place roster job plan))
 
 -- what is told of the job is its place in the plan

@@ -8,13 +8,13 @@ ghost use Rattle.fed_easy.specs.Plan.{plan_reads};
 ghost use Rattle.fed_qstat.specs.Identifier.{text_of_site};
 ghost use Rattle.fed_qstat.specs.JobText.{text_of_holder};
 ghost use Rattle.fed_easy.specs.RosterPlan.{plan_in};
-ghost use Rattle.fed_looks.specs.Why.{line_of_why, obstacle_of, text_of_begun, text_of_behind, text_of_job, text_of_place};
+ghost use Rattle.fed_looks.specs.Why.{line_of_why, obstacle_of, text_of_begun, text_of_behind, text_of_deleted, text_of_job, text_of_place};
 
 use fed_board::Board;
 use fed_easy::{Plan, nodes_of, plan_at};
 use fed_lattice::NoMemory;
 use fed_qstat::{holder_text, holds_text, identifier_text, site_text};
-use fed_record::{Beginning, JobRecord, Moment};
+use fed_record::{Beginning, JobRecord, Moment, Progress};
 use fed_stamp::{JobId, Roster, SiteId, Stamp};
 use std::alloc::{AllocError, Global};
 
@@ -145,6 +145,20 @@ fn waiting_text(
     }
 }
 
+/// Of a job that was deleted: where it runs, as long as it does.
+fn deleted_text(alloc: Global, roster: &Roster, progress: Progress) -> Result<String, AllocError>
+    ensures { IfOk result (λ text. string_bytes text ≡ text_of_deleted roster.now progress.finished progress.begun) }
+{
+    match (progress.finished, progress.begun) {
+        (None, Some((stamp, beginning))) => {
+            let mut text = begun_text(alloc, roster, stamp, beginning)?;
+            text.push_str(", deleted")?;
+            Ok(text)
+        }
+        _ => String::from_str(alloc, "deleted"),
+    }
+}
+
 /// Why a job that the board has stands where it does.
 fn job_text(
     alloc: Global,
@@ -160,10 +174,10 @@ fn job_text(
     ensures { IfOk result (λ text. string_bytes text ≡
         text_of_job roster.now here id (job_reads job.now) (plan_in roster.now (board_reads board.now) here moment)) }
 {
-    if job.deleted() {
-        return Ok(String::from_str(alloc, "deleted")?);
-    }
     let progress = job.progress();
+    if job.deleted() {
+        return Ok(deleted_text(alloc, roster, progress)?);
+    }
     if let Some((_, ending)) = progress.finished {
         return Ok(format!(in alloc; "finished {}", ending.status)?);
     }
@@ -177,7 +191,7 @@ fn job_text(
 /// `finished STATUS`, `begun at SITE since MOMENT on NODES nodes until END`, `held uo`, `granted to SITE` where that is
 /// another site, `not for SITE`, `needs 9 of 8 nodes`, and, by the site's plan at the moment, `starts`,
 /// `head, at SECOND` and `waits behind ID, which starts at SECOND`; `no plan` where no machine may be as the board has
-/// it, which no board of a run has.
+/// it, which no board of a run has. Of a job that was deleted and still runs it tells where it runs, then `, deleted`.
 pub fn why_line(
     alloc: Global,
     roster: &Roster,

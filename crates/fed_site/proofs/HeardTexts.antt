@@ -1,21 +1,17 @@
 -- The text of a packet that tells nothing but what was heard has no line feed, and is read again.
 use Rattle.std.specs.Prelude.{◌^◌, nat_eq, codes, map, Some, option_map}
 use Rattle.std.specs.List.{AllByRecursion, list_any}
-use Rattle.std.proofs.Common.{◌≡◌, ◌<◌, ◌≤◌, ℕ, Bool, true, false, ◌||◌, List, [], ◌∷◌, ◌++◌, refl, ap, ◌∙◌, arith}
+use Rattle.std.proofs.Common.{◌≡◌, ◌<◌, ◌≤◌, ℕ, false, List, [], ◌∷◌, ◌++◌, refl, ap, arith}
 use Rattle.std.proofs.lemmas.Fmt.{IsAscii-decimal}
-use Rattle.std.proofs.lemmas.List.Folds.{list_any-append}
 use Rattle.std.proofs.lemmas.Str.{IsUtf8-append, IsUtf8-from_ascii}
-use Rattle.std.proofs.lemmas.Bool.Decides.{nat_tests}
 use Rattle.std.specs.Fmt.{decimal}
 use Rattle.json.proofs.Printed.Decimals.{IsNumber-decimal}
 use Rattle.json.proofs.Printed.Utf8.{IsUtf8-are_ascii}
 use Rattle.json.specs.Print.{escape_byte}
 use Rattle.serde_json.specs.Data.{Data, number, array, Items}
 use Rattle.serde_json.specs.View.{items_of}
-use Rattle.serde_json.specs.Written.{compact_text, items_text, comma_if}
+use Rattle.serde_json.specs.Written.{compact_text, items_text}
 use Rattle.serde_json.proofs.Numbers.{number_of-decimal}
-use Rattle.fed_words.proofs.Cuts.{Free}
-use Rattle.fed_words.proofs.Texts.{free-decimal}
 use Rattle.fed_model.specs.Ranges.{IsFrom}
 use Rattle.fed_json.specs.Numbers.{natural_value}
 use Rattle.fed_json.specs.Values.{list_value}
@@ -28,6 +24,7 @@ use Rattle.fed_wire.specs.Reading.{text_value}
 use Rattle.fed_wire.proofs.PlainLaws.{text_back}
 use Rattle.fed_wire.proofs.PrintedLaws.{none_printed, more_printed}
 use Rattle.fed_replica.specs.State.{State, hearing}
+use Rattle.fed_site.proofs.JsonLines.{feedless_found, value_feedless}
 
 -- ---- values
 number_printed : (n : ℕ) → n < 2 ^ 64 → IsPrinted (natural_value n)
@@ -52,10 +49,6 @@ array_printed ds h = record {
 
 version_printed : (v : List ℕ) → IsVersion v → IsPrinted (version_value v)
 version_printed v h = array_printed (items_of (map natural_value v)) (numbers_printed v h.1)
-
--- ---- no line feed
-joined_feedless : (xs ys : List ℕ) → list_any (nat_eq 10) xs ≡ false → list_any (nat_eq 10) ys ≡ false → list_any (nat_eq 10) (xs ++ ys) ≡ false
-joined_feedless xs ys e f = list_any-append (nat_eq 10) xs ys ∙ ap (λ b. b || list_any (nat_eq 10) ys) e ∙ f
 
 -- ---- a value of six members
 module _ (format jobs need reached reservations sender : Data) where
@@ -94,34 +87,6 @@ module _ (format jobs need reached reservations sender : Data) where
     back = rw (f.back, j.back, n.back, r.back, s.back, d.back) refl;
   }
 
-  whole_feedless : list_any (nat_eq 10) (compact_text format) ≡ false → list_any (nat_eq 10) (compact_text jobs) ≡ false → list_any (nat_eq 10) (compact_text need) ≡ false → list_any (nat_eq 10) (compact_text reached) ≡ false → list_any (nat_eq 10) (compact_text reservations) ≡ false → list_any (nat_eq 10) (compact_text sender) ≡ false
-      → list_any (nat_eq 10) (compact_text whole) ≡ false
-  unfolding escape_byte
-  whole_feedless f j n r s d =
-      let six : list_any (nat_eq 10) after_reservations ≡ false = joined_feedless (compact_text sender) after_sender d refl in
-      let five : list_any (nat_eq 10) after_reached ≡ false = joined_feedless (compact_text reservations) after_reservations s six in
-      let four : list_any (nat_eq 10) after_need ≡ false = joined_feedless (compact_text reached) after_reached r five in
-      let three : list_any (nat_eq 10) after_jobs ≡ false = joined_feedless (compact_text need) after_need n four in
-      let two : list_any (nat_eq 10) after_format ≡ false = joined_feedless (compact_text jobs) after_jobs j three in
-      joined_feedless (compact_text format) after_format f two
-
-free_feedless : (xs : List ℕ) → Free (nat_eq 10) xs → list_any (nat_eq 10) xs ≡ false
-free_feedless [] h = refl
-free_feedless (x ∷ xs) h = ap (λ b. b || list_any (nat_eq 10) xs) h.0 ∙ free_feedless xs h.1
-
-number_feedless : (n : ℕ) → n < 2 ^ 64 → list_any (nat_eq 10) (decimal n) ≡ false
-number_feedless n low = free_feedless (decimal n) (free-decimal (nat_eq 10) n low (λ c h. grind (arith, nat_tests)))
-
-numbers_feedless : (v : List ℕ) → AllByRecursion (IsFrom 0 1_000_000_000) v → (later : Bool) → list_any (nat_eq 10) (items_text later (items_of (map natural_value v))) ≡ false
-numbers_feedless [] h later = refl
-numbers_feedless (c ∷ v) h later =
-    let low : c ≤ 1_000_000_000 = h.0.1 in
-    joined_feedless (comma_if later) _ (comma later) (joined_feedless (decimal c) _ (number_feedless c (omega arith)) (numbers_feedless v h.1 true))
-  where
-    comma : (later : Bool) → list_any (nat_eq 10) (comma_if later) ≡ false
-    comma true = refl
-    comma false = refl
-
 -- ---- what was heard
 module _ (s : State) (from : ℕ) (low : from < 16) (h : IsVersion (s.heard from)) where
   nothing_printed : IsPrinted (list_value [])
@@ -135,5 +100,4 @@ module _ (s : State) (from : ℕ) (low : from < 16) (h : IsVersion (s.heard from
   heard_read = text_back (hearing s from) (compact_text (packet_value Two (hearing s from))) refl heard_printed
 
   pub heard_feedless : list_any (nat_eq 10) (compact_text (packet_value Two (hearing s from))) ≡ false
-  heard_feedless = whole_feedless (natural_value 2) (list_value []) (version_value (s.heard from)) (version_value (s.heard from)) (list_value []) (natural_value from)
-      (number_feedless 2 (omega arith)) refl (numbers_feedless (s.heard from) h.1 false) (numbers_feedless (s.heard from) h.1 false) refl (number_feedless from (omega arith))
+  heard_feedless = feedless_found (compact_text (packet_value Two (hearing s from))) (value_feedless (packet_value Two (hearing s from)))

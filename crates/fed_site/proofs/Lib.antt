@@ -8,5 +8,6 @@ pub mod Lines
 pub mod LookCases
 pub mod LookValues
 pub mod KnownTexts
+pub mod JsonLines
 pub mod HeardTexts
 pub mod HeardLines

@@ -1,9 +1,9 @@
 -- The entries of a compacted journal are lines.
 use Rattle.std.specs.Prelude.{codes, flat_map, option_map, slice_get, unwrap_or}
 use Rattle.std.specs.Fmt.{decimal}
-use Rattle.std.specs.List.{All, list_all}
+use Rattle.std.specs.List.{All, list_all, list_any}
 use Rattle.std.proofs.Common.{◌≡◌, ℕ, zero, suc, Bool, true, false, List, [], ◌∷◌, ◌++◌, length, refl, sym, subst, arith}
-use Rattle.std.proofs.lemmas.Bool.{and_parts}
+use Rattle.std.proofs.lemmas.Bool.{and_parts, or_parts}
 use Rattle.std.proofs.lemmas.Bool.Decides.{nat_tests}
 use Rattle.std.proofs.lemmas.List.Elements.{All-append, All-cons, All-head, All-nil, All-tail}
 use Rattle.fed_stamp.specs.Roster.{IsRoster, is_site_byte, is_site_name}
@@ -12,12 +12,18 @@ use Rattle.fed_wire.specs.Packet.{packet_value}
 use Rattle.fed_replica.specs.State.{State, hearing}
 use Rattle.fed_qstat.specs.Identifier.{text_of_site}
 use Rattle.fed_site.specs.Rosters.{text_of_roster, word_of_site}
+use Rattle.fed_site.proofs.JsonLines.{IsFeedless, decimal_feedless, feedless-append, feedless-cons, value_feedless}
 use Rattle.fed_journal.specs.Lines.{IsLine, is_line_feed}
 use Rattle.fed_home.specs.Compaction.{AreEntriesOf, heard_texts}
 use Rattle.fed_home.specs.Header.{header_text}
 use Rattle.fed_home.specs.Replay.{Replayed, heard_text}
 use Rattle.fed_turns.proofs.CompactedEntries.{text_if}
-use Rattle.fed_turns.proofs.JsonLines.{IsFeedless, decimal_feedless, feedless-append, feedless-cons, feedless_line, value_feedless}
+
+feedless_line : (text : List ℕ) → IsFeedless text → IsLine text
+feedless_line [] e = All-nil (λ byte. is_line_feed byte ≡ false)
+feedless_line (b ∷ text) e =
+    let parts = or_parts (is_line_feed b) (list_any is_line_feed text) e in
+    All-cons (λ byte. is_line_feed byte ≡ false) b text parts.0 (feedless_line text parts.1)
 
 -- ---- the header, of any site
 site_byte : (b : ℕ) → is_site_byte b ≡ true → is_line_feed b ≡ false

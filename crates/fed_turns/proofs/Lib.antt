@@ -15,6 +15,5 @@ pub mod BeginLines
 pub mod Inside
 pub mod HeaderWords
 pub mod CompactedEntries
-pub mod JsonLines
 pub mod EntryLines
 pub mod Knowing

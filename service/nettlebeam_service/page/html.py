@@ -123,7 +123,7 @@ def reason(view: View, job: Dict[str, Any], starts: Collection[str]) -> str:
     """Why a job stands where it does, as `why` tells it, from one plan for all jobs."""
     nodes, head, begun = view.machine.nodes, view.plan.head, job["begun"]
     if begun:
-        return f"since {at(begun['moment'])}, until {at(begun['end'])} at most"
+        return f"since {at(begun['moment'])}, until {at(begun['end'])} at most" + (", deleted" if job["deleted"] else "")
     if job["id"] in view.waits and "s" in job["holds"]:
         return view.waits[job["id"]]
     if job["holds"]:

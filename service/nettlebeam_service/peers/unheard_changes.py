@@ -32,14 +32,6 @@ def hint(job: str, site: str) -> str:
     return f"{job}: {which} hasn't heard of it yet, so that it may still run there"
 
 
-def running(job: Job) -> str:
-    """Where a job that was deleted runs all the same, or nothing: its site hasn't heard of it, or is ending it."""
-    begun = job["begun"]
-    if not begun or job["finished"]:
-        return ""
-    return f"{job['id']}: it was begun at {begun['site']} at second {begun['moment']}, and runs until {begun['end']} at the latest"
-
-
 class Unheard:
     """Keeps which these are. `is_silent` tells of a site whether it can't be reached now."""
 
@@ -89,7 +81,7 @@ class Unheard:
         """The site's answer to why a job waits, with hints where it is held or deleted."""
         if job is None or not (job["deleted"] or job["letter"] == "H"):
             return answer
-        return answer.with_words(running(job) if job["deleted"] else "", *(await self.of([job["id"]])).values())
+        return answer.with_words(*(await self.of([job["id"]])).values())
 
     async def of(self, jobs: Sequence[str]) -> Dict[str, str]:
         """What people are told of those of these jobs of which the other site hasn't heard yet."""

@@ -1,27 +1,32 @@
 -- The text of a JSON value has no line feed, whatever the value is.
-use Rattle.std.specs.Prelude.{◌/◌, ◌%◌, cond, if◌then◌else◌, nat_lt, ◌==◌}
+use Rattle.std.specs.Prelude.{◌/◌, ◌%◌, cond, if◌then◌else◌, nat_eq, nat_lt, ◌==◌}
 use Rattle.std.specs.Char.{digit_char}
 use Rattle.std.specs.Fmt.{decimal, digit_glyph, digits, digits_onto}
 use Rattle.std.specs.List.{list_any}
 use Rattle.std.proofs.Common.{◌≡◌, ℕ, zero, suc, pos, negsuc, Bool, true, false, ◌||◌, List, [], ◌∷◌, ◌++◌, refl, ap, ◌∙◌, arith}
 use Rattle.std.proofs.lemmas.Bool.{or_parts}
 use Rattle.std.proofs.lemmas.Bool.Decides.{nat_tests}
-use Rattle.std.proofs.lemmas.List.Elements.{All-cons, All-nil}
 use Rattle.std.proofs.lemmas.List.Folds.{list_any-append}
 use Rattle.json.specs.Print.{escape, escape_byte, escape_letter, quoted}
 use Rattle.serde_json.specs.Data.{Num, unsigned, negative, float, Data, null, boolean, number, string, array, object, Items, no_items, item, Members, no_members, member}
 use Rattle.serde_json.specs.Written.{comma_if, compact_text, items_text, members_text, number_text}
-use Rattle.fed_journal.specs.Lines.{IsLine, is_line_feed}
 
 -- a text without a line feed
+abbrev pub is_line_feed : ℕ → Bool
+is_line_feed byte = byte == 10
+
 abbrev pub IsFeedless : List ℕ → Type 0
 IsFeedless text = list_any is_line_feed text ≡ false
 
-pub feedless_line : (text : List ℕ) → IsFeedless text → IsLine text
-feedless_line [] e = All-nil (λ byte. is_line_feed byte ≡ false)
-feedless_line (b ∷ text) e =
+turned : (b : ℕ) → is_line_feed b ≡ false → nat_eq 10 b ≡ false
+turned b e = grind (arith, nat_tests)
+
+-- as the search for a character asks it
+pub feedless_found : (text : List ℕ) → IsFeedless text → list_any (nat_eq 10) text ≡ false
+feedless_found [] e = refl
+feedless_found (b ∷ text) e =
     let parts = or_parts (is_line_feed b) (list_any is_line_feed text) e in
-    All-cons (λ byte. is_line_feed byte ≡ false) b text parts.0 (feedless_line text parts.1)
+    ap (λ here. here || list_any (nat_eq 10) text) (turned b parts.0) ∙ feedless_found text parts.1
 
 pub feedless-cons : (b : ℕ) (text : List ℕ) → is_line_feed b ≡ false → IsFeedless text → IsFeedless (b ∷ text)
 feedless-cons b text e f = ap (λ here. here || list_any is_line_feed text) e ∙ f
