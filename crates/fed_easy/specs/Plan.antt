@@ -1,18 +1,9 @@
 -- Which jobs start now: the front of the queue, and behind the head those that fit beside its time.
 use Rattle.std.specs.Prelude.{ℕ, List, [], ◌∷◌, ◌++◌, drop, length, map, if◌then◌else◌, Option, Some, None}
 use Rattle.fed_stamp.specs.Stamp.{StampValue}
-use Rattle.fed_easy.specs.declared.plans.Plan.{Plan}
+pub use Rattle.fed_model.specs.Plan.{PlanValue, plan_reads}
 use Rattle.fed_easy.specs.declared.queues.QueuedJob.{QueuedJob}
 use Rattle.fed_easy.specs.Use.{end_with, fits, shadow, with_job, with_jobs}
-
--- the jobs that start now, in the order of the queue, and the head with its shadow, if a job is left
-pub record PlanValue : Type 0 where
-  pub starts : List StampValue
-  pub head : Option (StampValue × ℕ)
-
--- what a plan of the code reads as
-abbrev pub plan_reads : Plan → PlanValue
-plan_reads p = record { starts = p.starts.items; head = p.head }
 
 -- the longest prefix of the queue in which each job fits now, after those before it
 abbrev pub front : ℕ → ℕ → (ℕ → ℕ) → List QueuedJob → List QueuedJob

@@ -5,7 +5,6 @@ mod bookings;
 pub mod laws;
 mod machines;
 mod nodes_in_use;
-mod plans;
 mod profiles;
 mod queue_planning;
 mod queues;
@@ -15,8 +14,8 @@ mod sweeps;
 mod use_changes;
 
 pub use bookings::{Booking, reserved_time};
+pub use fed_model::Plan;
 pub use machines::{MAX_RUNNING, Machine, MachineFault, Running, machine_of, running_job};
 pub use nodes_in_use::used_nodes;
-pub use plans::Plan;
 pub use roster_plans::{nodes_of, plan_at, plan_at_without};
 pub use site_planning::{PlanFault, plan, plan_without};

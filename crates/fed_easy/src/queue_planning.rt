@@ -5,10 +5,10 @@ ghost use Rattle.fed_easy.specs.Promises.{IsIdleFrom};
 ghost use Rattle.fed_easy.specs.Profile.{IsProfile, Tells, TellsUntil};
 ghost use Rattle.fed_easy.specs.Use.{with_jobs};
 
-use crate::plans::Plan;
 use crate::profiles::Profile;
 use crate::queues::QueuedJob;
 use fed_lattice::NoMemory;
+use fed_model::Plan;
 use fed_record::MAX_MOMENT;
 use fed_stamp::JobId;
 use std::alloc::Global;

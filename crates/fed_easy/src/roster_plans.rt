@@ -8,10 +8,10 @@ ghost use Rattle.fed_easy.specs.SitePlan.{plan_without as others_planned, site_p
 ghost use Rattle.fed_easy.specs.RosterPlan.{plan_in, plan_in_without};
 
 use crate::machines::{Machine, MachineFault, machine_of};
-use crate::plans::Plan;
 use crate::site_planning::{PlanFault, plan, plan_without};
 use fed_board::Board;
 use fed_lattice::NoMemory;
+use fed_model::Plan;
 use fed_record::Moment;
 use fed_stamp::{JobId, Roster, SiteId};
 use std::alloc::Global;

@@ -9,12 +9,12 @@ ghost use Rattle.fed_easy.specs.Use.{use_at};
 
 use crate::bookings::bookings_of;
 use crate::machines::Machine;
-use crate::plans::Plan;
 use crate::queue_planning::plan_queue;
 use crate::queues::{QueuedJob, queue_of, queue_without};
 use crate::sweeps::profile_of;
 use fed_board::Board;
 use fed_lattice::NoMemory;
+use fed_model::Plan;
 use fed_record::MAX_MOMENT;
 use fed_stamp::{JobId, SiteId};
 use std::alloc::Global;

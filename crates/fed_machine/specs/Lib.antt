@@ -3,5 +3,4 @@ pub mod Machine
 pub mod ChartBars
 pub mod ChartMarks
 pub mod Chart
-pub mod PlanText
 pub mod Planned

@@ -4,7 +4,7 @@ use Rattle.fed_stamp.specs.Stamp.{StampValue}
 use Rattle.fed_model.specs.View.{View}
 use Rattle.fed_easy.specs.RosterPlan.{machine_in, plan_in, plan_in_without}
 use Rattle.fed_easy.specs.SitePlan.{site_plan}
-use Rattle.fed_machine.specs.PlanText.{plan_lines}
+use Rattle.fed_qstat.specs.PlanText.{plan_lines}
 use Rattle.fed_qstat.specs.Outcome.{answer_line}
 
 -- the lines of a plan, where there is one

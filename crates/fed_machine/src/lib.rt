@@ -6,11 +6,9 @@ mod chart;
 mod chart_bars;
 mod chart_marks;
 mod machines;
-mod plan_texts;
 mod planned_texts;
 
 pub use chart::chart_svg;
 pub use chart_bars::{Bar, Kind, bars_at};
 pub use machines::{Reserved, RunningJob, free_nodes, machine_lines, reserved_at, runs_at};
-pub use plan_texts::plan_text;
 pub use planned_texts::{plan_line, plan_lines, plan_text_without};

@@ -4,11 +4,10 @@ ghost use Rattle.std.specs.Cow.{cow_str_bytes};
 ghost use Rattle.fed_board.specs.Board.{board_reads};
 ghost use Rattle.fed_machine.specs.Planned.{plan_if_any, text_of_plan, text_of_plan_without};
 
-use crate::plan_texts::plan_text;
 use fed_board::Board;
 use fed_easy::{plan_at, plan_at_without};
 use fed_lattice::NoMemory;
-use fed_qstat::AnswerText;
+use fed_qstat::{AnswerText, plan_text};
 use fed_record::Moment;
 use fed_stamp::{JobId, Roster, SiteId};
 use std::alloc::Global;

@@ -22,6 +22,8 @@ pub mod Desk
 pub mod Refusals
 pub mod Refusal
 pub mod Answer
+-- What a plan says.
+pub mod Plan
 -- What happens: packets, and runs of events at all sites.
 pub mod Packet
 pub mod Run

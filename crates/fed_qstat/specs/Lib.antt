@@ -7,4 +7,5 @@ pub mod Layout
 pub mod Listed
 pub mod Listing
 pub mod Outcome
+pub mod PlanText
 pub mod Short

@@ -10,6 +10,7 @@ mod listing_texts;
 mod listings;
 mod outcomes;
 mod padding;
+mod plan_texts;
 mod short_lines;
 
 pub use attributes::{hold_letters, holder_text, holds_text, letter_sign};
@@ -17,3 +18,4 @@ pub use identifiers::{identifier_text, site_text};
 pub use listing_texts::listing_text;
 pub use listings::{full, list};
 pub use outcomes::{AnswerText, outcome_line, usage_line};
+pub use plan_texts::plan_text;

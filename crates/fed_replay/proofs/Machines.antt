@@ -10,7 +10,7 @@ use Rattle.fed_easy.specs.SitePlan.{site_plan}
 use Rattle.fed_model.specs.Limits.{IsWithinLimits}
 use Rattle.fed_easy.specs.RosterPlan.{machine_in}
 use Rattle.fed_machine.specs.Planned.{plan_or_none, planned, text_of_plan}
-use Rattle.fed_machine.specs.PlanText.{plan_lines}
+use Rattle.fed_qstat.specs.PlanText.{plan_lines}
 use Rattle.fed_replay.proofs.RunMachines.{machine_within}
 
 -- nothing is wrong with the machine of a site of the roster whose operations are within limits

@@ -1,5 +1,4 @@
 -- What sites answer, for callers too.
-pub mod FirstCases
 pub mod RemovedPairs
 pub mod Unrefused
 pub mod StepLaws

@@ -6,12 +6,11 @@ ghost use Rattle.fed_board.specs.Board.{board_reads};
 ghost use Rattle.fed_model.specs.Answer.{answer_to};
 ghost use Rattle.fed_replica.specs.Step.{answer_by};
 
-use crate::desks::decide_on;
 use crate::effects::{beginning, granted_term};
 use crate::jobs::{is_held_up, last_term};
 use crate::steps::{Step, next_stamp};
 use fed_board::Board;
-use fed_model::Decision;
+use fed_desk::{Decision, decide_on};
 use fed_record::{Ending, JobOperation, Moment, Operation, Refusal, Reply, Term};
 use fed_stamp::{JobId, SiteId};
 

@@ -2,10 +2,8 @@
 #![tactic(auto)]
 
 mod answers;
-mod cases;
 mod commands;
 mod counts;
-mod desks;
 mod effects;
 mod grant_steps;
 mod job_steps;
@@ -17,8 +15,6 @@ pub mod retire_steps;
 mod steps;
 
 pub use answers::{Answered, Received};
-pub use cases::first_refusal;
 pub use counts::counts_are_read;
-pub use desks::{decide, decide_on, grant_refusal};
-pub use fed_model::{Decision, Taken};
+pub use fed_model::Taken;
 pub use replicas::Replica;

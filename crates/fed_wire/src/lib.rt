@@ -15,5 +15,6 @@ pub mod texts;
 mod writing;
 
 pub use faults::{Part, Place, WireFault};
+pub use fed_delta::Packet;
 pub use laws::told_packets_are_within_limits;
 pub use texts::{read, write};

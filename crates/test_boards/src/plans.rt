@@ -3,8 +3,7 @@
 //! Nth.
 use fed_board::Board;
 use fed_easy::{Machine, MachineFault, Plan, PlanFault, machine_of, plan, plan_without};
-use fed_machine::plan_text;
-use fed_qstat::{full, list};
+use fed_qstat::{full, list, plan_text};
 use fed_record::{Beginning, JobOperation, JobValues, Limit, Moment, Nodes, Operation, Term};
 use fed_stamp::{Roster, SiteSet, Word};
 use std::process::Abort;

@@ -1,4 +1,4 @@
-//! What plans tell.
+//! What a plan says.
 use fed_stamp::JobId;
 
 /// Which jobs start now, and when the first of the others is to start.

@@ -3,7 +3,7 @@ use Rattle.std.proofs.Common.{◌≡◌, sym}
 use Rattle.fed_model.specs.declared.refusals.Refusal.{Refusal}
 use Rattle.fed_model.specs.declared.decisions.Decision.{Decision}
 use Rattle.fed_model.specs.Desk.{decision_unless}
-use Rattle.fed_replica.proofs.desks.grant_refusal.Goals as goal
+use Rattle.fed_desk.proofs.desks.grant_refusal.Goals as goal
 
 -- a decision that refuses does so by the first refusal that applies
 first_refused : (first : Option Refusal) (is_yours : Bool) (refusal : Refusal) → decision_unless first is_yours ≡ Decision.Refused refusal → Some refusal ≡ first

@@ -1,5 +1,5 @@
-use Rattle.fed_replica.proofs.FirstCases.{applies_first, applies_not}
-use Rattle.fed_replica.proofs.cases.first_refusal.Goals as goal
+use Rattle.fed_desk.proofs.FirstCases.{applies_first, applies_not}
+use Rattle.fed_desk.proofs.cases.first_refusal.Goals as goal
 
 pub returns-then-applies : goal.returns-then-applies
 returns-then-applies c =

@@ -1,11 +1,11 @@
 //! The text of a plan.
 ghost use Rattle.std.specs.Prelude.{◌≡◌, IfOk, flat_map, string_bytes};
-ghost use Rattle.fed_easy.specs.Plan.{plan_reads};
-ghost use Rattle.fed_machine.specs.PlanText.{head_of, line_of_start, plan_lines};
+ghost use Rattle.fed_model.specs.Plan.{plan_reads};
+ghost use Rattle.fed_qstat.specs.PlanText.{head_of, line_of_start, plan_lines};
 
-use fed_easy::Plan;
+use crate::identifiers::identifier_text;
 use fed_lattice::NoMemory;
-use fed_qstat::identifier_text;
+use fed_model::Plan;
 use fed_stamp::{JobId, Roster};
 use std::alloc::{AllocError, Global};
 

@@ -2,7 +2,7 @@
 use Rattle.std.specs.Prelude.{ℕ, List, [], ◌∷◌, ◌++◌, codes, flat_map, Option, Some, None}
 use Rattle.std.specs.Fmt.{decimal}
 use Rattle.fed_stamp.specs.Stamp.{StampValue}
-use Rattle.fed_easy.specs.Plan.{PlanValue}
+use Rattle.fed_model.specs.Plan.{PlanValue}
 use Rattle.fed_qstat.specs.Identifier.{text_of_identifier}
 
 -- the line of a job that starts

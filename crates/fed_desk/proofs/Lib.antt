@@ -1,0 +1,2 @@
+-- How the first case of a table is found.
+pub mod FirstCases
