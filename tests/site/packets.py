@@ -68,7 +68,7 @@ READ: list[Case] = [
 FAULTS: list[Case] = [
     (put(EMPTY, old, new), answer)
     for old, new, answer in (
-        ('"format":1', '"format":7', "unread 2 7\n"), ('"format":1', '"format":4', "unread 2 4\n"), ('"format":1', '"format":-1', "unread 3 whole 0\n"),
+        ('"format":1', '"format":7', "unread 2 7\n"), ('"format":1', '"format":3', "unread 2 3\n"), ('"format":1', '"format":4', "unread 2 4\n"), ('"format":1', '"format":-1', "unread 3 whole 0\n"),
         ('"sender":0', '"sender":0,"x":0', "unread 3 whole 0\n"), ('"sender":0', '"sender":16', "unread 4 sender 0\n"),
         ('"sender":0', '"sender":1.0', "unread 3 sender 0\n"), ('"sender":0', '"sender":0,"sender":16', "unread 4 sender 0\n"),
         ('"reached":[0,', '"reached":[', "unread 3 reached 0\n"), ('"reached":[0,0', '"reached":[0,-1', "unread 4 reached 1\n"),
@@ -92,7 +92,7 @@ FAULTS: list[Case] = [
     (put(RESERVED, '"id":[1,0]', '"id":[2,0]'), "unread 4 reservations 0\n"), (put(RESERVED, "[1,0]]}", "[2,0]]}"), "unread 4 reservations 0\n"),
     (beside(IN_TWO, SITES), "unread 4 retired 0\n"), (beside(RESERVED, SITES), "unread 4 retired 0\n"), (apart(1001), "unread 4 retired 0\n"),
     (put(RETIRED, '"format":3', '"format":2'), "unread 3 whole 0\n"), (put(RETIRED, '"format":3', '"format":1'), "unread 3 whole 0\n"),
-    (put(RETIRED, f'"retired":{SITES},', ""), "unread 3 whole 0\n"), (put(RETIRED, '"format":3', '"format":4'), "unread 2 4\n"),
+    (put(RETIRED, f'"retired":{SITES},', ""), "unread 2 3\n"), (put(RETIRED, '"format":3', '"format":4'), "unread 2 4\n"),
     # a megabyte of brackets, nesting beyond 127, and numbers beyond 64 bits, in no form and beyond all floats
     ((1 << 20) * "[", UNREAD), ((1 << 17) * '{"jobs":', UNREAD), (sent_by(126 * "[" + 126 * "]"), "unread 3 sender 0\n"), (sent_by(127 * "[" + 127 * "]"), UNREAD),
     (sent_by("18446744073709551615"), "unread 4 sender 0\n"), (sent_by("18446744073709551616"), "unread 3 sender 0\n"),

@@ -1,6 +1,6 @@
 -- Packets are read as what they are the values of.
 use Rattle.std.proofs.Common.{◌≡◌, ℕ, suc, eqb, leb, Bool, true, false, cond, List, [], ◌∷◌, ◌++◌, length, map, Option, Some, None, Result, Ok, Err, refl, sym, ap, subst, ◌∙◌, append_assoc, ap₂}
-use Rattle.std.specs.Prelude.{codes, option_and_then}
+use Rattle.std.specs.Prelude.{codes, is_some, option_and_then, ◌&&◌}
 use Rattle.std.specs.List.{AllByRecursion}
 use Rattle.std.specs.Map.{keys_of}
 use Rattle.std.proofs.lemmas.Bool.{and_parts, eqb-true}
@@ -316,11 +316,11 @@ Said = Format × Bool
 abbrev IsSaid : ℕ → Said → Type 0
 IsSaid n said = (n ≡ number_from said.0 said.1) × HasFormat said.0 said.1
 
-format_number : (n : ℕ) (b c e : Bool) (said : Said) → eqb n 1 ≡ b → eqb n 2 ≡ c → eqb n 3 ≡ e → cond b (Ok (One, false)) (cond c (Ok (Two, false)) (cond e (Ok (Two, true)) (Err (Version n)))) ≡ Ok said → IsSaid n said
-format_number n true c e said is_one is_two is_three h = subst (IsSaid n) (ok_is (One, false) said h) (eqb-true n 1 is_one, refl)
-format_number n false true e said is_one is_two is_three h = subst (IsSaid n) (ok_is (Two, false) said h) (eqb-true n 2 is_two, tt)
-format_number n false false true said is_one is_two is_three h = subst (IsSaid n) (ok_is (Two, true) said h) (eqb-true n 3 is_three, tt)
-format_number n false false false said is_one is_two is_three h = absurd cc
+format_number : (told : Bool) (n : ℕ) (b c e : Bool) (said : Said) → eqb n 1 ≡ b → eqb n 2 ≡ c → (eqb n 3 && told) ≡ e → cond b (Ok (One, false)) (cond c (Ok (Two, false)) (cond e (Ok (Two, true)) (Err (Version n)))) ≡ Ok said → IsSaid n said
+format_number told n true c e said is_one is_two is_three h = subst (IsSaid n) (ok_is (One, false) said h) (eqb-true n 1 is_one, refl)
+format_number told n false true e said is_one is_two is_three h = subst (IsSaid n) (ok_is (Two, false) said h) (eqb-true n 2 is_two, tt)
+format_number told n false false true said is_one is_two is_three h = subst (IsSaid n) (ok_is (Two, true) said h) (eqb-true n 3 (and_parts (eqb n 3) told is_three).0, tt)
+format_number told n false false false said is_one is_two is_three h = absurd cc
 
 member_number : (o : Option Data) (n : ℕ) → option_and_then as_u64 (option_and_then as_number o) ≡ Some n → o ≡ Some (natural_value n)
 member_number (Some d) n e = ap (λ (d : Data). Some d) (whole_takes d n e)
@@ -328,8 +328,9 @@ member_number None n e = absurd cc
 
 format_takes : (d : Data) (said : Said) → format_in d ≡ Ok said → (get (codes "format") d ≡ Some (natural_value (number_from said.0 said.1))) × HasFormat said.0 said.1
 format_takes d said e =
-    let n = bind_ok (or_fault (Shape (place Whole 0)) (option_and_then as_u64 (option_and_then as_number (get (codes "format") d)))) format_from said e in
-    let is = format_number n.0 (eqb n.0 1) (eqb n.0 2) (eqb n.0 3) said refl refl refl n.2 in
+    let told : Bool = is_some (get (codes "retired") d) in
+    let n = bind_ok (or_fault (Shape (place Whole 0)) (option_and_then as_u64 (option_and_then as_number (get (codes "format") d)))) (format_from told) said e in
+    let is = format_number told n.0 (eqb n.0 1) (eqb n.0 2) (eqb n.0 3 && told) said refl refl refl n.2 in
     (member_number (get (codes "format") d) n.0 (or_fault_ok (Shape (place Whole 0)) _ n.0 n.1) ∙ ap (λ (n : ℕ). Some (natural_value n)) is.0, is.1)
 
 pub packet_takes : (d : Data) (p : PacketValue) → packet_of d ≡ Ok p → (format : Format) × (d ≡ packet_value format p) × IsPacket format p

@@ -1,5 +1,5 @@
 -- Reading a packet: the packet, or the first fault in the order of the checks.
-use Rattle.std.specs.Prelude.{ℕ, suc, Bool, true, false, ◌==◌, List, [], ◌∷◌, ◌++◌, length, codes, nat_le, if◌then◌else◌, Option, Some, None, option_and_then, Result, Ok, Err}
+use Rattle.std.specs.Prelude.{ℕ, suc, Bool, true, false, ◌==◌, ◌&&◌, is_some, List, [], ◌∷◌, ◌++◌, length, codes, nat_le, if◌then◌else◌, Option, Some, None, option_and_then, Result, Ok, Err}
 use Rattle.std.specs.Str.{is_utf8}
 use Rattle.std.specs.Map.{keys_of}
 use Rattle.serde_json.specs.Data.{Data, array}
@@ -123,12 +123,12 @@ body_in format told d = do
   retired ← retired_in told reached jobs reservations d
   Ok (record { sender = sender; delta = record { need = need; changes = record { version = reached; retired = retired; jobs = jobs; reservations = reservations } } })
 
--- how jobs are said, and whether what is retired is
-abbrev pub format_from : ℕ → Result (Format × Bool) WireFault
-format_from n = if n == 1 then Ok (One, false) else (if n == 2 then Ok (Two, false) else (if n == 3 then Ok (Two, true) else Err (Version n)))
+-- how jobs are said, and whether what is retired is: 3 is the number of a format only of a text that has that member
+abbrev pub format_from : Bool → ℕ → Result (Format × Bool) WireFault
+format_from told n = if n == 1 then Ok (One, false) else (if n == 2 then Ok (Two, false) else (if (n == 3) && told then Ok (Two, true) else Err (Version n)))
 
 abbrev pub format_in : Data → Result (Format × Bool) WireFault
-format_in d = or_fault (Shape (place Whole 0)) (option_and_then as_u64 (option_and_then as_number (get (codes "format") d))) >>= format_from
+format_in d = or_fault (Shape (place Whole 0)) (option_and_then as_u64 (option_and_then as_number (get (codes "format") d))) >>= format_from (is_some (get (codes "retired") d))
 
 abbrev pub packet_names : Bool → List (List ℕ)
 packet_names false = codes "format" ∷ codes "jobs" ∷ codes "need" ∷ codes "reached" ∷ codes "reservations" ∷ codes "sender" ∷ []

@@ -56,14 +56,14 @@ pub(crate) fn body(
     Ok(Packet::new(sender, delta))
 }
 
-// How the jobs of the packet are said, and whether what is retired is.
+// How the jobs of the packet are said, and whether what is retired is. The number 3 is that of a format only if it is.
 fn format(packet: &Value) -> Result<(Format, bool), WireFault>
     ensures { result ≡ format_in (view packet.now) }
 {
     match packet.get("format").and_then(Value::as_u64) {
         Some(1) => Ok((Format::One, false)),
         Some(2) => Ok((Format::Two, false)),
-        Some(3) => Ok((Format::Two, true)),
+        Some(3) if packet.get("retired").is_some() => Ok((Format::Two, true)),
         Some(number) => Err(WireFault::Version(number)),
         None => Err(WireFault::Shape { place: WHOLE }),
     }

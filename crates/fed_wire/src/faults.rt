@@ -41,8 +41,8 @@ pub enum WireFault {
     /// 1: the bytes are no JSON text.
     #[error("the bytes are no JSON text")]
     NotJson,
-    /// 2: the text is of another format.
-    #[error("the format {0} is none of 1, 2 and 3")]
+    /// 2: the text is of another format than 1, 2 and 3, or of format 3 and has no member `retired`.
+    #[error("the text is of format {0}, which is not read")]
     Version(u64),
     /// 3: a value is not of the form that stands in its place.
     #[error("a value of another form at {place:?}")]
