@@ -7,7 +7,7 @@ use fed_main::RunFault;
 /// How a run of the program ended.
 #[derive(Clone, Copy, Debug, PartialEq, Eq)]
 pub enum RunEnd {
-    /// The script was run to its end, or the version was told.
+    /// The script was run to its end.
     Ran,
     /// The line with this number, from 1, can't be read. In a replay the answers of the lines before it are written.
     UnreadableLine(u64),
