@@ -200,8 +200,11 @@ def strangers(tally, sites):
         told = read_frame(io.BytesIO(sites.run("serve", "--frames", site, text=line)[1].encode()))
         tally.same(f"take from {name} at {site}", (told[:2], told[2].startswith(words)), ((status, output), True))
         tally.same(f"and what is kept of it", sites.journal(site) != before, status == 0)
-        asked = sites.run("at", site, "take", text=line[len("take ") :])
-        tally.same(f"take from {name} at {site}, by at", (asked[0], asked[1] in (output, "known\n")), (status, True))
+        for words_of_line, text in ((("take",), f"from {name} {packet}"), (("take", "from", name), packet)):
+            asked = sites.run("at", site, *words_of_line, text=text.encode())
+            tally.same(f"{' '.join(words_of_line)} {name} at {site}, by at", (asked[0], asked[1] in (output, "known\n")), (status, True))
+    status, found, _ = sites.run("at", "argonne", "take", "from", "le mont", text=handed[2].encode())
+    tally.same("take from what is no word", (status, found), (1, "cannot be read\n"))
     for text, output in ([b"{}", "unread 3 whole 0\n"], [b"", "unread 1\n"], [b'{"format":4}\n', "unread 2 4\n"], [first + b"\n", "cannot be read\n"]):
         status, found, errors = sites.run("at", "argonne", "take", text=text)
         tally.same(f"take of {text[:20]}", (status, found, errors.count("\n")), (1, output, 1))

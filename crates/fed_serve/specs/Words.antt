@@ -1,5 +1,5 @@
 -- A line whose words are given apart.
-use Rattle.std.specs.Prelude.{ℕ, Bool, ◌&&◌, ◌||◌, ◌==◌, ◌-◌, nat_lt, not, List, [], ◌∷◌, ◌++◌, length, take, codes, if◌then◌else◌}
+use Rattle.std.specs.Prelude.{ℕ, Bool, ◌&&◌, ◌||◌, ◌==◌, ◌-◌, nat_lt, not, List, [], ◌∷◌, ◌++◌, length, take, if◌then◌else◌}
 use Rattle.std.specs.List.{join_by, list_all, slice_index}
 
 -- a byte that parts words, or ends a line
@@ -17,6 +17,6 @@ line_of words = if list_all is_word words then join_by (λ word. word) (32 ∷ [
 abbrev pub without_line_feed : List ℕ → List ℕ
 without_line_feed text = if slice_index text (length text - 1) == 10 then take (length text - 1) text else text
 
--- the line that takes a packet
-abbrev pub take_line_of : List ℕ → List ℕ
-take_line_of input = codes "take " ++ without_line_feed input
+-- the line that takes a packet, whose text stands after these words
+abbrev pub take_line_of : List (List ℕ) → List ℕ → List ℕ
+take_line_of words input = line_of words ++ 32 ∷ without_line_feed input

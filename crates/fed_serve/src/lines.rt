@@ -49,11 +49,13 @@ pub fn line_of_words(alloc: Global, words: &[&str]) -> Result<Vec<u8>, AllocErro
     }
 }
 
-/// The line that takes the packet whose text this input is. One line feed at its end is left out.
-pub fn take_line(alloc: Global, input: &[u8]) -> Result<Vec<u8>, AllocError>
-    ensures { IfOk result (λ line. line.items ≡ take_line_of input.now) }
+/// The line of these words, as `take` or `take from NAME`, and after them the packet whose text this input is. One line
+/// feed at its end is left out. If the words are none of a line, the line can't be read.
+pub fn take_line(alloc: Global, words: &[&str], input: &[u8]) -> Result<Vec<u8>, AllocError>
+    ensures { IfOk result (λ line. line.items ≡ take_line_of (map (λ word. word.now) words.now) input.now) }
 {
-    let mut line = b"take ".to_vec(alloc)?;
+    let mut line = line_of_words(alloc, words)?;
+    line.push(b' ')?;
     line.extend_from_slice(input.strip_suffix(b"\n".as_slice()).unwrap_or(input))?;
     Ok(line)
 }

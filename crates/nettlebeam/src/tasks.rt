@@ -32,10 +32,12 @@ fn read_input(streams: &(impl Input + AllocGlobal)) -> Result<Vec<u8>, Fault> {
     Ok(text)
 }
 
-/// The line of these words. A lone `take` takes the packet of standard input.
+/// The line of these words. If `take` or `take from NAME` are all, it takes the packet of standard input.
 fn read_line(streams: &(impl Input + AllocGlobal), words: &[&str]) -> Result<Vec<u8>, Fault> {
     match words {
-        ["take"] => Ok(take_line(streams.alloc(), &read_input(streams)?)?),
+        ["take"] | ["take", "from", _] => {
+            Ok(take_line(streams.alloc(), words, &read_input(streams)?)?)
+        }
         _ => Ok(line_of_words(streams.alloc(), words)?),
     }
 }

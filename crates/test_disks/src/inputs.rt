@@ -269,8 +269,16 @@ fn words_make_a_line(rt: HostRuntime) -> Result<(), Fail> {
         (b"", b"take "),
     ];
     for (text, line) in texts {
-        assert_eq!(rt; take_line(alloc, text)?.as_slice(), line);
+        assert_eq!(rt; take_line(alloc, &["take"], text)?.as_slice(), line);
     }
+    assert_eq!(rt;
+        take_line(alloc, &["take", "from", "lemont"], b"{}\n")?.as_slice(),
+        b"take from lemont {}"
+    );
+    assert_eq!(rt;
+        take_line(alloc, &["take", "from", "le mont"], b"{}")?.as_slice(),
+        b"\0 {}"
+    );
     Ok(())
 }
 
