@@ -95,7 +95,7 @@ def streams(tally, sites):
 
 
 def tails(tally, sites):
-    """What was left behind the gate twice, each of which is kept."""
+    """What was left behind the gate twice, each of which is kept; and once without room for it, of which no part is."""
     sites.make(TWO[:1])
     for number, tail in ((1, b" 0123 ann q"), (2, b" 4567 bob")):
         with open(f"{sites.folder}/argonne/journal", "ab") as file:
@@ -104,6 +104,17 @@ def tails(tally, sites):
         tally.same(f"opened behind tail {number}", sites.run("at", "argonne", "ann", "qsub")[:2], (0, f"{number}.argonne\n"))
         with open(f"{sites.folder}/argonne/journal.cut-{number}", "rb") as file:
             tally.same(f"tail {number}", file.read(), tail)
+    tail = b" 89ab " + 3_000 * b"x"
+    with open(f"{sites.folder}/argonne/journal", "ab") as file:
+        file.write(tail)
+    for words, status in ((["ann", "qstat"], 0), (["ann", "qsub"], 3)) * 2:
+        found = sites.run("at", "argonne", *words, preexec_fn=limited(FSIZE=1_000))
+        tally.same(f"{words[1]} without room for the tail: {found[2]!r}", found[0], status)
+    kept = sorted(name for name in os.listdir(f"{sites.folder}/argonne") if name.startswith("journal.cut-"))
+    tally.same("no part of it is kept", (kept, sites.journal("argonne").endswith(tail)), (["journal.cut-1", "journal.cut-2"], True))
+    tally.same("with room", sites.run("at", "argonne", "ann", "qsub")[:2], (0, "3.argonne\n"))
+    with open(f"{sites.folder}/argonne/journal.cut-3", "rb") as file:
+        tally.same("the tail", file.read(), tail)
 
 
 def unkept_entries(tally, sites):

@@ -7,8 +7,8 @@ ghost use Rattle.fed_home.specs.Home.{IsOpen, IsReplayed, gate_of};
 use crate::faults::Fault;
 use fed_home::Home;
 use fed_journal::{Device, FileDevice, OpenFault, keep};
-use std::fs::{File, Files};
-use std::io::{self, ErrorKind};
+use std::fs::{self, File, Files};
+use std::io::{self, ErrorKind, Read};
 use std::path::Path;
 use std::thread;
 use std::time::{Clock, Duration};
@@ -60,7 +60,26 @@ pub fn open_device<R: Files<File = File> + Clock + AllocGlobal + Clone + Drop>(
     Err(Fault::InUse)
 }
 
-/// Keeps what is to be cut in the file of this number, and says so: not where the file has something.
+/// Removes the file of this name if it has what is to be cut, or a part of it: the journal has it all still.
+fn remove_part<R: Files<File = File> + AllocGlobal>(
+    rt: &R,
+    directory: &str,
+    name: &str,
+    cut: &[u8],
+) -> io::Result<()> {
+    let path = Path::new(directory).join(rt.alloc(), name)?;
+    let mut text = Vec::new(rt.alloc());
+    File::open(rt, path.as_path())?
+        .take(cut.len() as u64 + 1)
+        .read_to_end(&mut text)?;
+    if cut.starts_with(&text) {
+        fs::remove_file(rt, path.as_path())?;
+    }
+    Ok(())
+}
+
+/// Keeps what is to be cut in the file of this number, and says so: not if the file has something. If it can't be kept, as on
+/// a full disk, no part of it stays: else each further try would leave one more.
 fn keep_in<R: Files<File = File> + AllocGlobal + Clone + Drop>(
     rt: &R,
     directory: &str,
@@ -69,7 +88,14 @@ fn keep_in<R: Files<File = File> + AllocGlobal + Clone + Drop>(
 ) -> Result<bool, Fault> {
     let name = format!(in rt.alloc(); "{CUT}{number}")?;
     let mut device = FileDevice::make(rt, directory, name.as_str())?;
-    Ok(keep(rt.alloc(), &mut device, cut)?)
+    match keep(rt.alloc(), &mut device, cut) {
+        Ok(kept) => Ok(kept),
+        Err(fault) => {
+            // what is to be said is why it can't be kept
+            let _ = remove_part(rt, directory, name.as_str(), cut);
+            Err(Fault::from(fault))
+        }
+    }
 }
 
 /// Keeps what is to be cut in the first of the files `journal.cut-1`, `journal.cut-2` .. that isn't there, or is empty, and
