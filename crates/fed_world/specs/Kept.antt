@@ -38,7 +38,8 @@ pub record IsSentOf (p : Packet) (sent : PacketValue) : Type 0 where
   pub need : sent.delta.need ≡ p.need
   pub cut : board_reads sent.delta.changes ≡ cut (view p.gives) p.need
 
--- the format 2 text of a packet within limits that is sent of it, and that is read as its value again
+-- the text, of format 3 if something is retired in it and else of format 2, of a packet within limits that is sent of it;
+-- the text is read as its value again
 pub record IsTextOf (p : Packet) (bytes : List ℕ) : Type 0 where
   pub sent : PacketValue
   pub stands : IsSentOf p sent

@@ -106,9 +106,9 @@ impl World {
         self.texts.len() as u64
     }
 
-    /// The text of the packet with the number, or `None` where none was made with it: packets are numbered from 1, in
-    /// the order in which they were made. It is the format 2 text of the packet that is sent of what the run's packet
-    /// gives, is within limits, and so is read as that packet again.
+    /// The text of the packet with the number, or `None` if none was made with it: packets are numbered from 1, in the
+    /// order in which they were made. It is the text, of format 3 if something is retired in it and else of format 2, of
+    /// the packet that is sent of what the run's packet gives; it is within limits, and so is read as that packet again.
     pub fn text(&self, packet: u64) -> Option<&[u8]>
         ensures { MatchOption (option_copied result) (packet_of (run_of self.now.sites self.now.events) packet ≡ None)
             (λ t. (p : Packet) × (packet_of (run_of self.now.sites self.now.events) packet ≡ Some p) × IsTextOf p t) }
