@@ -6,9 +6,9 @@
 /// Boards and deltas.
 #[cfg(test)]
 mod boards;
-/// Texts of packets that are cut or changed.
+/// Texts of packets in format 1, also cut and changed.
 #[cfg(test)]
-mod bytes;
+mod format_one;
 /// The laws of values that merge, four deep.
 #[cfg(test)]
 mod laws;
