@@ -1,7 +1,7 @@
 //! Scripts whose lines are the events of a world: what their packets need and reach, and that each packet is read and written
 //! again as the same text.
-use fed_record::{Command, Command, Reply, Reply, Who, Who};
-use fed_replica::{Taken, Taken};
+use fed_record::{Command, Reply, Who};
+use fed_replica::Taken;
 use fed_script::{Line, read_later_line};
 use fed_stamp::{JobId, Roster, SiteId, Stamp, Version};
 use fed_wire::{read, write};
@@ -133,7 +133,7 @@ fn say(rt: &(impl Abort + AllocGlobal), world: &mut World, roster: &Roster, line
         } => ask(rt, world, site, who, &commands),
         Line::Ship { site, to } => happen(rt, world, &Event::Ship { site, to }),
         Line::Take { site, packet } => happen(rt, world, &Event::Take { site, packet }),
-        _ => assert!(rt; false, "{line}"),
+        _ => panic!(rt; "{line}"),
     }
 }
 
