@@ -478,6 +478,11 @@ class Site:
         seconds = {second} | {start for start, _, _ in spans if second < start < end}
         return all(use_at(it, spans) + job.value("nodes") <= nodes for it in seconds)
 
+    def seconds_from(self, moment, spans):
+        """The seconds at which a job may first fit: one that doesn't fit at a second fits at the next only if some use ends
+        there."""
+        return sorted({moment} | {end for _, end, _ in spans if end > moment})
+
     def plan(self, moment, left_out=()):
         """The text of the plan without some jobs: those that start at the moment, and the head with the second at which it
         can."""
@@ -490,9 +495,7 @@ class Site:
         if not queue:
             return text
         head = queue.pop(0)
-        # a job that doesn't fit at a second fits at the next only where some use ends there
-        seconds = sorted({moment} | {end for _, end, _ in spans if end > moment})
-        shadow = next(second for second in seconds if self.fits(head, second, spans))
+        shadow = next(second for second in self.seconds_from(moment, spans) if self.fits(head, second, spans))
         spans.append((shadow, shadow + head.value("limit"), head.value("nodes")))
         for job in queue:
             if self.fits(job, moment, spans):
@@ -556,6 +559,30 @@ class Site:
             return Answer("cannot be read\n")
         answer = self.say(said)
         return answer._replace(text=self.text_of(answer.packet)) if answer.packet else answer
+
+
+class SiteBySeconds(Site):
+    """A site that plans by looking at one second after another, wherever the use of its nodes rises or falls."""
+
+    def __init__(self, roster, number, seconds=None):
+        """The seconds that are looked at, ascending, or None for all."""
+        super().__init__(roster, number)
+        self.seconds = seconds
+
+    def looked_at(self, start, end):
+        """The seconds that are looked at, from the start until before the end."""
+        if self.seconds is None:
+            return range(start, end)
+        return [second for second in self.seconds if start <= second < end]
+
+    def fits(self, job, second, spans):
+        """Whether a job fits at a second: whether its nodes are free at each second of its time."""
+        free = self.roster.nodes[self.number] - job.value("nodes")
+        return all(use_at(it, spans) <= free for it in self.looked_at(second, second + job.value("limit")))
+
+    def seconds_from(self, moment, spans):
+        """The seconds at which a job may first fit: all, until the last use has ended."""
+        return self.looked_at(moment, 1 + max(end for _, end, _ in spans))
 
 
 def ranges_of(counters):
@@ -638,9 +665,9 @@ def packet_text(sender, need, reached, jobs, reservations, retired):
 class Federation:
     """All sites of a script, and the packets between them."""
 
-    def __init__(self, roster):
+    def __init__(self, roster, kind=Site):
         self.roster = roster
-        self.sites = [Site(roster, number) for number in range(len(roster.names))]
+        self.sites = [kind(roster, number) for number in range(len(roster.names))]
         self.packets = []
 
     def answer(self, words):
@@ -678,8 +705,8 @@ class Federation:
         return frozenset(self.site(name).operations)
 
 
-def replay(script):
-    """What a replay of a script writes, and the number of the first line that can't be read, or None."""
+def replay(script, kind=Site):
+    """What a replay of a script writes, at sites of a kind, and the number of the first line that can't be read, or None."""
     federation, text = None, []
     lines = script.split(b"\n")
     for number, line in enumerate(lines, 1):
@@ -691,7 +718,7 @@ def replay(script):
             if federation is None:
                 if words[0] != "roster":
                     raise Unread
-                federation = Federation(read_roster(words[1:]))
+                federation = Federation(read_roster(words[1:]), kind)
             else:
                 text.append(federation.answer(words))
         except Unread:

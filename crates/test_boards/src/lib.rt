@@ -6,6 +6,21 @@
 /// Boards and deltas.
 #[cfg(test)]
 mod boards;
+/// Texts of packets in format 1, also cut and changed.
+#[cfg(test)]
+mod format_one;
+/// The laws of values that merge, four deep.
+#[cfg(test)]
+mod laws;
+/// Listings of jobs that are named twice.
+#[cfg(test)]
+mod listings;
+/// Machines and moments that are refused.
+#[cfg(test)]
+mod machines;
+/// Boards of two sites, merged.
+#[cfg(test)]
+mod merges;
 /// Texts of packets.
 #[cfg(test)]
 mod packets;
@@ -18,6 +33,9 @@ mod ranges;
 /// Records of jobs.
 #[cfg(test)]
 mod records;
+/// Rosters that are refused.
+#[cfg(test)]
+mod rosters;
 /// Tables and tag sets.
 #[cfg(test)]
 mod tables;

@@ -137,3 +137,19 @@ fn adds_to_a_set(rt: HostRuntime) {
     set.add(&[8, 7, 8], third).expect(&rt, "memory");
     assert!(rt; set.iter().eq([(7, first), (7, third), (8, third)]));
 }
+
+/// A version that covers a pair which the other side doesn't have says that the other side has removed it; one that doesn't
+/// cover it says nothing of it.
+#[test]
+fn forgets_what_the_other_side_removed(rt: HostRuntime) {
+    let at = stamp(1, 3);
+    let none = Version::default();
+    let one = none.with(at);
+    let bottom: TagSet<u8> = TagSet::bottom(rt.alloc());
+    let mut set: TagSet<u8> = TagSet::bottom(rt.alloc());
+    set.add(&[7], at).expect(&rt, "memory");
+    assert!(rt; joined(&rt, &set, &one, &bottom, &one).tags(&7).is_empty());
+    assert!(rt; joined(&rt, &bottom, &one, &set, &one).tags(&7).is_empty());
+    assert!(rt; joined(&rt, &set, &one, &bottom, &none) == set);
+    assert!(rt; joined(&rt, &bottom, &none, &set, &one) == set);
+}

@@ -8,9 +8,15 @@ mod charts;
 /// The library as docs/LIBRARY.md shows it.
 #[cfg(test)]
 mod library;
+/// The last counter.
+#[cfg(test)]
+mod limits;
 /// Replicas, and what they hold of others.
 #[cfg(test)]
 mod replicas;
+/// Worlds by the lines of scripts, and the texts of their packets.
+#[cfg(test)]
+mod scripts;
 /// Sites by themselves.
 #[cfg(test)]
 mod sites;

@@ -8,7 +8,7 @@ use std::process::Abort;
 use test_values::{ann, site, stamp, submission};
 
 /// What argonne ships to lemont once it was asked this alone.
-fn shipped_after(rt: &(impl Abort + AllocGlobal), entry: &Entry) -> Packet {
+pub(crate) fn shipped_after(rt: &(impl Abort + AllocGlobal), entry: &Entry) -> Packet {
     let mut replica = Replica::new(rt.alloc(), site(0));
     if let Asked::Do { who, command, .. } = &entry.asked {
         replica.act(who, command).expect(rt, "a reply");
@@ -55,7 +55,7 @@ pub(crate) fn taken(place: u64, packet: Packet) -> Entry {
 }
 
 /// The claim of an entry.
-fn claim(number: u8, index: u64, entry: &Entry) -> Claim {
+pub(crate) fn claim(number: u8, index: u64, entry: &Entry) -> Claim {
     Claim {
         site: site(number),
         index,

@@ -2,6 +2,9 @@
 //! threads meet, many threads at once, and scripts. The crate has tests and nothing else.
 #![tactic(auto)]
 
+/// Journals and claims that are settled, and the same with one thing altered, or two, which are not.
+#[cfg(test)]
+mod altered;
 /// What stands behind the locks, of which contracts know nothing.
 #[cfg(test)]
 mod behind_locks;

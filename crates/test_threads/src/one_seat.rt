@@ -2,11 +2,18 @@
 use crate::entries::settled_journals;
 use fed_record::Reply;
 use fed_replica::Taken;
-use fed_threads::{Dropped, Entry, Federation, Next, OpenGate, Run, Seat};
+use fed_threads::{CallFault, Dropped, Entry, Federation, Next, OpenGate, Run, Seat};
 use fed_world::Event;
 use std::process::Abort;
 use std::sync::Wait;
 use test_values::{ann, site, stamp, submission, two_sites};
+
+/// The roster has no third site: a call there adds no event.
+fn see_no_site<R: Abort + Wait>(rt: &R, federation: &Federation<OpenGate>, seat: &mut Seat) {
+    let said = federation.call(rt, site(2), &ann(), &submission(), seat);
+    assert!(rt; said == Err(CallFault::NoSite));
+    assert!(rt; federation.end(rt, site(2)) == Err(CallFault::NoSite));
+}
 
 /// Submits a job at argonne, ships it to lemont twice, drops one parcel and takes the other.
 fn submit_and_pass<R: Abort + Wait>(rt: &R, federation: &Federation<OpenGate>, seat: &mut Seat) {
@@ -70,6 +77,7 @@ fn end<R: Abort + Wait>(rt: &R, federation: &Federation<OpenGate>, seat: &mut Se
 fn one_job_is_passed_on(rt: HostRuntime) {
     let federation = Federation::open(rt.alloc(), &two_sites(), OpenGate).expect(&rt, "memory");
     let mut seat = federation.seat();
+    see_no_site(&rt, &federation, &mut seat);
     submit_and_pass(&rt, &federation, &mut seat);
     end(&rt, &federation, &mut seat);
     let seats = vec![in rt.alloc(); seat].expect(&rt, "memory");
