@@ -68,8 +68,8 @@ fn is_answered(rt: &(impl Abort + AllocGlobal), text: &str, place: usize, byte: 
     fault(rt, &bytes) != Some(WireFault::NoMemory)
 }
 
-// The text is answered whatever byte stands at every fourth place from `part` on. A test has a minute, and all places take
-// longer on a machine that is busy.
+// The text is answered whatever byte stands at every fourth place from `part` on. A test has a minute, and `rt try`, which
+// takes a thousand times as long as the proved tests, needs that for all places.
 fn see_answered(rt: &(impl Abort + AllocGlobal), part: usize) {
     for place in (0..ONE_JOB.len()).skip(part).step_by(4) {
         for byte in 0..=255 {

@@ -114,11 +114,20 @@ fn happen(rt: &impl Abort, world: &mut World, event: &Event) {
     world.step(event).expect(rt, "memory");
 }
 
+/// Somebody asks a site for a command.
+fn ask(rt: &impl Abort, world: &mut World, site: SiteId, who: &Who, command: &Command) {
+    let event = Event::Do {
+        site,
+        who: *who,
+        command: *command,
+    };
+    happen(rt, world, &event);
+}
+
 /// Somebody asks a site for these commands.
-fn ask(rt: &impl Abort, world: &mut World, site: SiteId, who: Who, commands: &[Command]) {
+fn ask_each(rt: &impl Abort, world: &mut World, site: SiteId, who: &Who, commands: &[Command]) {
     for command in commands {
-        let command = *command;
-        happen(rt, world, &Event::Do { site, who, command });
+        ask(rt, world, site, who, command);
     }
 }
 
@@ -130,7 +139,7 @@ fn say(rt: &(impl Abort + AllocGlobal), world: &mut World, roster: &Roster, line
             site,
             who,
             commands,
-        } => ask(rt, world, site, who, &commands),
+        } => ask_each(rt, world, site, &who, &commands),
         Line::Ship { site, to } => happen(rt, world, &Event::Ship { site, to }),
         Line::Take { site, packet } => happen(rt, world, &Event::Take { site, packet }),
         _ => panic!(rt; "{line}"),
@@ -229,20 +238,18 @@ fn a_release_alone_is_told(rt: HostRuntime) {
 
 /// What is answered where a packet comes that was made for another.
 fn answers() -> [Outcome; 11] {
-    let grew = Outcome::Taken(Taken { grew: true });
-    let known = Outcome::Taken(Taken { grew: false });
     [
         Outcome::Replied(Reply::Submitted(stamp(1, 0))),
         Outcome::Packet(1),
-        grew,
+        Outcome::Taken(Taken { grew: true }),
         Outcome::Packet(2),
-        known,
+        Outcome::Taken(Taken { grew: false }),
         Outcome::Replied(Reply::Submitted(stamp(2, 0))),
         Outcome::Packet(3),
         Outcome::Gap(site(0)),
         Outcome::Packet(4),
-        grew,
-        known,
+        Outcome::Taken(Taken { grew: true }),
+        Outcome::Taken(Taken { grew: false }),
     ]
 }
 
