@@ -109,7 +109,7 @@ class Scheduler:
         self.runs.sweep([job["id"] for job in machine.running], asked)
         await self.node_count.tell(machine.nodes)
         for job in machine.running:
-            if job["deleted"] and not self.runs.is_busy(job["id"]):
+            if job["deleted"]:
                 self.runs.end(job["id"])
         if not self.site.has_room():
             raise OSError(errno.ENOSPC, "the disk of the site is full")
