@@ -18,7 +18,7 @@ from .clients.signals import Signals
 from .clients.user_limits import UserLimits
 from .clients.users import Users
 from .common.config import Config, ConfigFault, read_config
-from .common.processes import allow_many_files
+from .common.processes import allow_many_files, hold_version
 from .config_check import faults, notes, roster_of
 from .housekeeping.capacity import Capacity
 from .housekeeping.compacting import Compacting
@@ -237,6 +237,7 @@ def main(words: List[str]) -> int:
         return 2
     if is_check:
         return check(path, config)
+    hold_version()
     os.umask(0o077)
     allow_many_files()
     try:

@@ -15,6 +15,7 @@ import threading
 from typing import Any, Dict, List, Optional, Tuple
 
 from ..common.config import ConfigFault
+from ..common.processes import hold_version
 from .settings import CONFIG, NodeKeys, read_node_keys, told_node_keys
 from .work import Work
 
@@ -141,6 +142,7 @@ def main(words: List[str]) -> int:
     if keys is None:
         print(USAGE, file=sys.stderr)
         return 2
+    hold_version()
     os.umask(0o077)
     for number in (signal.SIGHUP, signal.SIGINT):
         signal.signal(number, lambda *_: None)  # what is started here gets its own again
