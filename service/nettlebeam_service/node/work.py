@@ -10,6 +10,7 @@ from typing import Any, Callable, Dict, Iterator, Optional
 
 from ..common import processes
 from ..common.files import remove, write
+from .checks import look
 from .leftovers import LOST_STATUS, Leftovers
 from .owner_calls import help_job
 from .preparing import Preparing
@@ -49,6 +50,7 @@ class Work:
         self.preparing = Preparing(keys, self.store, self.leftovers)
         self.asks: Dict[str, Callable[[Dict[str, Any], bytes], Answer]] = {
             "hello": self.hello,
+            "check": self.check,
             "account": self.account,
             "prepare": self.prepare,
             "start": self.start,
@@ -106,11 +108,17 @@ class Work:
             "answer": "hello",
             "version": VERSION,
             "boot": self.boot,
+            "moment": time.time(),
             "bytes": state.f_bavail * state.f_frsize,
             "inodes": state.f_favail if state.f_files else None,
             "has_room": state.f_bavail * state.f_frsize >= self.keys.free_bytes,
             "runs": {job: state for job in self.store.names() for state in [self.told(job)] if not self.is_nothing(job, state)},
         }
+
+    def check(self, request: Dict[str, Any], body: bytes) -> Answer:
+        """What is wrong here, and what may be, as far as that is known before a job."""
+        found = look(self.keys, [str(user) for user in request.get("users", [])])
+        return {"answer": "check", "moment": time.time(), "faults": found.faults, "notes": found.notes}
 
     def is_nothing(self, job: str, state: State) -> bool:
         """Whether a folder has nothing of a run. One that stays so is removed."""
