@@ -134,7 +134,7 @@ class Service:
         self.waits.leave_alone(self.scheduler.begins.logged)
         self.housekeeping = Housekeeping(config.name, config.house, self.site, self.spool, compacting, capacity, needed, log)
         node_count = self.scheduler.node_count
-        metrics = Metrics(capacity, self.spool, self.peers, self.backup, self.clients, lambda: node_count.looked_at)
+        metrics = Metrics(capacity, self.spool, self.peers, self.backup, self.clients, lambda: node_count.looked_at, self.nodes.states)
         told_here = (capacity, metrics, self.waits.reasons, self.unheard)
         self.page = Page(config, self.site, self.backup, self.peers, self.runs, *told_here, log)
         self.stopping = asyncio.Event()

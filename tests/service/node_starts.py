@@ -8,6 +8,7 @@ from tests.service.cluster import Cluster
 from tests.service.hangs import write
 from tests.service.nodes import line_of, make
 from tests.service.scenes import OTHER, as_user, is_root, read
+from tests.service.moments import PORT, read_page
 from tests.service.sites import until
 
 # what runs a script, and fails while a file says so: always, for jobs alone, or by hanging
@@ -42,7 +43,7 @@ def with_starts(federation, **more):
     write(f"{federation.folder}/start", START.format(folder=federation.folder), 0o755)
     for host in cluster.hosts:
         cluster.configure(host, start=f"{federation.folder}/start {host} {{id}}", **more)
-    return cluster, make(federation, cluster)
+    return cluster, make(federation, cluster, more=f"[page]\nport = {PORT}\n")
 
 
 def failing_starts(tally, federation):
@@ -56,6 +57,8 @@ def failing_starts(tally, federation):
         tally.same("each ran once, and elsewhere", (len(places), "n1" in places), (12, False))
         told = line_of(site, "n1")
         tally.true(f"the node says whose jobs and why: {told}", "trouble since" in told and "no slot is free at n1" in told and "root" in told)
+        tally.true("so does the page", "no slot is free at n1" in read_page("/")[1])
+        tally.true("and what is measured", 'nettlebeam_node_trouble{node="n1"} 1' in read_page("/metrics")[1])
         tally.true("the log says it, too", "n1 is in trouble: no job of root is started there: no slot is free at n1" in site.logged())
         fail(cluster, "n1", "")
         until(lambda: "n1" in cluster.where(cluster.submit(site)) or " up" in line_of(site, "n1"), 90, "once it starts jobs it has some")
