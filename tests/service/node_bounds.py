@@ -16,18 +16,18 @@ from tests.service.sites import stat_of, until
 FLOOD = 4 * 1024 * 1024
 # in place of sudo's: each call takes as long as one of sudo on a busy machine
 STOP = '#!/bin/sh\necho called >> {folder}/called\nsleep 0.2\nkill -s "$@"\n'
-# each group has a process that ignores SIGTERM, and half of them are started again when they end
-GROUPS = """set -m
-trap '' TERM
+# `timeout` makes a group of its own; half of them are started again when they end, by processes that ignore SIGTERM
+GROUPS = """trap '' TERM
 number=0
 while [ $number -lt {count} ]; do
     number=$((number + 1))
     if [ $((number % 2)) = 0 ]; then
-        (while :; do sleep 300; done) &
+        (while :; do timeout -s KILL 900 sleep 300; done) &
     else
-        sleep 300 &
+        timeout -s KILL 900 sleep 300 &
     fi
 done
+sleep 2
 echo $$ > {folder}/ready
 wait
 """
@@ -105,17 +105,17 @@ def many_groups(tally, federation):
     def left(session):
         return [name for name in os.listdir("/proc") if name.isdigit() and (stat_of(int(name)) or (0, 0))[0] == session]
 
-    job, session = begin("-l", "walltime=8", "-o", "/dev/null", "-e", "/dev/null")
+    job, session = begin("-l", "walltime=12", "-o", "/dev/null", "-e", "/dev/null")
     tally.true(f"it has many processes: {len(left(session))}", len(left(session)) > 400)
     began, before = time.monotonic(), read(f"{folder}/called").count("called")
-    tally.same("it is ended by force", site.finished(job, 90), 137)
+    tally.same("it is ended by force", site.finished(job, 300), 137)
     spent, calls = time.monotonic() - began, read(f"{folder}/called").count("called") - before
     tally.true(f"soon, and by few calls: {spent:.1f} s, {calls} calls", spent < 25 and calls < 40)
     tally.same("nothing of it is left", left(session), [])
     job, session = begin("-o", "/dev/null", "-e", "/dev/null")
     began = time.monotonic()
     os.kill(json.loads(read(f"{folder}/argonne/spool/runs/{job}/runner"))["pid"], signal.SIGKILL)
-    tally.same("where its runner is killed it is lost", site.finished(job, 120), 255)
+    tally.same("where its runner is killed it is lost", site.finished(job, 300), 255)
     tally.true(f"as soon: {time.monotonic() - began:.1f} s", time.monotonic() - began < 20)
     tally.same("and leaves nothing either", left(session), [])
 
