@@ -149,6 +149,52 @@ def full_temporary(tally, federation):
         subprocess.run(["umount", "-l", place], check=True)
 
 
+BY_OWNER = """#!/bin/sh
+# start USER COMMAND ..: fails for those whom a file names
+user=$1
+shift
+if grep -q "^$user$" {folder}/failing 2> /dev/null; then echo "$user: account expired" >&2; exit 1; fi
+exec setpriv --reuid="$user" --regid="$user" --clear-groups "$@"
+"""
+
+
+def by_owner(federation, hosts):
+    """A site at whose nodes starts fail for some users."""
+    folder = federation.folder
+    write(f"{folder}/start", BY_OWNER.format(folder=folder), 0o755)
+    write(f"{folder}/failing", "")
+    os.mkdir(f"{folder}/all")
+    os.chmod(f"{folder}/all", 0o1777)
+    (site,) = federation.make(f"argonne:{hosts}", jobs=f"start = {folder}/start {{user}}\nleast_uid = 0")
+
+    def submit(user, text):
+        return site.utility("qsub", "-l", f"nodes={hosts}", given=text, before=as_user(user), cwd=f"{folder}/all")[1].strip()
+
+    return site, submit
+
+
+def one_owner_fails(tally, federation):
+    """A user whose starts fail keeps nobody else from the machine; where those of three users fail it is set aside."""
+    if not is_root(tally):
+        return
+    site, submit = by_owner(federation, 1)
+    failing = f"{federation.folder}/failing"
+    write(failing, "games\n")
+    jobs = [submit("games", "exit 4\n") for _ in range(7)]
+    until(lambda: "games: account expired" in site.said("nodes"), 30, "the node is in trouble")
+    others = [submit("daemon", f"exit {number}\n") for number in range(3)]
+    tally.same("others run", [site.finished(job) for job in others], [0, 1, 2])
+    tally.same("none of the first has ended", [job["finished"] for job in site.jobs(*jobs).values()], [None] * 7)
+    write(failing, "games\nbin\nsys\n")
+    more = [submit(user, "exit 5\n") for user in ("bin", "sys")]
+    until(lambda: "set aside until" in site.said("nodes"), 120, "the machine is set aside")
+    last = submit("lp", "exit 6\n")
+    write(failing, "")
+    time.sleep(3)
+    tally.same("nobody's jobs are tried then", site.jobs(last)[last]["finished"], None)
+    tally.same("and later all run", [site.finished(job, 180) for job in (last, *jobs, *more)], [6, *[4] * 7, 5, 5])
+
+
 def other_account(tally, federation):
     """Where `start` changes no user, another user's job isn't run as the service's account."""
     if not is_root(tally):
@@ -162,4 +208,4 @@ def other_account(tally, federation):
     tally.same("the other's waits", (site.jobs(job)[job]["finished"], os.path.exists(never)), (None, False))
 
 
-SCENES = {it.__name__: it for it in (failing_starts, failing_for_all, never_started, hanging_starts, full_temporary, other_account)}
+SCENES = {it.__name__: it for it in (failing_starts, failing_for_all, never_started, hanging_starts, full_temporary, one_owner_fails, other_account)}

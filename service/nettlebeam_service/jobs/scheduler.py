@@ -129,7 +129,8 @@ class Scheduler:
 
     async def start(self, free: int) -> None:
         """Begins what starts now. Jobs that can't be had now don't keep the machine from others."""
-        blocked = [name for name in {*self.grants.not_before, *self.begins.left_alone} if self.is_blocked(name)]
+        names = {*self.grants.not_before, *self.begins.left_alone, *self.begins.put_off}
+        blocked = [name for name in names if self.is_blocked(name)]
         before = self.site.processor_seconds()
         starts = await self.replanning.starts(blocked)
         self.planned = max(0.0, self.site.processor_seconds() - before)

@@ -125,34 +125,44 @@ class Starts:
     async def start_elsewhere(self, run: Run, why: str, is_of_owner: bool) -> None:
         """Has a run that its node couldn't start, so that nothing of it ran, started by another node, or by the same one later,
         as long as this process may ask for another nonce. What its owner alone can repair is tried once at each node."""
-        run.is_sent, tried = False, set()  # type: bool, Set[str]
+        run.is_sent, run.doubt, tried = False, "", set()  # type: bool, str, Set[str]
         before, nonce = run.node, run.nonce
         self.note_failure(run, why, is_of_owner, tried)
-        while run.may_start_again() and not run.is_unwanted:
+        while run.may_start_again() and not run.is_unwanted and not run.exit:
             if not self.runs.move(run, tried):
                 if is_of_owner:
                     break
                 await asyncio.sleep(LOOK_SECONDS)
                 continue
             run.prepared = -math.inf  # it needs another nonce
-            try:
-                answer = await self.try_start(run)
-            except (NodeFault, OSError) as fault:
-                answer = str(fault)
-            if run.is_sent:
+            if await self.try_there(run):
                 break
-            self.log(f"{run.job}: {run.node.shown} doesn't start it either: {answer}")
             await asyncio.sleep(LOOK_SECONDS)
         if run.is_sent:
-            self.log(f"{run.job}: started by another try, at {run.node.shown}")
             if before is not run.node:
                 self.runs.spawn(self.runs.ask_aside(before, {"ask": "forget", "id": run.job, "nonce": nonce}))
         else:
             run.node, run.nonce = before, nonce  # where its owner is told why
-            run.exit = deleted() if run.is_unwanted else lost(why)
+            run.exit = run.exit or (deleted() if run.is_unwanted else lost(why))
         run.touched = boot_time()
         self.runs.starting.discard(run.job)
         await self.runs.look(run)
+
+    async def try_there(self, run: Run) -> bool:
+        """Has a run started by its node; whether a start was sent."""
+        try:
+            answer = await self.try_start(run)
+            if answer == "started":
+                self.log(f"{run.job}: started by another try, at {run.node.shown}")
+        except NodeFault as fault:
+            answer = str(fault)
+            if run.is_sent:
+                self.runs.doubt_of(run, answer)
+        except OSError as fault:
+            answer = str(fault)
+        if not run.is_sent:
+            self.log(f"{run.job}: {run.node.shown} doesn't start it either: {answer}")
+        return run.is_sent
 
     def note_failure(self, run: Run, why: str, is_of_owner: bool, tried: Set[str]) -> None:
         """Keeps that a node couldn't start a run."""

@@ -143,7 +143,6 @@ def look_at_starts(keys: NodeKeys, users: Sequence[str], found: Found) -> None:
     likely = likely_user(keys) if keys.start else account()
     if not users and likely is None:
         found.notes.append(f"no account has a number from {keys.least_uid} on, so no start was tried: name one behind --check")
-    os.makedirs(keys.folder, mode=0o700, exist_ok=True)
     for user in users or [it for it in (likely,) if it]:
         found.faults.extend(start_faults(keys, user))
 
