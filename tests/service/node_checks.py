@@ -3,7 +3,7 @@ import os
 import subprocess
 
 from tests.service.cluster import NODE, Cluster
-from tests.service.hangs import write
+from tests.service.hangs import read, write
 from tests.service.nodes import JOBS
 from tests.service.scenes import ME, OTHER, as_user, is_root
 from tests.service.sites import SERVICE, until
@@ -56,6 +56,9 @@ def far_checks(tally, federation):
     status, told = checked(f"{SERVICE}/nettlebeamd", "--check", site.config, ME)
     tally.same("a node whose start fails, and one that can't be asked", (status, f"n1: no job of {ME} would start" in told, "n2: it can't be asked: no route" in told), (2, True, True))
     tally.same("and none that is right", f"n3: no job of {ME}" in told, False)
+    write(site.config, "".join(line for line in read(site.config).splitlines(True) if not line.startswith(("link", "health", "retry"))) + "start = nice -n 5\n")
+    status, told = checked(f"{SERVICE}/nettlebeamd", "--check", site.config)
+    tally.same(f"a start that changes no user: {told!r}", (status, "[jobs] start = nice -n 5: it has no {user}" in told), (2, True))
 
 
 SCENES = {it.__name__: it for it in (node_checks, far_checks)}

@@ -3,7 +3,7 @@ from __future__ import annotations
 
 import re
 import time
-from typing import Dict, List, NamedTuple, Optional
+from typing import Dict, List, NamedTuple, Optional, Set
 
 KEPT_SECONDS = 600.0  # for which a failure counts, and is shown
 FIRST_PAUSE, LONGEST_PAUSE = 5.0, 300.0  # from a failure to the owner's next try there
@@ -31,6 +31,7 @@ class Troubles:
         self.since = 0.0  # the second of the first of them
         self.not_before: Dict[str, float] = {}
         self.pauses: Dict[str, float] = {}
+        self.kept_from: Set[str] = set()  # the owners for whom alone it is set aside
         self.aside = 0.0
         self.aside_pause = ASIDE_SECONDS
 
@@ -45,9 +46,11 @@ class Troubles:
         pause = self.pauses.get(owner, FIRST_PAUSE)
         same = [it for it in self.failures if it.fault() == failure.fault()]
         of_owner, owners = sum(it.owner == owner for it in same), len({it.owner for it in same})
+        longest = LONGEST_PAUSE
         if of_owner >= MOST_OF_OWNER:
-            pause = max(pause, ASIDE_SECONDS)
-        self.not_before[owner], self.pauses[owner] = now + pause, min(2 * pause, LONGEST_ASIDE if of_owner >= MOST_OF_OWNER else LONGEST_PAUSE)
+            self.kept_from.add(owner)
+            pause, longest = max(pause, ASIDE_SECONDS), LONGEST_ASIDE
+        self.not_before[owner], self.pauses[owner] = now + pause, min(2 * pause, longest)
         if owners >= MOST_OWNERS and self.aside <= now:
             self.aside, self.aside_pause = now + self.aside_pause, min(2 * self.aside_pause, LONGEST_ASIDE)
         return self.aside > now or of_owner == MOST_OF_OWNER
@@ -56,15 +59,22 @@ class Troubles:
         """A job of an owner ran; whether that is news."""
         had = any(it.owner == owner for it in self.failures)
         self.failures = [it for it in self.failures if it.owner != owner]
-        self.not_before.pop(owner, None)
-        self.pauses.pop(owner, None)
+        self.forget(owner)
         if had:
             self.aside, self.aside_pause = 0.0, ASIDE_SECONDS
         return had
 
+    def forget(self, owner: str) -> None:
+        """Keeps nothing from an owner."""
+        self.not_before.pop(owner, None)
+        self.pauses.pop(owner, None)
+        self.kept_from.discard(owner)
+
     def drop_old(self, now: float) -> None:
         """Forgets what is long ago."""
         self.failures = [it for it in self.failures if it.moment > now - KEPT_SECONDS or self.not_before.get(it.owner, 0.0) > now]
+        for owner in self.not_before.keys() - {it.owner for it in self.failures}:
+            self.forget(owner)
 
     def rest(self, owner: str) -> float:
         """For how many seconds no job of an owner is tried here."""
@@ -80,12 +90,14 @@ class Troubles:
         self.drop_old(now)
         if not self.failures:
             return None
-        whose = ", ".join(sorted({it.owner for it in self.failures}))
-        last = self.failures[-1]
+        whose, last = ", ".join(sorted({it.owner for it in self.failures})), self.failures[-1]
         state = f"trouble since {clock(self.since)}: no job of {whose} is started: {last.owner}: {last.why}"
-        until = max(self.aside, *(self.not_before.get(it.owner, 0.0) for it in self.failures))
+        kept = sorted(it for it in self.kept_from if self.not_before[it] > now)
+        until = max(self.not_before.get(it.owner, 0.0) for it in self.failures)
         if self.is_aside():
             return f"set aside until {clock(time.time() + self.aside - now)}, {state}"
+        if kept:
+            return f"set aside for {', '.join(kept)} until {clock(time.time() + until - now)}, {state}"
         return f"{state}; tried again at {clock(time.time() + until - now)}" if until > now else state
 
 
