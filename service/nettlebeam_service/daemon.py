@@ -47,7 +47,7 @@ MOST_WAITING = 128  # clients that aren't served yet
 FIXED_KEYS = ("directory", "program", "spool", "socket", "backup", "backup_seconds", "free_bytes")
 ORDERLY_SECONDS = 10
 WATCHDOG_PARTS = 4  # as often within the time of systemd
-USAGE = "usage: nettlebeamd CONFIG, or nettlebeamd --check CONFIG [USER ..], which tells what is wrong with it, and tries what jobs need"
+USAGE = "usage: nettlebeamd CONFIG, or nettlebeamd --check CONFIG [USER ..], which says what is wrong with it, and tries what jobs need"
 
 
 def log(text: str) -> None:

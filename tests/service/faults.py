@@ -48,7 +48,7 @@ class Disk:
         subprocess.run(["umount", "-l", self.folder], check=False)
 
 
-# what runs a script on a node. Where a file says so it fails: always, for all but trials, or now and then
+# what runs a script on a node. If a file says so it fails: always, for all but trials, or now and then
 START = """#!/bin/sh
 # start HOST ID COMMAND ..
 host=$1 id=$2

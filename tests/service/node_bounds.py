@@ -86,7 +86,7 @@ def long_logs(tally, federation):
 
 
 def many_groups(tally, federation):
-    """A job has 400 process groups, half of which are started again: they are ended in a few calls, also where the runner is killed."""
+    """A job has 400 process groups, half of which are started again: they are ended in a few calls, also when the runner is killed."""
     if not is_root(tally):
         return
     folder = federation.folder
@@ -115,7 +115,7 @@ def many_groups(tally, federation):
     job, session = begin("-o", "/dev/null", "-e", "/dev/null")
     began = time.monotonic()
     os.kill(json.loads(read(f"{folder}/argonne/spool/runs/{job}/runner"))["pid"], signal.SIGKILL)
-    tally.same("where its runner is killed it is lost", site.finished(job, 300), 255)
+    tally.same("when its runner is killed it is lost", site.finished(job, 300), 255)
     tally.true(f"as soon: {time.monotonic() - began:.1f} s", time.monotonic() - began < 20)
     tally.same("and leaves nothing either", left(session), [])
 

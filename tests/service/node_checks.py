@@ -1,4 +1,4 @@
-"""Scenes of what is told of a node before its first job."""
+"""Scenes of what is said of a node before its first job."""
 import os
 import subprocess
 
@@ -12,7 +12,7 @@ BY_SETPRIV = "setpriv --reuid={user} --regid=nogroup --clear-groups"
 
 
 def checked(*words, before=()):
-    """What `--check` tells: its status, and its words."""
+    """What `--check` says: its status, and its words."""
     done = subprocess.run([*before, *words], capture_output=True, text=True, check=False, timeout=60)
     return done.returncode, done.stderr
 

@@ -52,7 +52,7 @@ def failing_starts(tally, federation):
     for how in ("always", "jobs"):
         fail(cluster, "n1", how)
         jobs = [cluster.submit(site, status=number % 5) for number in range(12)]
-        tally.same(f"where starts fail ({how}) all end as their scripts", [site.finished(job, 60) for job in jobs], [number % 5 for number in range(12)])
+        tally.same(f"when starts fail ({how}) all end as their scripts", [site.finished(job, 60) for job in jobs], [number % 5 for number in range(12)])
         places = sum((cluster.where(job) for job in jobs), [])
         tally.same("each ran once, and elsewhere", (len(places), "n1" in places), (12, False))
         told = line_of(site, "n1")
@@ -107,7 +107,7 @@ def never_started(tally, federation):
 
 
 def read_if(path):
-    """What a file has; nothing where it isn't there."""
+    """What a file has; nothing if it isn't there."""
     return read(path) if os.path.exists(path) else ""
 
 
@@ -174,7 +174,7 @@ def by_owner(federation, hosts):
 
 
 def one_owner_fails(tally, federation):
-    """A user whose starts fail keeps nobody else from the machine; where those of three users fail it is set aside."""
+    """A user whose starts fail keeps nobody else from the machine; when those of three users fail it is set aside."""
     if not is_root(tally):
         return
     site, submit = by_owner(federation, 1)
@@ -196,7 +196,7 @@ def one_owner_fails(tally, federation):
 
 
 def other_account(tally, federation):
-    """Where `start` changes no user, another user's job isn't run as the service's account."""
+    """If `start` changes no user, another user's job isn't run as the service's account."""
     if not is_root(tally):
         return
     (site,) = federation.make("argonne:4", jobs="start = nice -n 5\nleast_uid = 0")

@@ -96,7 +96,7 @@ def many_updates(tally, federation):
             os.kill(pid, signal.SIGKILL)
         time.sleep(0.2)
         jobs = [site.submit(f"exit {number}\n") for number in range(4)]
-        tally.same(f"jobs run behind the end of {kind}", [site.finished(job) for job in jobs], [0, 1, 2, 3])
+        tally.same(f"jobs run after the end of {kind}", [site.finished(job) for job in jobs], [0, 1, 2, 3])
     tally.same("no job was unrun", [line for line in site.logged().splitlines() if "unrun" in line or "isn't ready" in line], [])
     site.kill(signal.SIGTERM)
     until(lambda: not [it for it in federation.processes() if kind_of(it) in ("nettlebeamd", "nettlebeam-node", "runner_server")], 20, "all has ended")

@@ -210,7 +210,7 @@ class Runs:
             self.settling.discard(run.job)
 
     async def leave(self, run: Run) -> None:
-        """Has a node forget a run that has ended. Of one that never ran its owner is told why, as far as that can be written."""
+        """Has a node forget a run that has ended. If it never ran, its owner reads why, as far as that can be written."""
         why = run.exit.unrun if run.exit else ""
         if why:
             text = f"nettlebeam: this job never ran, since {run.node.shown} couldn't start it: {why}"

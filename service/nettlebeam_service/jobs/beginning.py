@@ -241,7 +241,7 @@ class Begins:
         return True
 
     async def prepare_begun(self, job: Job) -> Optional[Run]:
-        """Has a job prepared that has begun, as long as it may be started; None where no node is ready by then."""
+        """Has a job prepared that has begun, as long as it may be started; None if no node is ready by then."""
         end = boot_time() + AGAIN_SECONDS
         while True:
             run = await self.prepare(job)

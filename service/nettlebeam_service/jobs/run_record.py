@@ -18,7 +18,7 @@ AGAIN_SECONDS = 120.0  # how long behind its begin a start that didn't reach its
 
 
 class Exit(NamedTuple):
-    """How a script ended: its status, the second, and what it used, where that is known; or why it never ran."""
+    """How a script ended: its status, the second, and what it used, if that is known; or why it never ran."""
 
     status: int
     moment: int

@@ -3,7 +3,7 @@
 A job's script is started only by the process that was itself answered `done` when it asked the site to begin the job, by the nonce
 that the job's node gave for that, which the node takes once. Any other process takes the nonce away before it says anything of
 the job. So where a node answers `dropped` nothing of the job ran or will run there, and that one process may ask for another nonce.
-The same is so where a node says that the script hasn't run (`unrun`): its owner's shell runs nothing without an answer that it
+The same is so when a node says that the script hasn't run (`unrun`): its owner's shell runs nothing without an answer that it
 never got. Then another node may get it, or the same one later.
 """
 from __future__ import annotations
@@ -142,7 +142,7 @@ class Starts:
             if before is not run.node:
                 self.runs.spawn(self.runs.ask_aside(before, {"ask": "forget", "id": run.job, "nonce": nonce}))
         else:
-            run.node, run.nonce = before, nonce  # where its owner is told why
+            run.node, run.nonce = before, nonce  # whose message says why
             run.exit = run.exit or (deleted() if run.is_unwanted else lost(why))
         run.touched = boot_time()
         self.runs.starting.discard(run.job)

@@ -84,14 +84,14 @@ def cgroup_faults(keys: NodeKeys) -> Iterator[str]:
 
 
 def put_child(path: str) -> None:
-    """Puts a child into a group, as a job's first process is; OSError where that can't be done."""
+    """Puts a child into a group, as a job's first process is; OSError if that can't be done."""
     words = ["/bin/sh", "-c", 'echo 0 > "$1"', "sh", path]
     if subprocess.run(words, stdin=subprocess.DEVNULL, stderr=subprocess.DEVNULL, check=False).returncode:
         raise OSError(errno.EACCES, os.strerror(errno.EACCES), path)
 
 
 def clock_faults(keys: NodeKeys) -> Iterator[str]:
-    """Whether the clock tells a likely day."""
+    """Whether the clock has a likely day."""
     if time.time() < EARLIEST:
         yield f"the clock of this machine says {time.strftime('%Y-%m-%d')}"
 
@@ -139,10 +139,10 @@ def look_at_starts(keys: NodeKeys, users: Sequence[str], found: Found) -> None:
     elif os.getuid() and not keys.stop:
         found.notes.append(f"stop isn't given: {account()} may not signal jobs of others, unless start passes signals on")
     if any(word.split("/")[-1] in ("sudo", "systemd-run") for word in keys.start[:1]) and not shutil.which(keys.start[0]):
-        return  # which is told already
+        return  # which is said already
     likely = likely_user(keys) if keys.start else account()
     if not users and likely is None:
-        found.notes.append(f"no account has a number from {keys.least_uid} on, so no start was tried: name one behind --check")
+        found.notes.append(f"no account has a number from {keys.least_uid} on, so no start was tried: name one after --check")
     for user in users or [it for it in (likely,) if it]:
         found.faults.extend(start_faults(keys, user))
 

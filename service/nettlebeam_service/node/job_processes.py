@@ -104,7 +104,7 @@ def has_children() -> bool:
 
 
 def calls_for(stop: Sequence[str], groups: Set[int], session: int) -> List[List[int]]:
-    """The groups that each call of a command gets: all of them, where its last word names a group; else one, or the session."""
+    """The groups that each call of a command gets: all of them, if its last word names a group; else one, or the session."""
     if not any("{pid}" in word for word in stop):
         return [[session]]
     found, most = sorted(groups), MOST_GROUPS if stop[-1] in ("{pid}", "-{pid}") else 1
@@ -221,7 +221,7 @@ class Script:
             note(text)
 
     def call_stop(self, groups: Sequence[int], number: int) -> bool:
-        """Calls the command that sends a signal to process groups; whether it could. TimeoutError where it hangs each time."""
+        """Calls the command that sends a signal to process groups; whether it could. TimeoutError if it hangs each time."""
         words = stop_words(self.stop, groups, number)
         for tries in range(STOP_TRIES):
             told, tell = os.pipe()

@@ -1,7 +1,7 @@
 """The start of a job's script, as its runner sees it: what the configured command is given, and what it says.
 
 The command gets the text for the owner's shell by a pipe, and no file of the service. The shell makes ready all that the script
-needs, says one word, and runs the script only where it reads the answer. The runner keeps that the script goes before it answers.
+needs, says one word, and runs the script only if it reads the answer. The runner keeps that the script goes before it answers.
 So a script whose command has ended, or is given up, without that answer hasn't run, and never will.
 """
 from __future__ import annotations
@@ -17,7 +17,7 @@ from .job_processes import Script, boot_time
 ANSWER = b"go\n"
 CHUNK = 1 << 16
 MOST_KEPT = 4096  # bytes of what the command says
-MOST_TOLD = 160  # of them as it is told why a script hasn't run
+MOST_TOLD = 160  # of them in what is said of a script that hasn't run
 WORD_SECONDS = 60.0  # for which the word is waited for
 LOOK_SECONDS = 0.05
 UNWRITABLE = 254  # the status of a shell that can write the job's files nowhere: no fault of its node
@@ -25,7 +25,7 @@ ORDERED = "it was told to end"
 
 
 def plain(text: bytes) -> str:
-    """The end of what a command said, in one line that has room where it is kept."""
+    """The end of what a command said, in one line that fits what is kept."""
     line = " ".join(text.decode("ascii", "replace").split())
     return "".join(it if it.isascii() and it.isprintable() and it not in "\"\\" else "'" for it in line)[-MOST_TOLD:]
 
@@ -101,7 +101,7 @@ class Start:
         try:
             os.write(self.give, ANSWER)
         except BrokenPipeError:
-            pass  # its shell was killed, which its status tells
+            pass  # its shell was killed, which its status says
 
     def close(self) -> None:
         """Gives nothing more: without the answer nothing runs any more."""
@@ -144,7 +144,7 @@ def await_word(script: Script, start: Start, end: float) -> str:
 
 
 def why_unrun(why: str, start: Start, status: int) -> Dict[str, Any]:
-    """What is kept of a script that hasn't run: why, in the command's own words where it said some, and whose fault that is."""
+    """What is kept of a script that hasn't run: why, in the command's own words if it said some, and whose fault that is."""
     told = plain(start.words()) or f"{why} with status {status}"
     return {"unrun": told, **({"of_owner": True} if status == UNWRITABLE else {})}
 

@@ -1,5 +1,5 @@
 """A node's end of a link: `nettlebeam-node [--config FILE | --settings TEXT]`, or `nettlebeam-node --check [--config FILE] [USER ..]`,
-which tells what is wrong and what may be, and ends.
+which says what is wrong and what may be, and ends.
 
 It reads requests from standard input and writes answers to standard output: each is a line of JSON, and where the line has a
 `size` that many bytes behind it. The answer to a request has its number `n`; what is told by itself has none. The end of the

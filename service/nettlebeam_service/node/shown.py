@@ -16,7 +16,7 @@ READ, RUN = 4, 1
 
 
 def show(path: str, uid: int, rights: int) -> None:
-    """Lets a user read a file, or enter a folder. OSError where the file system has no access lists."""
+    """Lets a user read a file, or enter a folder. OSError if the file system has no access lists."""
     own = rights | (2 if os.path.isdir(path) else 0)
     if uid == os.geteuid():
         os.chmod(path, own << 6)

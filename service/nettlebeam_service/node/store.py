@@ -2,8 +2,8 @@
 
     FOLDER/1.argonne/lock      held by the runner as long as it lives, and by who changes what stands here
                      run.json  what the runner is told
-                     input     what the script's command reads: a text for the shell, and behind it what `own` hasn't
-                     own       where the owner may read it, the names of the hosts and the script
+                     input     what the script's command reads: a text for the shell, and after it what `own` hasn't
+                     own       if the owner can read it, the names of the hosts and the script
                      nonce     lets the run be started once; becomes `taken` by a rename when it is, and `used-..` where another
                                run of the name is prepared behind it
                      ready     becomes `started`, once, when the script is about to start
@@ -14,7 +14,7 @@
                      log       the first of what went wrong before the script had its own files
 
 So a run that has a `nonce` isn't started; one that has none and whose lock is held runs; and where the lock is free no runner is
-there or will be. Beside the runs FOLDER/starting is held by who starts a run where a node has one at a time, FOLDER/gone-.. is
+there or will be. Beside the runs FOLDER/starting is held by who starts a run if a node has one at a time, FOLDER/gone-.. is
 a run that is being removed, and FOLDER/shown-.. tries whether an owner reads what is shown.
 
 Nothing here but the end of a run is synced. After a crash of the machine its boot has another name, and a run of an earlier boot
@@ -40,7 +40,7 @@ RESERVED_BYTES = 512
 LEAST_INODES = 64
 WINDOW_SECONDS = 60.0
 LOCK_SECONDS = 5.0
-LONGEST_LOG = 300  # bytes of a log that are told
+LONGEST_LOG = 300  # bytes of a log that are passed on
 READY, RUNS, LEFT, ENDED, LOST, UNKNOWN = "ready", "runs", "left", "ended", "lost", "unknown"
 State = Dict[str, Any]
 

@@ -35,7 +35,7 @@ class Trial(NamedTuple):
 
 
 class Trials:
-    """What was tried, which is kept for a while where it succeeded."""
+    """What was tried, which is kept for a while if it succeeded."""
 
     def __init__(self, keys: NodeKeys):
         self.keys = keys

@@ -1,8 +1,8 @@
 """What a job's owner runs: a text for the shell that makes the job's environment, and then runs the script.
 
-The service's account can't write in the owner's folder. So the owner's shell reads the text from its standard input, and behind
-it, where the owner can't be shown a file of the run's folder, the names of the hosts and the script. Nothing of it stands in a
-list of processes. When all is ready the shell says a word, and the script runs only where it reads the answer (`job_start.py`).
+The service's account can't write in the owner's folder. So the owner's shell reads the text from its standard input, and after
+it, if the owner can't be shown a file of the run's folder, the names of the hosts and the script. Nothing of it stands in a
+list of processes. When all is ready the shell says a word, and the script runs only if it reads the answer (`job_start.py`).
 """
 from __future__ import annotations
 
@@ -89,7 +89,7 @@ rm -rf "$TMPDIR"
 exit $status
 """
 
-# where a file of the run's folder can be shown to the owner, and where it can't: then its bytes stand behind the text
+# if a file of the run's folder can be shown to the owner, and if it can't: then its bytes come after the text
 SHOWN = "nodes={own}/nodes script={own}/script"
 CARRIED = """\
 nodes=$TMPDIR/nodes script=$TMPDIR/script
@@ -136,7 +136,7 @@ def change_of(folder: str) -> str:
 
 
 class Way(NamedTuple):
-    """How an owner's shell gets what the run's folder has: shown there, or carried behind the text; and the word that it says."""
+    """How an owner's shell gets what the run's folder has: shown there, or carried after the text; and the word that it says."""
 
     own: str
     word: str
@@ -169,7 +169,7 @@ def places_text(job: str, carried: int = 0) -> str:
 
 
 def other_than_this(owner: str) -> str:
-    """What keeps another's shell from running as this account, as where the configured command changes no user."""
+    """What keeps another's shell from running as this account, as when the configured command changes no user."""
     if owner == account():
         return ":"
     why = f"nettlebeam: start runs jobs of {owner} as {account()}, who could read and change the site"

@@ -85,7 +85,7 @@ class Troubles:
         return self.aside > time.monotonic()
 
     def told(self) -> Optional[str]:
-        """What is wrong, in words; None where nothing is."""
+        """What is wrong, in words; None if nothing is."""
         now = time.monotonic()
         self.drop_old(now)
         if not self.failures:
