@@ -116,7 +116,7 @@ class Start:
 
     def words(self) -> bytes:
         """What the command said besides the word."""
-        return b"\n".join(line for line in self.kept.splitlines() if self.word not in line)
+        return b"\n".join(line for line in self.kept.splitlines() if not self.word or self.word not in line)
 
 
 def await_word(script: Script, start: Start, end: float) -> str:
