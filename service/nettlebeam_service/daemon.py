@@ -9,7 +9,7 @@ import socket
 import sys
 import time
 from dataclasses import replace
-from typing import Any, List, Optional
+from typing import Any, List, Optional, Sequence
 
 from .clients.clients import Clients, listen
 from .clients.node_requests import NodeRequests
@@ -18,7 +18,7 @@ from .clients.signals import Signals
 from .clients.user_limits import UserLimits
 from .clients.users import Users
 from .common.config import Config, ConfigFault, read_config
-from .common.processes import allow_many_files
+from .common.processes import allow_many_files, hold_version
 from .config_check import faults, notes, roster_of
 from .housekeeping.capacity import Capacity
 from .housekeeping.compacting import Compacting
@@ -27,6 +27,7 @@ from .jobs.active_runs import Runs
 from .jobs.node_reports import NodeReports
 from .jobs.scheduler import Scheduler
 from .jobs.starting import Starts
+from .node_checks import of_nodes
 from .nodes.nodes import Nodes
 from .page.metrics import Metrics
 from .page.page import Page
@@ -46,7 +47,7 @@ MOST_WAITING = 128  # clients that aren't served yet
 FIXED_KEYS = ("directory", "program", "spool", "socket", "backup", "backup_seconds", "free_bytes")
 ORDERLY_SECONDS = 10
 WATCHDOG_PARTS = 4  # as often within the time of systemd
-USAGE = "usage: nettlebeamd CONFIG, or nettlebeamd --check CONFIG, which reads the configuration and ends"
+USAGE = "usage: nettlebeamd CONFIG, or nettlebeamd --check CONFIG [USER ..], which says what is wrong with it, and tries what jobs need"
 
 
 def log(text: str) -> None:
@@ -133,7 +134,7 @@ class Service:
         self.waits.leave_alone(self.scheduler.begins.logged)
         self.housekeeping = Housekeeping(config.name, config.house, self.site, self.spool, compacting, capacity, needed, log)
         node_count = self.scheduler.node_count
-        metrics = Metrics(capacity, self.spool, self.peers, self.backup, self.clients, lambda: node_count.looked_at)
+        metrics = Metrics(capacity, self.spool, self.peers, self.backup, self.clients, lambda: node_count.looked_at, self.nodes.states)
         told_here = (capacity, metrics, self.waits.reasons, self.unheard)
         self.page = Page(config, self.site, self.backup, self.peers, self.runs, *told_here, log)
         self.stopping = asyncio.Event()
@@ -226,7 +227,7 @@ def main(words: List[str]) -> int:
         return 0
     is_check = words[:1] == ["--check"]
     paths = words[1:] if is_check else words
-    if len(paths) != 1 or paths[0].startswith("-"):
+    if not paths or (len(paths) > 1 and not is_check) or paths[0].startswith("-"):
         print(USAGE, file=sys.stderr)
         return 2
     path = paths[0]
@@ -236,7 +237,8 @@ def main(words: List[str]) -> int:
         print(f"nettlebeamd: {path}: {fault}", file=sys.stderr)
         return 2
     if is_check:
-        return check(path, config)
+        return check(path, config, paths[1:])
+    hold_version()
     os.umask(0o077)
     allow_many_files()
     try:
@@ -246,11 +248,13 @@ def main(words: List[str]) -> int:
         return 3
 
 
-def check(path: str, config: Config) -> int:
-    """Tells what is wrong with a configuration, and what has to be made first."""
+def check(path: str, config: Config, users: Sequence[str]) -> int:
+    """Tells what is wrong with a configuration, what has to be made first, and whether jobs would start, as those of these users."""
     roster = roster_of(config)
-    found = faults(config, roster)
-    for line in [*found, *notes(config)]:
+    found, first = faults(config, roster), notes(config)
+    wrong, may_be = of_nodes(config, users) if not found and not first else ([], [])
+    found += wrong
+    for line in [*found, *first, *may_be]:
         print(f"nettlebeamd: {path}: {line}", file=sys.stderr)
     if found:
         return 2

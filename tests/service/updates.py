@@ -80,4 +80,28 @@ def updates(tally, federation):
     until(lambda: not os.path.exists(f"{prefix}/bin/qstat.new"), 1, "nothing half stays")
 
 
-SCENES = {it.__name__: it for it in (updates,)}
+def many_updates(tally, federation):
+    """Five versions are installed beside a service that runs: it finds its own modules still, and an idle one is removed."""
+    prefix = f"{federation.folder}/prefix"
+    installs = [archive(federation, f"later{number}", **{"node/__init__": f'"""{number}."""\n'}) for number in range(7)]
+    subprocess.run([installs[0], prefix], check=True, capture_output=True)
+    (site,) = federation.make("argonne:4")
+    site.kill(signal.SIGTERM)
+    start_installed(federation, site, prefix)
+    tally.same("the installed service runs a job", site.finished(site.submit("exit 3\n")), 3)
+    for install in installs[1:6]:
+        subprocess.run([install, prefix], check=True, capture_output=True)
+    for kind in ("runner_server", "nettlebeam-node"):
+        for pid in [it for it in federation.processes() if kind_of(it) == kind]:
+            os.kill(pid, signal.SIGKILL)
+        time.sleep(0.2)
+        jobs = [site.submit(f"exit {number}\n") for number in range(4)]
+        tally.same(f"jobs run after the end of {kind}", [site.finished(job) for job in jobs], [0, 1, 2, 3])
+    tally.same("no job was unrun", [line for line in site.logged().splitlines() if "unrun" in line or "isn't ready" in line], [])
+    site.kill(signal.SIGTERM)
+    until(lambda: not [it for it in federation.processes() if kind_of(it) in ("nettlebeamd", "nettlebeam-node", "runner_server")], 20, "all has ended")
+    subprocess.run([installs[6], prefix], check=True, capture_output=True)
+    tally.same("once it has ended its version goes", len(os.listdir(f"{prefix}/lib/nettlebeam/versions")), 4)
+
+
+SCENES = {it.__name__: it for it in (updates, many_updates)}

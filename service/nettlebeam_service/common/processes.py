@@ -23,6 +23,13 @@ def allow_many_files() -> None:
         resource.setrlimit(resource.RLIMIT_NOFILE, (most, hard))
 
 
+def hold_version() -> None:
+    """Keeps an update from removing the version whose modules this process has, as long as it or a process that it forks lives."""
+    top = os.path.dirname(os.path.dirname(os.path.dirname(os.path.realpath(__file__))))
+    with contextlib.suppress(OSError):
+        fcntl.flock(os.open(top, os.O_RDONLY | os.O_DIRECTORY | os.O_CLOEXEC), fcntl.LOCK_SH | fcntl.LOCK_NB)
+
+
 def processor_seconds(pid: int) -> float:
     """How long a process has had a processor; 0 where it isn't there."""
     try:

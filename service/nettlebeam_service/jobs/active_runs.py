@@ -2,6 +2,7 @@
 from __future__ import annotations
 
 import asyncio
+import contextlib
 import math
 from typing import Any, Awaitable, Callable, Dict, List, Optional, Sequence, Set
 
@@ -17,7 +18,7 @@ from .run_record import Exit, Run, hosts_without_names, lost, run_of_record
 REMEMBERED_SECONDS = 120.0  # for which it is known that a node has told the end of a run
 
 
-async def do_nothing(run: Run) -> None:
+async def do_nothing(run: Run, *more: Any) -> None:
     """Stands for what starts runs, until that is there."""
 
 
@@ -49,6 +50,7 @@ class Runs:
         self.knows_all = False  # whether the site has told which jobs run here
         self.take_back: Callable[[Run], Awaitable[None]] = do_nothing
         self.start_again: Callable[[Run], Awaitable[None]] = do_nothing
+        self.start_elsewhere: Callable[[Run, str, bool], Awaitable[None]] = do_nothing
         nodes.jobs_on = lambda host: [run.job for run in self.all.values() if host in run.hosts]
         nodes.has_runs = lambda name: any(run.node.name == name for run in self.all.values())
 
@@ -73,6 +75,8 @@ class Runs:
 
     def free_hosts(self, job: str, nodes: int, but: Set[str]) -> Optional[List[str]]:
         """Hosts for a job that are up and that no other job has; None where there are too few."""
+        if not self.keys.link and OWN in but:
+            return None
         if not self.keys.hosts:
             return hosts_without_names(nodes)
         used = {host for run in self.all.values() if run.job != job for host in run.hosts}
@@ -87,10 +91,17 @@ class Runs:
         self.all[job] = Run(job, self.nodes.home(hosts), hosts, touched=boot_time())
         return self.all[job]
 
-    async def ask_aside(self, node: Node, head: Dict[str, Any]) -> None:
+    def move(self, run: Run, but: Set[str]) -> bool:
+        """Takes other hosts for a run that isn't started; whether there are some on which its owner's jobs may be tried now."""
+        hosts = self.free_hosts(run.job, len(run.hosts), but | self.nodes.shunned(run.owner))
+        if hosts is not None:
+            run.hosts, run.node, run.link, run.doubt = hosts, self.nodes.home(hosts), None, ""
+        return hosts is not None
+
+    async def ask_aside(self, node: Node, head: Dict[str, Any], body: bytes = b"") -> None:
         """Asks a node for what it may leave undone, since its next hello tells of it."""
         try:
-            await node.ask(head)
+            await node.ask(head, body)
         except NodeFault:
             pass
 
@@ -126,11 +137,12 @@ class Runs:
         if run.exit:
             self.spawn(self.settle(run))
         elif not run.is_watched():
-            run.is_looked_after = True
+            run.is_looked_after, node, nonce = True, run.node, run.nonce
             try:
-                link = await run.node.linked()
-                answer = await run.node.ask({"ask": "look", "ids": [run.job]})
-                self.apply(run, answer["runs"][run.job], link)
+                link = await node.linked()
+                answer = await node.ask({"ask": "look", "ids": [run.job]})
+                if (run.node, run.nonce) == (node, nonce):  # else it was started elsewhere meanwhile
+                    self.apply(run, answer["runs"][run.job], link)
             except NodeFault as fault:
                 self.doubt_of(run, str(fault))
             finally:
@@ -152,9 +164,14 @@ class Runs:
             self.spawn(self.take_back(run))
         elif what == ENDED:
             self.remember(run.job)
-            run.exit = Exit(int(state["status"]), int(state["moment"]), state.get("used"))
             if state.get("log"):
                 self.log(f"{run.job}: its runner told: {state['log']}")
+            if "unrun" in state:
+                self.starting.add(run.job)
+                self.spawn(self.start_elsewhere(run, str(state["unrun"]), bool(state.get("of_owner"))))
+                return
+            run.node.has_run(run.owner)
+            run.exit = Exit(int(state["status"]), int(state["moment"]), state.get("used"))
             self.spawn(self.settle(run))
         elif run.may_start_again():
             self.starting.add(run.job)
@@ -187,10 +204,20 @@ class Runs:
             self.log(f"{run.job}: ended with status {run.exit.status}: {answer.shown()}")
             self.all.pop(run.job, None)
             self.stuck.discard(run.job)
-            self.spawn(self.ask_aside(run.node, {"ask": "forget", "id": run.job, "nonce": run.nonce}))
+            self.spawn(self.leave(run))
             self.wake()
         finally:
             self.settling.discard(run.job)
+
+    async def leave(self, run: Run) -> None:
+        """Has a node forget a run that has ended. If it never ran, its owner reads why, as far as that can be written."""
+        why = run.exit.unrun if run.exit else ""
+        if why:
+            text = f"nettlebeam: this job never ran, since {run.node.shown} couldn't start it: {why}"
+            with contextlib.suppress(OSError, ValueError):
+                await asyncio.to_thread(self.spool.annotate, run.job, {"comment": text})
+            await self.ask_aside(run.node, {"ask": "message", "id": run.job, "files": ["err"]}, text.encode())
+        await self.ask_aside(run.node, {"ask": "forget", "id": run.job, "nonce": run.nonce})
 
     def remember(self, job: str) -> None:
         """Keeps for a while that a node has told the end of a run, since it may still say what it was before."""
@@ -214,7 +241,9 @@ class Runs:
     def end(self, job: str) -> None:
         """Has a job ended that was deleted, once."""
         run = self.all.get(job)
-        if run and not run.is_told_to_end and not run.exit:
+        if run and self.is_busy(job):
+            run.is_unwanted = True
+        elif run and not run.is_told_to_end and not run.exit:
             self.spawn(self.tell_to_end(run))
 
     async def tell_to_end(self, run: Run) -> None:

@@ -23,7 +23,7 @@ from ..site.looks import Job, now, origin_of, told_of_many
 from ..site.site import Site, Stopped
 from ..site.spool import Spool
 from .active_runs import Runs
-from .run_record import Run
+from .run_record import AGAIN_SECONDS, Run
 from .starting import Starts
 
 ALONE_SECONDS = 60
@@ -67,6 +67,7 @@ class Begins:
         self.starts = starts
         self.log = log
         self.left_alone: Dict[str, float] = {}  # jobs whose owners nothing is run as, and when that is looked at again
+        self.put_off: Dict[str, float] = {}  # jobs that no node could start, and when that is tried again
         self.logged: Set[str] = set()
         self.preparing = 0
         self.all_prepared = asyncio.Event()
@@ -74,12 +75,13 @@ class Begins:
         self.together = Batched(self.begin_together)
 
     def is_left_alone(self, name: str) -> bool:
-        """Whether nothing was run as the owner of a job a short while ago."""
-        return self.left_alone.get(name, 0.0) > time.monotonic()
+        """Whether nothing was run as the owner of a job a short while ago, or no node could start it."""
+        return max(self.left_alone.get(name, 0.0), self.put_off.get(name, 0.0)) > time.monotonic()
 
     def forget(self, living: Set[str]) -> None:
         """Keeps nothing of jobs that aren't among these."""
         self.left_alone = {name: later for name, later in self.left_alone.items() if name in living}
+        self.put_off = {name: later for name, later in self.put_off.items() if name in living}
         self.logged &= living
 
     def is_mine(self, name: str) -> bool:
@@ -109,6 +111,16 @@ class Begins:
             self.logged.add(job["id"])
             self.runs.wake()  # the next plan does without it
             self.log(f"{job['id']}: left alone, since nothing is run here as {job['owner']}")
+
+    def put_off_for(self, job: Job) -> None:
+        """Does without a job as long as no node is there that may be tried as its owner."""
+        rests = [self.runs.nodes.get(name).troubles.rest(job["owner"]) for name in self.runs.nodes.names()]
+        pause = min([it for it in rests if it > 0], default=1.0)
+        self.put_off[job["id"]] = time.monotonic() + min(pause, float(ALONE_SECONDS))
+        self.runs.wake()  # the next plan does without it
+        if job["id"] not in self.logged:
+            self.logged.add(job["id"])
+            self.log(f"{job['id']}: left alone for a while, since no node that is free starts jobs of {job['owner']}")
 
     async def begin(self, job: Job) -> None:
         """Begins a job that is granted here, and starts it where the site's answer to that was `done`.
@@ -179,8 +191,10 @@ class Begins:
         name, but = job["id"], set()  # type: Tuple[str, Set[str]]
         stored = self.spool.stored(name)
         for _ in range(MOST_NODES):
-            run = self.runs.place(name, job["nodes"], but)
+            run = self.runs.place(name, job["nodes"], but | self.runs.nodes.shunned(job["owner"]))
             if run is None:
+                if self.runs.free_hosts(name, job["nodes"], set()) is not None:
+                    self.put_off_for(job)
                 return None
             run.mark = self.spool.mark(name)
             try:
@@ -194,9 +208,10 @@ class Begins:
                 self.leave_alone(job)
                 return None
             self.log(f"{name}: {run.node.shown} isn't ready: {answer}")
-            if not run.node.name:
-                return None
-            but.add(run.node.name)
+            if answer != "no start":
+                if not run.node.name:
+                    return None
+                but.add(run.node.name)
         return None
 
     async def go_on(self, ready: Ready) -> bool:
@@ -213,7 +228,7 @@ class Begins:
             run = None
         elif not ready.is_as_prepared():
             self.starts.release(ready.run)
-            run = await self.prepare({**ready.job, "nodes": begun["nodes"], "limit": begun["end"] - begun["moment"]})
+            run = await self.prepare_begun({**ready.job, "nodes": begun["nodes"], "limit": begun["end"] - begun["moment"]})
             if run is None:
                 self.log(f"{name}: it was altered while it began, and no node is ready for it")
             else:
@@ -224,6 +239,15 @@ class Begins:
         run.is_mine, run.began = True, boot_time()
         self.runs.spawn(self.starts.start(run))
         return True
+
+    async def prepare_begun(self, job: Job) -> Optional[Run]:
+        """Has a job prepared that has begun, as long as it may be started; None if no node is ready by then."""
+        end = boot_time() + AGAIN_SECONDS
+        while True:
+            run = await self.prepare(job)
+            if run is not None or boot_time() > end:
+                return run
+            await asyncio.sleep(1.0)
 
     def order_of(self, job: Job) -> Order:
         """What a node is told of a job."""

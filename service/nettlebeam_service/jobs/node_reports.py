@@ -31,7 +31,8 @@ class NodeReports:
             state = told.get(run.job, {"state": UNKNOWN})
             # of a run that is watched, or was started since, this may be older than what is known, but where it has ended
             is_news = run.link is not link and run.touched < asked
-            if run.node is node and (is_news or state["state"] == ENDED):
+            has_ended = state["state"] == ENDED and state.get("nonce") == run.nonce
+            if run.node is node and (is_news or has_ended):
                 self.runs.apply(run, state, link)
         node.haunted = ""
         for job, state in told.items():
@@ -44,16 +45,15 @@ class NodeReports:
         if state["state"] == READY:
             self.runs.spawn(self.runs.ask_aside(node, {"ask": "drop", **about}))
         elif state["state"] == RUNS:
-            if job not in self.runs.heard_ends:  # else it is just being forgotten
-                self.haunt(node, job)
+            self.haunt(node, job)
         elif state["state"] != UNKNOWN:
             if self.spool.record(job) or state.get("moment", 0) < time.time() - OLD_SECONDS:
                 self.runs.spawn(self.runs.ask_aside(node, {"ask": "forget", **about}))
 
     def haunt(self, node: Node, job: str) -> None:
         """A node runs what doesn't run here, as far as the site knows. Nothing begins there until it is ended."""
-        if job in self.runs.all:
-            return
+        if job in self.runs.all or job in self.runs.heard_ends:
+            return  # it runs here, or is just being forgotten
         if node.name != OWN:
             node.haunted = job
         self.log(f"{job}: {node.shown} runs it still, which doesn't run here any more; it is ended")
@@ -66,7 +66,7 @@ class NodeReports:
             node.heard = 0.0  # its next hello tells whether that is all
         if run is None or run.node is not node:
             return
-        if told["told"] == "ended":
+        if told["told"] == "ended" and told["run"].get("nonce", "") in ("", run.nonce):  # else an earlier one that wasn't started
             self.runs.apply(run, told["run"], node.link)
         elif told["told"] == "stuck" and run.job not in self.runs.stuck:
             self.runs.stuck.add(run.job)

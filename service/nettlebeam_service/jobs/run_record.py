@@ -12,22 +12,28 @@ from ..node.store import WINDOW_SECONDS, boot_time
 from ..nodes.link import NodeLink
 from ..nodes.node import Node
 
-LOST = 255
+LOST, DELETED = 255, 143
 SPARE_SECONDS = 60.0
 AGAIN_SECONDS = 120.0  # how long behind its begin a start that didn't reach its node is sent again
 
 
 class Exit(NamedTuple):
-    """How a script ended: its status, the second, and what it used, where that is known."""
+    """How a script ended: its status, the second, and what it used, if that is known; or why it never ran."""
 
     status: int
     moment: int
     used: Optional[Dict[str, int]] = None
+    unrun: str = ""
 
 
-def lost() -> Exit:
-    """The end of a job of which nothing is known."""
-    return Exit(LOST, int(time.time()))
+def lost(unrun: str = "") -> Exit:
+    """The end of a job of which nothing is known, or that never ran."""
+    return Exit(LOST, int(time.time()), None, unrun)
+
+
+def deleted() -> Exit:
+    """The end of a job that was deleted before its script ran."""
+    return Exit(DELETED, int(time.time()))
 
 
 @dataclass
@@ -53,12 +59,18 @@ class Run:
     exit: Optional[Exit] = None
     is_looked_after: bool = False
     is_told_to_end: bool = False
+    is_unwanted: bool = False  # whether it was deleted before it could be started
     doubt: str = ""
 
     def record(self) -> Dict[str, Any]:
         """What the spool keeps."""
         kept = {"node": self.node.name, "hosts": self.hosts, "limit": self.limit, "nonce": self.nonce}
         return {**kept, "grace": self.grace, "mark": self.mark, "prepared": self.prepared, "boot": boot()}
+
+    @property
+    def owner(self) -> str:
+        """Whose job it is, of one that this process has prepared."""
+        return str(self.order.get("owner", ""))
 
     def may_start_again(self) -> bool:
         """Whether this process may have it started by another nonce, since none of the job's was used."""

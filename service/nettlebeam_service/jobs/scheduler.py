@@ -109,7 +109,7 @@ class Scheduler:
         self.runs.sweep([job["id"] for job in machine.running], asked)
         await self.node_count.tell(machine.nodes)
         for job in machine.running:
-            if job["deleted"] and not self.runs.is_busy(job["id"]):
+            if job["deleted"]:
                 self.runs.end(job["id"])
         if not self.site.has_room():
             raise OSError(errno.ENOSPC, "the disk of the site is full")
@@ -129,7 +129,8 @@ class Scheduler:
 
     async def start(self, free: int) -> None:
         """Begins what starts now. Jobs that can't be had now don't keep the machine from others."""
-        blocked = [name for name in {*self.grants.not_before, *self.begins.left_alone} if self.is_blocked(name)]
+        names = {*self.grants.not_before, *self.begins.left_alone, *self.begins.put_off}
+        blocked = [name for name in names if self.is_blocked(name)]
         before = self.site.processor_seconds()
         starts = await self.replanning.starts(blocked)
         self.planned = max(0.0, self.site.processor_seconds() - before)

@@ -3,12 +3,14 @@
 A job's script is started only by the process that was itself answered `done` when it asked the site to begin the job, by the nonce
 that the job's node gave for that, which the node takes once. Any other process takes the nonce away before it says anything of
 the job. So where a node answers `dropped` nothing of the job ran or will run there, and that one process may ask for another nonce.
+The same is so when a node says that the script hasn't run (`unrun`): its owner's shell runs nothing without an answer that it
+never got. Then another node may get it, or the same one later.
 """
 from __future__ import annotations
 
 import asyncio
 import math
-from typing import Any, Callable, Dict
+from typing import Any, Callable, Dict, Set
 
 from ..node.store import boot_time
 from ..nodes.link import NodeFault
@@ -17,11 +19,13 @@ from ..site.backup import Backup
 from ..site.spool import Spool
 from .active_runs import Runs
 from .node_reports import NodeReports
-from .run_record import Run, lost
+from .run_record import Run, deleted, lost
 
 MOST_TRIES = 3  # of a start that a node answers to be late
 FRESH_SECONDS = 30.0  # after so many a nonce is asked for anew before it is used
 RETRY_SECONDS = 5.0
+LOOK_SECONDS = 1.0
+LEAVING_TRIES, LEAVING_SECONDS = 10, 0.1  # while a node forgets a run
 
 
 class Starts:
@@ -33,19 +37,27 @@ class Starts:
         self.runs = runs
         self.node_reports = node_reports
         self.log = log
-        runs.take_back, runs.start_again = self.take_back, self.start_again
+        runs.take_back, runs.start_again, runs.start_elsewhere = self.take_back, self.start_again, self.start_elsewhere
 
     async def prepare(self, run: Run, order: Dict[str, Any], script: bytes) -> str:
         """Asks the home node of a run to prepare it: `ready`, or why it can't."""
         run.order = {**order, "hosts": run.hosts, "alone": run.node.name != OWN}
         run.limit = order["limit"]
-        answer = await run.node.ask({"ask": "prepare", "id": run.job, "order": run.order}, script)
+        head = {"ask": "prepare", "id": run.job, "order": run.order}
+        answer = await run.node.ask(head, script)
+        for _ in range(LEAVING_TRIES):
+            if answer["answer"] != "busy" or answer["by"] not in self.runs.heard_ends:
+                break
+            await asyncio.sleep(LEAVING_SECONDS)  # what ran there has ended, and is just being forgotten
+            answer = await run.node.ask(head, script)
         if answer["answer"] == "ready":
             run.nonce, run.grace, run.node_boot, run.prepared = answer["nonce"], answer["grace"], answer["boot"], boot_time()
         elif answer["answer"] == "busy" and run.node.name != OWN:
             self.node_reports.haunt(run.node, answer["by"])
         elif answer["answer"] == "no room":
             run.node.fail(f"it has no room: {answer['why']}")
+        elif answer["answer"] == "no start":
+            run.node.cannot_start(order["owner"], answer["why"])
         return str(answer["answer"])
 
     def release(self, run: Run) -> None:
@@ -109,6 +121,57 @@ class Starts:
         self.log(f"{run.job}: its start didn't reach {run.node.shown}, so it is sent again")
         run.prepared = -math.inf  # it needs another nonce
         await self.start(run)
+
+    async def start_elsewhere(self, run: Run, why: str, is_of_owner: bool) -> None:
+        """Has a run that its node couldn't start, so that nothing of it ran, started by another node, or by the same one later,
+        as long as this process may ask for another nonce. What its owner alone can repair is tried once at each node."""
+        run.is_sent, run.doubt, tried = False, "", set()  # type: bool, str, Set[str]
+        before, nonce = run.node, run.nonce
+        self.note_failure(run, why, is_of_owner, tried)
+        while run.may_start_again() and not run.is_unwanted and not run.exit:
+            if not self.runs.move(run, tried):
+                if is_of_owner:
+                    break
+                await asyncio.sleep(LOOK_SECONDS)
+                continue
+            run.prepared = -math.inf  # it needs another nonce
+            if await self.try_there(run):
+                break
+            await asyncio.sleep(LOOK_SECONDS)
+        if run.is_sent:
+            if before is not run.node:
+                self.runs.spawn(self.runs.ask_aside(before, {"ask": "forget", "id": run.job, "nonce": nonce}))
+        else:
+            run.node, run.nonce = before, nonce  # whose message says why
+            run.exit = run.exit or (deleted() if run.is_unwanted else lost(why))
+        run.touched = boot_time()
+        self.runs.starting.discard(run.job)
+        await self.runs.look(run)
+
+    async def try_there(self, run: Run) -> bool:
+        """Has a run started by its node; whether a start was sent."""
+        try:
+            answer = await self.try_start(run)
+            if answer == "started":
+                self.log(f"{run.job}: started by another try, at {run.node.shown}")
+        except NodeFault as fault:
+            answer = str(fault)
+            if run.is_sent:
+                self.runs.doubt_of(run, answer)
+        except OSError as fault:
+            answer = str(fault)
+        if not run.is_sent:
+            self.log(f"{run.job}: {run.node.shown} doesn't start it either: {answer}")
+        return run.is_sent
+
+    def note_failure(self, run: Run, why: str, is_of_owner: bool, tried: Set[str]) -> None:
+        """Keeps that a node couldn't start a run."""
+        self.log(f"{run.job}: {run.node.shown} couldn't start it, so it hasn't run: {why}")
+        tried.add(run.node.name)
+        owner = run.owner or str((self.spool.facts(run.job) or {}).get("owner", ""))
+        if not is_of_owner:
+            tried.clear()
+            run.node.cannot_start(owner, why)
 
     async def take_back(self, run: Run) -> None:
         """Takes the nonce of a run away that isn't started. A start that is on its way may come before."""

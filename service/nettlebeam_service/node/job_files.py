@@ -99,7 +99,7 @@ def interpreter_words(facts: Dict[str, Any], home: str) -> str:
         elif at and host in names:
             chosen = path
             break
-    return f'set -- {" ".join(map(shlex.quote, chosen.split()))} "$TMPDIR/script"' if chosen.strip() else ":"
+    return f'set -- {" ".join(map(shlex.quote, chosen.split()))} "$script"' if chosen.strip() else ":"
 
 
 def path_word(path: str, job: str, facts: Dict[str, Any]) -> str:

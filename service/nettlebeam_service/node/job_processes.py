@@ -5,9 +5,8 @@ import ctypes
 import os
 import resource
 import signal
-import sys
 import time
-from typing import Any, Dict, List, Optional, Set
+from typing import Any, Dict, List, Optional, Sequence, Set, Tuple
 
 SUBREAPER = 36  # PR_SET_CHILD_SUBREAPER of <linux/prctl.h>
 LIBRARY = ctypes.CDLL(None)
@@ -15,6 +14,25 @@ CLEANING_SECONDS = 10
 STOP_SECONDS = 15  # after which a command that sends a signal is ended, and called again
 STOP_TRIES = 2
 LEFT_SECONDS = 10  # for which what a job leaves is ended again and again
+MOST_LOG = 8192  # bytes of a run's log
+MOST_TOLD = 300  # bytes of what a command says that failed
+MOST_GROUPS = 2000  # that one command is given
+GONE = "No such process"
+
+
+def note(text: str) -> None:
+    """Writes what went wrong into the run's log, which stays short whatever comes."""
+    try:
+        room = MOST_LOG - os.fstat(2).st_size
+        os.write(2, f"{text.rstrip()}\n".encode("utf-8", "replace")[: max(0, room)])
+    except OSError:
+        pass  # where nobody can be told, the job goes on
+
+
+def quietly(*errors: int) -> List[Tuple[Any, ...]]:
+    """What gives a command no stream of this process, but a descriptor for its errors."""
+    streams: List[Tuple[Any, ...]] = [(os.POSIX_SPAWN_OPEN, number, "/dev/null", os.O_RDWR, 0) for number in (0, 1, 2)]
+    return streams + [(os.POSIX_SPAWN_DUP2, it, 2) for it in errors]
 
 
 def tick_of(pid: int) -> int:
@@ -85,6 +103,31 @@ def has_children() -> bool:
         return False
 
 
+def calls_for(stop: Sequence[str], groups: Set[int], session: int) -> List[List[int]]:
+    """The groups that each call of a command gets: all of them, if its last word names a group; else one, or the session."""
+    if not any("{pid}" in word for word in stop):
+        return [[session]]
+    found, most = sorted(groups), MOST_GROUPS if stop[-1] in ("{pid}", "-{pid}") else 1
+    return [found[place : place + most] for place in range(0, len(found), most)]
+
+
+def stop_words(stop: Sequence[str], groups: Sequence[int], number: int) -> List[str]:
+    """The words of a command that sends a signal to groups. The last word is there for each of them."""
+    words = [word.replace("{signal}", str(number)) for word in stop]
+    last = words.pop()
+    words = [word.replace("{pid}", str(groups[0])) for word in words]
+    return [*words, *([last.replace("{pid}", str(it)) for it in groups] if "{pid}" in last else [last])]
+
+
+def said_by(descriptor: int) -> str:
+    """What a command that has ended left in a pipe."""
+    os.set_blocking(descriptor, False)
+    try:
+        return " ".join(os.read(descriptor, MOST_TOLD).decode("utf-8", "replace").split())
+    except BlockingIOError:
+        return ""
+
+
 class Script:
     """The script's processes: a session, whose number nobody else gets before its first process is reaped."""
 
@@ -153,7 +196,7 @@ class Script:
                 with open(f"{self.cgroup}/cgroup.kill", "w", encoding="ascii") as file:
                     file.write("1")
             except OSError as fault:
-                print(f"{self.cgroup}: {fault}", file=sys.stderr, flush=True)
+                self.say(f"{self.cgroup}: {fault}")
 
     def members(self) -> Set[int]:
         """The processes of its session that live. Where /proc hides those of other users, those that are children of this process:
@@ -175,26 +218,35 @@ class Script:
         """Writes what went wrong, once."""
         if text not in self.said:
             self.said.add(text)
-            print(text, file=sys.stderr, flush=True)
+            note(text)
 
-    def call_stop(self, group: int, number: int) -> bool:
-        """Calls the command that sends a signal to a process group; whether it could. TimeoutError where it hangs each time."""
-        words = [word.replace("{pid}", str(group)).replace("{signal}", str(number)) for word in self.stop]
+    def call_stop(self, groups: Sequence[int], number: int) -> bool:
+        """Calls the command that sends a signal to process groups; whether it could. TimeoutError if it hangs each time."""
+        words = stop_words(self.stop, groups, number)
         for tries in range(STOP_TRIES):
+            told, tell = os.pipe()
             try:
-                return has_ended_within(os.posix_spawnp(words[0], words, os.environ, setpgroup=0, setsigmask=[]), STOP_SECONDS)
+                pid = os.posix_spawnp(words[0], words, os.environ, file_actions=quietly(tell), setpgroup=0, setsigmask=[])
+                if has_ended_within(pid, STOP_SECONDS):
+                    return True
+                told_words = said_by(told)
+                if GONE not in told_words:  # else groups had ended meanwhile
+                    self.say(told_words or f"{words[0]} failed")
+                return False
             except TimeoutError as fault:
                 self.say(f"{words[0]}: {fault}, so that the job may go on" if tries else f"{words[0]}: {fault}; it is called again")
             except OSError as fault:
                 self.say(f"{words[0]}: {fault}")
                 return False
+            finally:
+                os.close(told)
+                os.close(tell)
         raise TimeoutError
 
     def stop_groups(self, number: int) -> bool:
-        """Has the configured command send a signal to each process group of the session; whether it could."""
-        has_place = any("{pid}" in word for word in self.stop)
+        """Has the configured command send a signal to all process groups of the session; whether it could."""
         try:
-            return all([self.call_stop(group, number) for group in sorted(self.groups() if has_place else {self.pid})])
+            return all([self.call_stop(groups, number) for groups in calls_for(self.stop, self.groups(), self.pid)])
         except TimeoutError:
             return False
 

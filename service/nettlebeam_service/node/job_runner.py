@@ -1,7 +1,8 @@
 """The runner of one job, a process that `runner_server.py` forks.
 
 It keeps the job's lock as long as it lives, starts the script once, ends it when its time is over or when it is told so by
-SIGTERM, and writes how it ended. It needs `job_processes.py` and no other module of the service, so that it stays small.
+SIGTERM, and writes how it ended. It needs `job_processes.py` and `job_start.py` and no other module of the service, so that it
+stays small.
 
 What the node's machine keeps of a start is not synced: after a crash of the machine nothing is started by what its disk has,
 since all of it names the run of the machine that wrote it. How a job ended is synced, so that it is known after a crash.
@@ -12,14 +13,15 @@ import json
 import os
 import resource
 import signal
-import sys
 import time
 from typing import Any, Dict, List, Optional
 
-from .job_processes import CLEANING_SECONDS, Script, adopt, boot_time, has_ended_within, tick_of
+from .job_processes import CLEANING_SECONDS, Script, adopt, boot_time, has_ended_within, note, quietly, tick_of
+from .job_start import ORDERED, Start, await_word, why_unrun
 
 ROOM = 512
 LOST = 255
+DELETED = 143
 LEAST_KILLED = 128  # from this status on the owner's shell may have left its folder
 LATE_SECONDS = 30  # how long behind the end of its nonce a script may start
 LONGEST_WAIT = 60.0
@@ -52,7 +54,7 @@ def insist(action: Any) -> None:
             action()
             return
         except OSError as fault:
-            print(f"{fault}; this is tried again in 5 s", file=sys.stderr, flush=True)
+            note(f"{fault}; this is tried again in 5 s")
             time.sleep(5)
 
 
@@ -73,11 +75,12 @@ def enter(cgroup: str) -> None:
         with open(f"{cgroup}/cgroup.procs", "w", encoding="ascii") as file:
             file.write("0")
     except OSError as fault:
-        print(f"{cgroup}: {fault}", file=sys.stderr, flush=True)
+        note(f"{cgroup}: {fault}")
 
 
-def become_script(run: Dict[str, Any]) -> None:
+def become_script(run: Dict[str, Any], begun: Start) -> None:
     """In the child: takes the token that lets the script start, and becomes what starts it."""
+    begun.become()
     os.setsid()
     if run.get("cgroup"):
         enter(run["cgroup"])
@@ -85,7 +88,6 @@ def become_script(run: Dict[str, Any]) -> None:
     if boot_time() > run.get("until", boot_time()) + LATE_SECONDS:
         raise OSError("it is too late: this was stopped on its way")
     os.rename("ready", "started")  # there is one `ready` in the life of a job
-    os.dup2(os.open("input", os.O_RDONLY), 0)
     os.closerange(3, 64)
     signal.pthread_sigmask(signal.SIG_SETMASK, [])
     for number in (signal.SIGPIPE, signal.SIGXFSZ, signal.SIGHUP, signal.SIGINT):
@@ -96,15 +98,16 @@ def become_script(run: Dict[str, Any]) -> None:
     os.execvpe(run["command"][0], run["command"], run["environment"])
 
 
-def start(run: Dict[str, Any]) -> int:
-    """Starts the script; its process."""
+def start(run: Dict[str, Any], begun: Start) -> int:
+    """Starts the command that starts the script; its process."""
     pid = os.fork()
     if pid == 0:
         try:
-            become_script(run)
+            become_script(run, begun)
         except BaseException as fault:  # nothing of the runner may go on in the child
-            print(f"the script can't be started: {fault}", file=sys.stderr, flush=True)
+            os.write(2, f"the script can't be started: {fault}\n".encode())
         os._exit(LOST)
+    begun.begin("input")
     return pid
 
 
@@ -117,12 +120,13 @@ def asked_signal() -> Optional[int]:
         return None
 
 
-def wait(script: Script, limit: float, grace: float) -> int:
-    """Waits for the script's end, and brings it about when its time is over or SIGTERM comes: a status."""
+def wait(script: Script, begun: Start, end: float, grace: float) -> int:
+    """Waits for the script's end, and brings it about at a moment or when SIGTERM comes: a status."""
     expected = {signal.SIGCHLD, signal.SIGTERM, signal.SIGUSR1}
-    end, kill = boot_time() + limit, None
+    kill = None
     while not script.has_ended():
         script.reap_others()
+        begun.listen()
         now = boot_time()
         if kill is None and now >= end:
             script.signal(signal.SIGTERM)
@@ -143,9 +147,30 @@ def wait(script: Script, limit: float, grace: float) -> int:
     return script.end()
 
 
-def write_exit(status: int, used: Dict[str, int]) -> None:
+def run_script(run: Dict[str, Any]) -> Dict[str, Any]:
+    """Runs the script to its end: how that was."""
+    begun = Start(run.get("word", ""))
+    script = Script(start(run, begun), run)
+    end, why = boot_time() + run["limit"], ""
+    if "word" in run:
+        why = await_word(script, begun, end)
+        begun.close()
+    else:
+        begun.give_all()
+    status = wait(script, begun, 0.0 if why else end, run["grace"])
+    ended = {"status": status, "used": script.used()}
+    script.leave()
+    begun.listen()
+    if begun.words():
+        note(begun.words().decode("utf-8", "replace"))
+    if why == ORDERED:
+        return {**ended, "status": DELETED}
+    return {**ended, "status": LOST, **why_unrun(why, begun, status)} if why else ended
+
+
+def write_exit(ended: Dict[str, Any]) -> None:
     """Tells how the script ended, and what it used."""
-    overwrite("exit.new", {"status": status, "moment": int(time.time()), "used": used}, is_synced=True)
+    overwrite("exit.new", {"moment": int(time.time()), **ended}, is_synced=True)
     os.rename("exit.new", "exit")
     sync_folder()
 
@@ -153,9 +178,9 @@ def write_exit(status: int, used: Dict[str, int]) -> None:
 def clean(words: List[str], environment: Dict[str, str]) -> None:
     """Removes, as the owner, the folder that the owner's shell made for the job and couldn't remove."""
     try:
-        cleaner = os.posix_spawnp(words[0], words, environment, setpgroup=0, setsigmask=[])
+        cleaner = os.posix_spawnp(words[0], words, environment, file_actions=quietly(), setpgroup=0, setsigmask=[])
     except OSError as fault:
-        print(f"{words[0]}: {fault}", file=sys.stderr, flush=True)
+        note(f"{words[0]}: {fault}")
         return
     try:
         has_ended_within(cleaner, CLEANING_SECONDS)
@@ -191,10 +216,7 @@ def run_job(folder: str, lock: int, tell: int) -> None:
     except BrokenPipeError:
         pass  # whoever asked was killed meanwhile; the job runs all the same
     os.close(tell)
-    script = Script(start(run), run)
-    status = wait(script, run["limit"], run["grace"])
-    used = script.used()
-    script.leave()
-    insist(lambda: write_exit(status, used))
-    if status >= LEAST_KILLED and "clean" in run:
+    ended = run_script(run)
+    insist(lambda: write_exit(ended))
+    if ended["status"] >= LEAST_KILLED and "clean" in run:
         clean(run["clean"], run["environment"])

@@ -1,19 +1,18 @@
 """Ends what a runner that was killed has left of its job."""
 from __future__ import annotations
 
-import contextlib
 import os
 import signal
-import subprocess
 import threading
 import time
-from typing import Any, Callable, Dict, Sequence, Set
+from typing import Any, Callable, Dict, Set
 
 from ..common import processes
+from .job_processes import calls_for, stop_words
+from .owner_calls import help_job
 from .store import LEFT, Store
 
 LOST_STATUS = 255
-HELPING_SECONDS = 15
 STOP_TRIES = 3
 DYING_SECONDS = 1.0
 
@@ -66,16 +65,15 @@ class Leftovers:
             processes.end_cgroup(run["cgroup"])
         is_clear = processes.end_session(started["pid"], started["tick"])
         if is_clear and run.get("clean"):
-            help_job(run["clean"], run, b"")
+            help_job(run["clean"], run["environment"], b"")
         return is_clear
 
     def stop(self, run: Dict[str, Any], session: int, since: int) -> None:
-        """Has the configured command end each process group of a session, until none is left."""
+        """Has the configured command end all process groups of a session, until none is left."""
         groups = {session} | processes.groups_of(processes.members(session, since))
         for _ in range(STOP_TRIES):
-            for group in sorted(groups):
-                marks = {"{pid}": str(group), "{signal}": str(int(signal.SIGKILL))}
-                help_job([replaced(word, marks) for word in run["stop"]], run, b"")
+            for called in calls_for(run["stop"], groups, session):
+                help_job(stop_words(run["stop"], called, int(signal.SIGKILL)), run["environment"], b"")
             end = time.monotonic() + DYING_SECONDS
             left = processes.members(session, since)
             while left and time.monotonic() < end:
@@ -84,30 +82,3 @@ class Leftovers:
             if not left:
                 return
             groups = processes.groups_of(left)
-
-
-def replaced(word: str, marks: Dict[str, str]) -> str:
-    """A word with the values of its marks."""
-    for mark, value in marks.items():
-        word = word.replace(mark, value)
-    return word
-
-
-def help_job(words: Sequence[str], run: Dict[str, Any], given: bytes) -> str:
-    """Runs a command beside a job, with the environment of its owner; why it failed, or nothing."""
-    pipe, null = subprocess.PIPE, subprocess.DEVNULL
-    try:
-        process = subprocess.Popen(
-            words, stdin=pipe, stdout=null, stderr=pipe, cwd="/", env=run["environment"], start_new_session=True
-        )
-    except OSError as fault:
-        return f"{words[0]}: {fault.strerror}"
-    try:
-        _, errors = process.communicate(given, HELPING_SECONDS)
-    except subprocess.TimeoutExpired:
-        with contextlib.suppress(OSError):
-            os.killpg(process.pid, signal.SIGKILL)
-        process.communicate()
-        return f"{words[0]}: no end within {HELPING_SECONDS} s"
-    told = errors.decode("utf-8", "replace").strip()[-300:] or f"{words[0]}: status {process.returncode}"
-    return told if process.returncode else ""

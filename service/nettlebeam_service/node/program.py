@@ -1,4 +1,5 @@
-"""A node's end of a link: `nettlebeam-node [--config FILE | --settings TEXT]`.
+"""A node's end of a link: `nettlebeam-node [--config FILE | --settings TEXT]`, or `nettlebeam-node --check [--config FILE] [USER ..]`,
+which says what is wrong and what may be, and ends.
 
 It reads requests from standard input and writes answers to standard output: each is a line of JSON, and where the line has a
 `size` that many bytes behind it. The answer to a request has its number `n`; what is told by itself has none. The end of the
@@ -15,10 +16,12 @@ import threading
 from typing import Any, Dict, List, Optional, Tuple
 
 from ..common.config import ConfigFault
+from ..common.processes import hold_version
+from .checks import Found, look
 from .settings import CONFIG, NodeKeys, read_node_keys, told_node_keys
 from .work import Work
 
-USAGE = "usage: nettlebeam-node [--config FILE]"
+USAGE = "usage: nettlebeam-node [--config FILE], or nettlebeam-node --check [--config FILE] [USER ..], which tries what jobs need"
 CHUNK = 1 << 16
 LONGEST_LINE = 16 * 1024 * 1024  # the variables of a job are in it, whose characters may take six bytes each
 MOST_BYTES = 64 * 1024 * 1024
@@ -131,8 +134,23 @@ def keys_of(words: List[str]) -> Optional[NodeKeys]:
     return None
 
 
+def check(words: List[str]) -> int:
+    """Tells what is wrong, and what may be."""
+    path, users = (words[1], words[2:]) if words[:1] == ["--config"] and len(words) > 1 else (CONFIG, words)
+    try:
+        found = look(read_node_keys(path), users)
+    except (ConfigFault, OSError) as fault:
+        found = Found([str(fault)], [])
+    for line in (*found.faults, *found.notes):
+        print(f"nettlebeam-node: {path}: {line}", file=sys.stderr)
+    print(f"{path}: {len(found.faults)} faults, {len(found.notes)} notes")
+    return 2 if found.faults else 0
+
+
 def main(words: List[str]) -> int:
     """The program."""
+    if words[:1] == ["--check"] and not any(it.startswith("-") and it != "--config" for it in words[1:]):
+        return check(words[1:])
     try:
         keys = keys_of(words)
     except ConfigFault as fault:
@@ -141,6 +159,7 @@ def main(words: List[str]) -> int:
     if keys is None:
         print(USAGE, file=sys.stderr)
         return 2
+    hold_version()
     os.umask(0o077)
     for number in (signal.SIGHUP, signal.SIGINT):
         signal.signal(number, lambda *_: None)  # what is started here gets its own again

@@ -14,6 +14,7 @@ from typing import List, Tuple
 
 sys.path.insert(0, os.path.dirname(os.path.dirname(os.path.dirname(os.path.realpath(__file__)))))
 
+from nettlebeam_service.common.processes import hold_version  # noqa: E402
 from nettlebeam_service.node import job_runner  # noqa: E402
 
 LONGEST_FOLDER = 4096
@@ -45,6 +46,7 @@ def fork_runner(folder: str, descriptors: List[int], asked: socket.socket) -> No
 
 def main() -> None:
     """Forks runners until nobody asks any more."""
+    hold_version()
     signal.signal(signal.SIGCHLD, signal.SIG_IGN)  # so that the kernel forgets those that have ended
     with socket.socket(fileno=int(sys.argv[1])) as asked:
         asked.set_inheritable(False)

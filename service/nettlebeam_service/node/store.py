@@ -2,17 +2,20 @@
 
     FOLDER/1.argonne/lock      held by the runner as long as it lives, and by who changes what stands here
                      run.json  what the runner is told
-                     input     what the script's command reads: a text for the shell, the names of the hosts, and the script
+                     input     what the script's command reads: a text for the shell, and after it what `own` hasn't
+                     own       if the owner can read it, the names of the hosts and the script
                      nonce     lets the run be started once; becomes `taken` by a rename when it is, and `used-..` where another
                                run of the name is prepared behind it
                      ready     becomes `started`, once, when the script is about to start
                      runner    the process of the runner
                      started   the process of the script
-                     exit      how the script ended, and when, and what it used
-                     log       what went wrong before the script had its own files
+                     waiting   becomes `going` before the script may run
+                     exit      how the script ended, when, and what it used; or why it hasn't run
+                     log       the first of what went wrong before the script had its own files
 
 So a run that has a `nonce` isn't started; one that has none and whose lock is held runs; and where the lock is free no runner is
-there or will be. Beside the runs FOLDER/starting is held by who starts a run where a node has one at a time.
+there or will be. Beside the runs FOLDER/starting is held by who starts a run if a node has one at a time, FOLDER/gone-.. is
+a run that is being removed, and FOLDER/shown-.. tries whether an owner reads what is shown.
 
 Nothing here but the end of a run is synced. After a crash of the machine its boot has another name, and a run of an earlier boot
 is lost, whatever the disk has kept of it: it is never started again.
@@ -37,6 +40,7 @@ RESERVED_BYTES = 512
 LEAST_INODES = 64
 WINDOW_SECONDS = 60.0
 LOCK_SECONDS = 5.0
+LONGEST_LOG = 300  # bytes of a log that are passed on
 READY, RUNS, LEFT, ENDED, LOST, UNKNOWN = "ready", "runs", "left", "ended", "lost", "unknown"
 State = Dict[str, Any]
 
@@ -140,7 +144,8 @@ class Store:
         """The end of what a runner has written of what went wrong."""
         try:
             with open(self.path(job, "log"), "rb") as file:
-                return file.read()[-300:].decode("utf-8", "replace").strip()
+                file.seek(max(0, os.fstat(file.fileno()).st_size - LONGEST_LOG))
+                return file.read(LONGEST_LOG).decode("utf-8", "replace").strip()
         except FileNotFoundError:
             return ""
 
@@ -161,12 +166,12 @@ class Store:
         before = self.read(job, "taken").get("nonce", "")
         if NONCE.match(before):
             os.rename(self.path(job, "taken"), self.path(job, f"used-{before}"))
-        for name in ("nonce", "taken", "started", "exit", "signal"):
+        for name in ("nonce", "taken", "started", "going", "exit", "signal"):
             remove(self.path(job, name))
         nonce = {"nonce": secrets.token_hex(16), "boot": self.boot, "until": boot_time() + WINDOW_SECONDS}
         put(self.path(job, "run.json"), json.dumps({**run, "until": nonce["until"]}).encode())
         put(self.path(job, "input"), data)
-        for name in ("ready", "exit.new", "runner"):
+        for name in ("ready", "exit.new", "runner", "waiting"):
             put(self.path(job, name), b"", RESERVED_BYTES)
         put(self.path(job, "log"), b"")
         put(self.path(job, "nonce.new"), json.dumps(nonce).encode())
@@ -199,16 +204,39 @@ class Store:
                 pass  # it was used, or dropped, meanwhile
         return not self.was_taken(job, nonce)
 
-    def end(self, job: str, status: int) -> None:
+    def end(self, job: str, status: int, **more: str) -> None:
         """Writes how a run ended that has no runner to do so."""
-        ended = {"status": status, "moment": int(time.time())}
+        ended = {"status": status, "moment": int(time.time()), **more}
         write(self.path(job, "exit.new"), json.dumps(ended).encode(), RESERVED_BYTES)
         os.rename(self.path(job, "exit.new"), self.path(job, "exit"))
         sync(self.path(job))
 
     def remove(self, job: str) -> None:
-        """Removes the folder of a run."""
-        shutil.rmtree(self.path(job), ignore_errors=True)
+        """Removes the folder of a run: all of it at once, so that nobody sees a part of it."""
+        gone = os.path.join(self.folder, f"gone-{secrets.token_hex(8)}")
+        try:
+            os.rename(self.path(job), gone)
+        except FileNotFoundError:
+            return
+        shutil.rmtree(gone, ignore_errors=True)
+
+    def tidy(self) -> None:
+        """Removes what a process that was killed has left half removed."""
+        for name in os.listdir(self.folder):
+            if name.startswith("gone-"):
+                shutil.rmtree(os.path.join(self.folder, name), ignore_errors=True)
+
+    def clear_empty(self, job: str) -> None:
+        """Removes a folder that has nothing of a run, as an answer of an older program left it."""
+        if time.time() - os.stat(self.path(job)).st_mtime < WINDOW_SECONDS or any("used-" in it for it in os.listdir(self.path(job))):
+            return
+        held = processes.lock(self.path(job, "lock"))
+        if held is not None:
+            try:
+                if self.state(job, has_lock=True)["state"] == UNKNOWN:
+                    self.remove(job)
+            finally:
+                os.close(held)
 
 
 def is_full(fault: OSError) -> bool:

@@ -10,12 +10,17 @@ from typing import Any, Callable, Dict, Iterator, Optional
 
 from ..common import processes
 from ..common.files import remove, write
-from .leftovers import LOST_STATUS, Leftovers, help_job
+from .checks import look
+from .leftovers import LOST_STATUS, Leftovers
+from .owner_calls import help_job
+from .preparing import Preparing
 from .runners import Runners
-from .settings import NodeKeys, boot_of, files_of_jobs
-from .store import ENDED, LEFT, LOST, RUNS, NoRoom, State, Store, is_full
+from .settings import NodeKeys, boot_of
+from .shown import let_through
+from .store import ENDED, LEFT, LOST, RUNS, UNKNOWN, State, Store, is_full
+from .trials import Trials
 from .watch import Watch
-from .wrapper import account, as_owner, clean_text, environment_of, files_of, message_text, nodes_text, shell_reading, text_of
+from .wrapper import account, message_text, shell_reading
 
 VERSION = 1
 SIGNAL_SECONDS = 10
@@ -35,12 +40,17 @@ class Work:
         self.tell = tell
         self.boot = boot_of(keys)
         os.makedirs(keys.folder, mode=0o700, exist_ok=True)
+        let_through(keys.folder)
         self.store = Store(keys.folder, self.boot, keys.free_bytes)
+        self.store.tidy()
+        self.trials = Trials(keys)
         self.watch = Watch(self.store, self.on_end)
         self.runners = Runners(keys.folder)
         self.leftovers = Leftovers(self.store, self.on_end, lambda job: tell({"told": "stuck", "id": job}))
+        self.preparing = Preparing(keys, self.store, self.leftovers)
         self.asks: Dict[str, Callable[[Dict[str, Any], bytes], Answer]] = {
             "hello": self.hello,
+            "check": self.check,
             "account": self.account,
             "prepare": self.prepare,
             "start": self.start,
@@ -98,11 +108,24 @@ class Work:
             "answer": "hello",
             "version": VERSION,
             "boot": self.boot,
+            "moment": time.time(),
             "bytes": state.f_bavail * state.f_frsize,
             "inodes": state.f_favail if state.f_files else None,
             "has_room": state.f_bavail * state.f_frsize >= self.keys.free_bytes,
-            "runs": {job: self.told(job) for job in self.store.names()},
+            "runs": {job: state for job in self.store.names() for state in [self.told(job)] if not self.is_nothing(job, state)},
         }
+
+    def check(self, request: Dict[str, Any], body: bytes) -> Answer:
+        """What is wrong here, and what may be, as far as that is known before a job."""
+        found = look(self.keys, [str(user) for user in request.get("users", [])])
+        return {"answer": "check", "moment": time.time(), "faults": found.faults, "notes": found.notes}
+
+    def is_nothing(self, job: str, state: State) -> bool:
+        """Whether a folder has nothing of a run. One that stays so is removed."""
+        if state["state"] == UNKNOWN:
+            with contextlib.suppress(OSError):
+                self.store.clear_empty(job)
+        return bool(state["state"] == UNKNOWN)
 
     def look(self, request: Dict[str, Any], body: bytes) -> Answer:
         """What became of some runs."""
@@ -117,6 +140,8 @@ class Work:
             self.leftovers.clear_beside(job)
             return {**state, "state": RUNS}
         elif state["state"] == ENDED:
+            if "unrun" in state:
+                self.trials.forget(self.store.read(job, "run.json").get("environment", {}).get("USER", ""))
             return {**state, "log": self.store.log(job)}
         return state
 
@@ -146,40 +171,23 @@ class Work:
         owner = self.account_of(order["owner"])
         if owner is None:
             return {"answer": "no account"}
-        hosts = nodes_text(order["hosts"], order["facts"])
-        text = os.fsencode(text_of(job, order, len(hosts), self.keys.shell, body))
-        run = self.run_of(job, order, owner, len(text))
-        os.makedirs(self.store.path(job), mode=0o700, exist_ok=True)
-        with self.locked(job):
-            if self.store.state(job, has_lock=True)["state"] == LEFT and not self.leftovers.clear(job):
-                return {"answer": "busy", "by": job}
-            others = self.store.others_running(job) if order["alone"] else []
-            if others:
-                return {"answer": "busy", "by": others[0]}
+        trial = self.trials.of(owner)
+        if trial.why:
+            return {"answer": "no start", "why": trial.why}
+        with self.locked(self.folder_of(job)):
+            is_new, answer = self.store.state(job, has_lock=True)["state"] == UNKNOWN, {"answer": ""}
             try:
-                nonce = self.store.prepare(job, run, text + hosts + body)
-            except NoRoom as fault:
-                return {"answer": "no room", "why": str(fault)}
+                answer = self.preparing.prepare(job, order, owner, trial.is_shown, body)
+            finally:
+                if is_new and answer["answer"] != "ready":
+                    self.store.remove(job)
         self.runners.warm()
-        return {"answer": "ready", "nonce": nonce, "grace": self.keys.grace, "boot": self.boot}
+        return answer
 
-    def run_of(self, job: str, order: Dict[str, Any], owner: pwd.struct_passwd, size: int) -> Dict[str, Any]:
-        """What the runner of a job is told."""
-        helper = as_owner(self.keys.start, order["owner"], f"{job}-helper")
-        return {
-            "command": [*as_owner(self.keys.start, order["owner"], job), *shell_reading(size)],
-            "helper": helper,
-            "clean": [*helper, "/bin/sh", "-c", clean_text(job)],
-            "files": files_of(job, order),
-            "environment": environment_of(owner),
-            "grace": self.keys.grace,
-            "hosts": order["hosts"],
-            "limit": order["limit"],
-            "open_files": files_of_jobs(self.keys),
-            "stop": as_owner(self.keys.stop, order["owner"], job),
-            "cgroup": os.path.join(self.keys.cgroup, job) if self.keys.cgroup else "",
-            "alone": order["alone"],
-        }
+    def folder_of(self, job: str) -> str:
+        """Makes the folder of a run; the run."""
+        os.makedirs(self.store.path(job), mode=0o700, exist_ok=True)
+        return job
 
     def start(self, request: Dict[str, Any], body: bytes) -> Answer:
         """Starts the runner of a run that is prepared, once, and gives it the lock."""
@@ -196,7 +204,7 @@ class Work:
             if not self.store.take(job, nonce):
                 return {"answer": "started" if self.store.was_taken(job, nonce) else "late"}
             if not self.runners.start(self.store.path(job), lock):
-                self.store.end(job, LOST_STATUS)
+                self.store.end(job, LOST_STATUS, unrun="nettlebeam: its runner can't be started")
         self.watch.add(job)
         return {"answer": "started"}
 
@@ -249,12 +257,17 @@ class Work:
     def message(self, request: Dict[str, Any], body: bytes) -> Answer:
         """Puts a message behind what files of a job have, as its owner."""
         job, run = str(request["id"]), self.store.read(str(request["id"]), "run.json")
-        if "helper" not in run or self.store.state(job)["state"] != RUNS:
+        if "helper" not in run or not self.may_write(job):
             return {"answer": "failed", "why": "it has no process"}
         head = message_text(run["files"], request["files"]).encode()
         line = body if body.endswith(b"\n") else body + b"\n"
-        why = help_job([*run["helper"], *shell_reading(len(head))], run, head + line)
+        why = help_job([*run["helper"], *shell_reading(len(head))], run["environment"], head + line)
         return {"answer": "failed", "why": why} if why else {"answer": "done"}
+
+    def may_write(self, job: str) -> bool:
+        """Whether a message is for a script that runs, or that never ran."""
+        state = self.store.state(job)
+        return bool(state["state"] == RUNS or "unrun" in state)
 
     def forget(self, request: Dict[str, Any], body: bytes) -> Answer:
         """Removes what is here of a run that has ended; of another of its name nothing."""

@@ -1,18 +1,19 @@
 """What a job's owner runs: a text for the shell that makes the job's environment, and then runs the script.
 
-The service's account can neither write in the owner's folder nor show the owner a file of the spool. So the owner's shell
-reads all from its standard input: the text, the names of the hosts, and the script. Nothing of it stands in a list of
-processes.
+The service's account can't write in the owner's folder. So the owner's shell reads the text from its standard input, and after
+it, if the owner can't be shown a file of the run's folder, the names of the hosts and the script. Nothing of it stands in a
+list of processes. When all is ready the shell says a word, and the script runs only if it reads the answer (`job_start.py`).
 """
 from __future__ import annotations
 
 import os
 import pwd
 import shlex
-from typing import Any, Dict, List, Sequence
+from typing import Any, Dict, List, NamedTuple, Sequence
 
 from ..words.resources import read_chunks, times_of
 from .job_files import OF_THE_RUN, interpreter_words, more_exports, placed, shown_id, slurm_exports, variables_text
+from .job_start import UNWRITABLE
 
 PATH = "/usr/local/bin:/usr/bin:/bin"
 LONGEST_FIRST_LINE = 256  # as much of it as the kernel reads
@@ -27,15 +28,32 @@ SUBMITTERS = {
     "PBS_O_WORKDIR": "folder",
 }
 
-TEXT = """\
-TMPDIR_OF_ALL=${{TMPDIR:-/tmp}} TMPDIR=
+# a folder that the owner may write and that has room; the first of these in which there is one
+PLACES = """\
+of_all=${{TMPDIR:-/tmp}} TMPDIR=
 trap 'rm -rf "$TMPDIR"; exit 143' TERM
 umask 077
-TMPDIR=$(mktemp -d "$TMPDIR_OF_ALL/nettlebeam-{job}.XXXXXX") || exit 255
-unset TMPDIR_OF_ALL
+for place in "$of_all" /var/tmp "${{HOME:-/}}"
+do
+    TMPDIR=$(mktemp -d "$place/nettlebeam-{job}.XXXXXX") || continue
+    if head -c {room} /dev/zero > "$TMPDIR/room" && chmod 700 "$TMPDIR/room"
+    then
+        [ -x "$TMPDIR/room" ] || without=$TMPDIR
+        rm "$TMPDIR/room"
+        break
+    fi
+    rm -rf "$TMPDIR"
+    TMPDIR=
+done 2> /dev/null
+[ "$TMPDIR" ] || {{ echo "no folder with room can be made in $of_all, /var/tmp or ${{HOME:-/}}" >&2; exit 255; }}
+unset of_all place
 export TMPDIR
-head -c {size} > "$TMPDIR/nodes" && cat > "$TMPDIR/script" && chmod 700 "$TMPDIR/script" || exit 255
-PBS_NODEFILE=$TMPDIR/nodes
+"""
+TEXT = """\
+{is_other}
+{places}
+{ready}
+PBS_NODEFILE=$nodes
 export PBS_NODEFILE
 {exports}
 umask {umask}
@@ -46,16 +64,19 @@ if ! (: > {out} && : > {err}) 2> /dev/null
 then
     unwritten=$PWD
     cd || cd /
-    (: > {out} && : > {err}) || {{ rm -rf "$TMPDIR"; exit 255; }}
+    (: > {out} && : > {err}) || {{ rm -rf "$TMPDIR"; exit {unwritable}; }}
 fi
+echo {word}
+read -r answer && [ "$answer" = go ] || {{ rm -rf "$TMPDIR"; exit 255; }}
 exec < /dev/null >> {out} 2>> {err}
 [ -z "${{unwritten:-}}" ] || echo "nettlebeam: $unwritten can't be written here, so the job's files are in $PWD" >&2
 cd "$PBS_JOBDIR"
+[ -z "${{without:-}}" ] || echo "nettlebeam: nothing may be executed in $TMPDIR (noexec)" >&2
 [ -z "${{moved:-}}" ] || echo "nettlebeam: there is no folder $moved here; the job runs in $PWD" >&2
 [ -z "${{lost:-}}" ] || echo "nettlebeam: this can't be written here, so files of $PWD are:$lost" >&2
 # from here on the script is told of signals too, and this shell waits for what it makes of them
 trap : HUP INT QUIT USR1 USR2 ALRM TERM
-set -- {shell} "$TMPDIR/script"
+set -- {shell} "$script"
 {without_execution}
 {interpreter}
 (
@@ -67,6 +88,13 @@ cd /
 rm -rf "$TMPDIR"
 exit $status
 """
+
+# if a file of the run's folder can be shown to the owner, and if it can't: then its bytes come after the text
+SHOWN = "nodes={own}/nodes script={own}/script"
+CARRIED = """\
+nodes=$TMPDIR/nodes script=$TMPDIR/script
+head -c {size} > "$nodes" && head -c {more} > "$script" && chmod 700 "$script" || {{ rm -rf "$TMPDIR"; exit 255; }}"""
+LEAST_ROOM = 4096
 
 # what a service tells of a job that it has prepared: its whole name, its owner, nodes and limit, its hosts, the facts of its
 # submission, and the folder and the number of its files
@@ -107,14 +135,25 @@ def change_of(folder: str) -> str:
     return f"cd {shlex.quote(folder)} 2>/dev/null || {{ moved={shlex.quote(folder)}; cd || cd /; }}" if folder else "cd || cd /"
 
 
-def text_of(job: str, order: Order, size: int, shell: str, script: bytes) -> str:
-    """The text for the shell that runs a job. Its hosts take so many bytes of the input. A script that names its program itself
-    is started by that."""
+class Way(NamedTuple):
+    """How an owner's shell gets what the run's folder has: shown there, or carried after the text; and the word that it says."""
+
+    own: str
+    word: str
+    is_shown: bool
+
+
+def text_of(job: str, order: Order, hosts: bytes, shell: str, script: bytes, way: Way) -> str:
+    """The text for the shell that runs a job. A script that names its program itself is started by that."""
     facts, exports = order["facts"], exports_of(job, order)
+    carried = 0 if way.is_shown else len(hosts) + len(script)
     return TEXT.format(
         **files_of(job, order),
-        job=job,
-        size=size,
+        is_other=other_than_this(order["owner"]),
+        places=places_text(job, carried),
+        ready=SHOWN.format(own=shlex.quote(way.own)) if way.is_shown else CARRIED.format(size=len(hosts), more=len(script)),
+        word=way.word,
+        unwritable=UNWRITABLE,
         exports="\n".join(f"{name}={shlex.quote(value)}; export {name}" for name, value in exports.items()),
         umask=umask_of(facts),
         shell="" if script.startswith(b"#!") else shlex.quote(shell),
@@ -124,6 +163,19 @@ def text_of(job: str, order: Order, size: int, shell: str, script: bytes) -> str
     )
 
 
+def places_text(job: str, carried: int = 0) -> str:
+    """What makes a folder with room for so many bytes, as the owner."""
+    return PLACES.format(job=job, room=LEAST_ROOM + carried)
+
+
+def other_than_this(owner: str) -> str:
+    """What keeps another's shell from running as this account, as when the configured command changes no user."""
+    if owner == account():
+        return ":"
+    why = f"nettlebeam: start runs jobs of {owner} as {account()}, who could read and change the site"
+    return f'[ "$(id -u)" != {os.getuid()} ] || {{ echo {shlex.quote(why)} >&2; exit 255; }}'
+
+
 def without_execution(script: bytes) -> str:
     """What has a script that names its program started by that where nothing may be executed in the job's folder, as on a file system
     that is mounted so. The kernel takes what stands behind the program as one word."""
@@ -131,8 +183,8 @@ def without_execution(script: bytes) -> str:
         return ":"
     words = os.fsdecode(script.partition(b"\n")[0][2:LONGEST_FIRST_LINE]).strip().split(None, 1)
     named = " ".join(map(shlex.quote, words))
-    why = "nothing may be executed in $TMPDIR (noexec), so the script is started by the program that its first line names"
-    return f'[ -x "$TMPDIR/script" ] || {{ echo "nettlebeam: {why}" >&2; set -- {named} "$TMPDIR/script"; }}'
+    why = "nothing may be executed in ${script%/*} (noexec), so the script is started by the program that its first line names"
+    return f'[ -x "$script" ] || {{ echo "nettlebeam: {why}" >&2; set -- {named} "$script"; }}'
 
 
 def files_of(job: str, order: Order) -> Dict[str, str]:
@@ -149,7 +201,7 @@ def message_text(files: Dict[str, str], names: Sequence[str]) -> str:
 
 def clean_text(job: str) -> str:
     """The words for a shell of the owner that remove what a job's shell has left."""
-    return f'rm -rf -- "${{TMPDIR:-/tmp}}"/nettlebeam-{job}.??????'
+    return " ".join(["rm -rf --", *(f"{place}/nettlebeam-{job}.??????" for place in ('"${TMPDIR:-/tmp}"', "/var/tmp", '"${HOME:-/}"'))])
 
 
 def environment_of(owner: pwd.struct_passwd) -> Dict[str, str]:

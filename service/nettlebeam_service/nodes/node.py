@@ -9,6 +9,7 @@ from ..common.config import JobKeys
 from ..node.store import boot_time
 from ..node.work import VERSION
 from .link import Answer, NodeFault, NodeLink
+from .troubles import Troubles
 
 OWN = ""  # the name of the node that is the service's own machine
 HELLO_SECONDS = 15.0
@@ -43,6 +44,7 @@ class Node:
         self.opening = asyncio.Lock()
         self.trouble = "it hasn't been asked yet"  # nothing where it is up
         self.since = time.time()
+        self.troubles = Troubles()  # of starts
         self.haunted = ""  # a run of a job that doesn't run here, as far as the site knows
         self.pause = FIRST_PAUSE
         self.check_at = 0.0
@@ -125,6 +127,20 @@ class Node:
         if self.trouble:
             self.parts.log(f"{self.shown} is up")
             self.trouble, self.since, self.pause = "", time.time(), FIRST_PAUSE
+            self.parts.changed()
+
+    def cannot_start(self, owner: str, why: str) -> None:
+        """A job of an owner couldn't be started here."""
+        is_aside = self.troubles.add(owner, why)
+        self.parts.log(f"{self.shown} is in trouble: no job of {owner} is started there: {why}")
+        if is_aside:
+            self.parts.log(f"{self.shown} is set aside for a while: {self.troubles.told()}")
+        self.parts.changed()
+
+    def has_run(self, owner: str) -> None:
+        """A job of an owner ran here."""
+        if self.troubles.clear(owner):
+            self.parts.log(f"{self.shown} starts jobs of {owner} again")
             self.parts.changed()
 
     def fail(self, why: str) -> None:

@@ -10,7 +10,7 @@ import json
 import os
 import sys
 import time
-from typing import Any, Callable, Dict, List, NamedTuple, Optional, Sequence
+from typing import Any, Callable, Dict, List, NamedTuple, Optional, Sequence, Set
 
 from ..common.config import JobKeys
 from ..common.files import read_json, sync, write
@@ -33,6 +33,7 @@ class HostState(NamedTuple):
     state: str
     is_down: bool
     is_drained: bool
+    is_in_trouble: bool = False  # whether somebody's jobs can't be started there
 
     @property
     def is_up(self) -> bool:
@@ -45,7 +46,7 @@ class HostState(NamedTuple):
 
     def told(self) -> Dict[str, Any]:
         """The same as an object of JSON."""
-        down = {"is_down": self.is_down, "is_drained": self.is_drained}
+        down = {"is_down": self.is_down, "is_drained": self.is_drained, "is_in_trouble": self.is_in_trouble}
         return {"name": self.name, "jobs": self.jobs, "told": self.state, **down}
 
 
@@ -106,7 +107,11 @@ class Nodes(Parts):
         if host in self.drained:
             return False
         node = self.get(host) if self.keys.link else None
-        return node is None or not (node.trouble or node.haunted)
+        return node is None or not (node.trouble or node.haunted or node.troubles.is_aside())
+
+    def shunned(self, owner: str) -> Set[str]:
+        """The nodes on which no job of an owner is tried for a while, since none could be started there."""
+        return {name for name in self.names() if name in self.all and self.all[name].troubles.rest(owner) > 0}
 
     async def ask_any(self, head: Dict[str, Any]) -> Optional[Answer]:
         """What one of the nodes answers that are up; None where none does."""
@@ -183,14 +188,14 @@ class Nodes(Parts):
     def host_state(self, host: str) -> HostState:
         """How a host stands."""
         node, name = self.get(host if self.keys.link else OWN), host or os.uname().nodename
-        is_down = bool(node.trouble or node.haunted)
-        return HostState(name, sorted(self.jobs_on(host)), self.state(host), is_down, host in self.drained)
+        is_down = bool(node.trouble or node.haunted or node.troubles.is_aside())
+        return HostState(name, sorted(self.jobs_on(host)), self.state(host), is_down, host in self.drained, bool(node.troubles.told()))
 
     def state(self, host: str) -> str:
         """Whether a host is up, in words."""
         node = self.get(host if self.keys.link else OWN)
         since = time.strftime("%Y-%m-%dT%H:%M:%S", time.localtime(node.since))
-        state = f"down {since} {' '.join(node.trouble.split())}" if node.trouble else UP
+        state = f"down {since} {' '.join(node.trouble.split())}" if node.trouble else node.troubles.told() or UP
         if node.haunted:
             state = f"down {since} {node.haunted} runs there still, which doesn't run here any more; it is ended"
         if host in self.drained:

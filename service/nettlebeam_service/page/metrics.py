@@ -8,6 +8,7 @@ from typing import Callable, Dict, Iterator, List, Mapping, Optional, Tuple
 
 from ..clients.clients import Clients
 from ..housekeeping.capacity import GONE, MOST_JOBS, Capacity
+from ..nodes.nodes import HostState
 from ..peers.peers import Peers
 from ..site.backup import Backup
 from ..site.spool import Spool
@@ -54,6 +55,7 @@ class Metrics:
         backup: Backup,
         clients: Clients,
         looked_at: Callable[[], Optional[float]],
+        hosts: Callable[[], List[HostState]],
     ):
         self.capacity = capacity
         self.spool = spool
@@ -61,6 +63,7 @@ class Metrics:
         self.backup = backup
         self.clients = clients
         self.looked_at = looked_at
+        self.hosts = hosts
         self.spool_bytes: Tuple[float, int] = (0.0, 0)  # until when it is kept, and how many
 
     async def text(self) -> str:
@@ -69,7 +72,7 @@ class Metrics:
         now = time.monotonic()
         if self.spool_bytes[0] <= now:
             self.spool_bytes = (now + KEPT_SECONDS, await asyncio.to_thread(bytes_below, self.spool.folder))
-        lines = [*self.jobs(), *self.disk(), *self.ages(time.monotonic()), *self.packets(), *self.answers()]
+        lines = [*self.jobs(), *self.disk(), *self.ages(time.monotonic()), *self.packets(), *self.nodes(), *self.answers()]
         return "".join(f"{line}\n" for line in lines)
 
     def jobs(self) -> Iterator[str]:
@@ -101,6 +104,14 @@ class Metrics:
         yield from family("peer_packet_age_seconds", "gauge", "Since the last packet to and from another site.", samples)
         reached = {f'{{peer="{peer.name}"}}': float(not peer.trouble) for peer in self.peers}
         yield from family("peer_reached", "gauge", "Whether another site was reached when it was asked last.", reached)
+
+    def nodes(self) -> Iterator[str]:
+        """The nodes."""
+        hosts = self.hosts()
+        down = {f'{{node="{it.name}"}}': float(it.is_down) for it in hosts}
+        trouble = {f'{{node="{it.name}"}}': float(it.is_in_trouble) for it in hosts}
+        yield from family("node_down", "gauge", "Whether no job begins on a node, drained ones left out.", down)
+        yield from family("node_trouble", "gauge", "Whether somebody's jobs couldn't be started on a node lately.", trouble)
 
     def answers(self) -> Iterator[str]:
         """What users and peers were answered at the socket."""

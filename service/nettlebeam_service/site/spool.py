@@ -41,7 +41,9 @@ class Spool:
 
     def open(self) -> Optional[int]:
         """Makes the folder, and takes its lock, so that one service has it; clears what an earlier one left half made."""
-        os.makedirs(self.folder, mode=0o700, exist_ok=True)
+        os.makedirs(self.folder, mode=0o711, exist_ok=True)
+        if os.stat(self.folder).st_uid == os.geteuid():
+            os.chmod(self.folder, 0o711)  # owners of jobs read their own below it, in `runs`
         held = processes.lock(os.path.join(self.folder, "lock"))
         if held is not None:
             for path in (self.scripts, self.runs, self.begun):
