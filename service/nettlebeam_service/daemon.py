@@ -33,6 +33,7 @@ from .page.page import Page
 from .peers.eligibility import Eligibility
 from .peers.peers import Peers
 from .peers.unheard_changes import Unheard
+from .site import pairing
 from .site.backup import Backup
 from .site.exchange import Exchange
 from .site.lost_state import LostState
@@ -119,7 +120,8 @@ class Service:
         compacting = Compacting(config.house, self.site, self.backup, keys.spool, log)
         self.waits = Waits(config, self.site, self.spool, self.runs, log, self.changed)
         self.unheard = Unheard(config.name, self.site, keys.spool, log)
-        self.user_limits = UserLimits(config.name, config.clients, self.site, self.spool)
+        capacity, needed = Capacity(config.name, self.site, log), self.waits.groups.needed
+        self.user_limits = UserLimits(config.name, config.clients, self.site, self.spool, capacity)
         exchange = Exchange(self.site, self.spool, self.backup)
         eligibility = Eligibility(config.name, self.site)
         parts = (self.site, self.spool, exchange, signals, compacting, told, self.waits)
@@ -129,7 +131,6 @@ class Service:
         self.peers = Peers(config.name, config.peers, self.site, exchange, eligibility, log, self.changed)
         self.unheard.is_silent = self.peers.is_silent
         self.scheduler = Scheduler(config, self.site, self.spool, self.backup, self.peers, self.nodes, self.runs, starts, log)
-        capacity, needed = Capacity(config.name, self.site, log), self.waits.groups.needed
         self.waits.leave_alone(self.scheduler.begins.logged)
         self.housekeeping = Housekeeping(config.name, config.house, self.site, self.spool, compacting, capacity, needed, log)
         node_count = self.scheduler.node_count
@@ -137,6 +138,7 @@ class Service:
         told_here = (capacity, metrics, self.waits.reasons, self.unheard)
         self.page = Page(config, self.site, self.backup, self.peers, self.runs, *told_here, log)
         self.stopping = asyncio.Event()
+        self.held = -1  # the lock of the site, once it is taken
 
     def changed(self) -> None:
         """Something may have changed what starts here."""
@@ -166,8 +168,13 @@ class Service:
     async def run(self) -> int:
         """Runs until it is told to stop."""
         log(f"the service of {self.config.name} starts")
-        if self.spool.open() is None:
-            log(f"another service has the spool {self.spool.folder}")
+        try:
+            pairing.check(self.config.site.directory, self.spool.folder)
+            if self.spool.open() is None:
+                raise pairing.Foreign(f"another service has the spool {self.spool.folder}")
+            self.held = pairing.claim(self.config.site.directory, self.spool.folder)
+        except pairing.Foreign as fault:
+            log(str(fault))
             return 3
         self.lost_state.look()
         self.nodes.open()

@@ -14,8 +14,9 @@ from typing import AsyncIterator, Awaitable, Callable, Counter as Counts, Option
 
 from ..common.config import ClientKeys
 from ..common.wire import Request
+from ..housekeeping.capacity import Capacity
 from ..site.lines import Client, Denied
-from ..site.looks import living, origin_of
+from ..site.looks import jobs_told, origin_of
 from ..site.site import Site
 from ..site.spool import Spool
 from ..words.options import Fault, parse
@@ -91,17 +92,28 @@ def members_of(request: Request) -> int:
 class UserLimits:
     """The shares of all users of a site."""
 
-    def __init__(self, here: str, keys: ClientKeys, site: Site, spool: Spool):
+    def __init__(self, here: str, keys: ClientKeys, site: Site, spool: Spool, capacity: Capacity):
         self.here = here
         self.keys = keys
         self.site = site
         self.spool = spool
+        self.capacity = capacity
         self.jobs = Share(self.count_jobs, JOBS_GAP)
         self.bytes = Share(lambda: asyncio.to_thread(spool.bytes_of_owners, here), BYTES_GAP)
 
     async def count_jobs(self) -> Counts[str]:
         """How many jobs of this site each user has that aren't gone."""
-        return Counter(job["owner"] for job in await living(self.site) if origin_of(job["id"]) == self.here)
+        mine = [job for job in await jobs_told(self.site) if origin_of(job["id"]) == self.here]
+        self.capacity.note_ranges(mine)
+        return Counter(job["owner"] for job in mine if job["letter"])
+
+    async def check_ranges(self, user: str) -> None:
+        """Exceeded where jobs of this user that aren't gone keep more than half of the ranges apart that can be retired: with
+        more of them the site might be full for good."""
+        if user in self.capacity.crowding:
+            await self.jobs.count_anew()
+        if user in self.capacity.crowding:
+            raise Exceeded(f"{self.capacity.in_ranges(user)}: delete some, or let some end")
 
     @contextlib.asynccontextmanager
     async def hold(self, client: Client, request: Request) -> AsyncIterator[None]:
@@ -117,5 +129,7 @@ class UserLimits:
         if verb == "alter":
             size = await asyncio.to_thread(self.spool.growth, request.words[1:], size, self.here)
         async with self.jobs.hold(user, jobs, self.keys.jobs_of_user, "jobs here that aren't gone"):
+            if jobs:
+                await self.check_ranges(user)
             async with self.bytes.hold(user, size, self.keys.spool_of_user, "bytes of scripts here"):
                 yield
