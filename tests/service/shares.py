@@ -1,6 +1,7 @@
 """Scenes of one user who takes much, and of others who are answered as ever: ranges of ended jobs, bytes, pairs, listings."""
 import asyncio
 import json
+import statistics
 import subprocess
 import sys
 import time
@@ -115,4 +116,82 @@ def ranges_of_users(tally, federation):
     tally.same("so does the first once some are gone", site.utility("qsub", "-h", given="true\n", before=as_user(OTHER), cwd="/")[0], 0)
 
 
-SCENES = {it.__name__: it for it in (range_places, range_joins, ranges_of_users)}
+# What takes so long on a busy machine is noise, whoever does what.
+NOISE = 0.06
+
+
+def ask_beside(path, seconds):
+    """Submits and lists again and again for so many seconds; prints the waits for each."""
+    waits, end = {"qsub": [], "qstat": []}, time.monotonic() + float(seconds)
+    while time.monotonic() < end:
+        job = ""
+        for name in waits:
+            began = time.monotonic()
+            told = ask(path, [name, job or "-h"], None, {"folder": "/"}, None if job else b"true\n")
+            waits[name].append(time.monotonic() - began if not told.status else 1e9)
+            job = told.answer.decode().strip()
+        time.sleep(0.05)
+    print(json.dumps(waits))
+
+
+class Beside:
+    """Another user, who submits and lists: for some seconds while all is quiet, and then beside whatever is done."""
+
+    def __init__(self, tally, site, scene, seconds=6):
+        self.tally, self.site, self.scene, self.seconds = tally, site, scene, seconds
+        self.quiet = called_as(THIRD, "ask_beside", site.socket, "4")
+
+    def compare(self, act, *words):
+        """Does something as a user, and compares the waits meanwhile with those of before; what it printed."""
+        code = f"import sys; sys.path.insert(0, {TOP!r}); from tests.service import shares as it; it.ask_beside(*sys.argv[1:])"
+        command = [*as_user(THIRD), "/usr/bin/python3", "-B", "-c", code, self.site.socket, str(self.seconds)]
+        asking = subprocess.Popen(command, stdout=subprocess.PIPE, text=True)
+        told = called_as(OTHER, act, self.site.socket, *words)
+        waits = json.loads(asking.communicate()[0])
+        for name, spent in waits.items():
+            for what, of in (("mostly", statistics.median), ("at most", max)):
+                quiet, beside = of(self.quiet[name]), of(spent)
+                print(f"tests/service/rows: {self.scene}: {name} waited {1000 * quiet:.0f} ms {what} when quiet, {1000 * beside:.0f} beside")
+                self.tally.true(f"{name} waits {what} three times as long, but for noise", beside <= 3 * quiet + NOISE)
+        return told
+
+
+LONG_FACTS = {
+    **dict.fromkeys(("folder", "home", "host", "lang", "path", "shell", "tz", "err", "out", "keep", "mail_to", "name"), "/" + "x" * 4000),
+    **dict.fromkeys(("resources", "arguments"), "x" * 65_000),
+}
+LISTINGS = ("-a", "-x", "-n", "-s", "-u nobody", "-f -F json", "")
+
+
+def submit_long(path, count):
+    """Submits held jobs with long facts."""
+    statuses = Counter(ask(path, ["qsub", "-h"], None, LONG_FACTS, b"true\n").status for _ in range(int(count)))
+    print(json.dumps(sorted(statuses.items())))
+
+
+def long_facts(tally, federation):
+    """A thousand jobs with long facts keep nobody else from a listing, nor do they make it long."""
+    if not is_root(tally):
+        return
+    site, quiet = federation.make("argonne:4", "lemont:4", jobs="run = no")
+    for _ in range(1000):
+        quiet.ask("qsub", "-h", body=b"true\n", facts={"folder": "/", "resources": "nodes=1"})
+    spent = {}
+    beside = Beside(tally, site, "long_facts", 12)
+    tally.same("they are taken", beside.compare("submit_long", "1000"), [[0, 1000]])
+    for where in (quiet, site):
+        for words in LISTINGS:
+            began = time.monotonic()
+            status, output, said = where.utility("qstat", *words.split(), before=as_user(THIRD), cwd="/")
+            spent.setdefault(words, []).append(time.monotonic() - began)
+            if where is site:
+                tally.same(f"qstat {words} lists", (status, said, output.count("argonne") >= 1000), (0, "", True))
+    for words, (before, after) in spent.items():
+        print(f"tests/service/rows: long_facts: qstat {words} took {1000 * before:.0f} ms with short facts, {1000 * after:.0f} with long ones")
+        tally.true(f"qstat {words} takes three times as long at most", after <= 3 * before + NOISE)
+    job = next(name for name, job in site.jobs().items() if job["owner"] == OTHER)
+    status, output, _ = site.utility("qstat", "-f", "-F", "json", job, before=as_user(THIRD), cwd="/")
+    tally.true("of one job all is told", status == 0 and "/" + "x" * 4000 in output)
+
+
+SCENES = {it.__name__: it for it in (range_places, range_joins, ranges_of_users, long_facts)}

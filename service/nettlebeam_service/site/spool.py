@@ -23,6 +23,7 @@ from ..common import processes
 from ..common.batching import Batched
 from ..common.files import read_json, remove, sync, write
 from ..common.identifiers import IDENTIFIER
+from .facts import Budget, ShortFacts
 
 
 class Spool:
@@ -38,6 +39,7 @@ class Spool:
         self.names = Batched(lambda: asyncio.to_thread(sync, self.scripts))
         self.submissions = 0  # how many are asked, and not named yet
         self.added: Callable[[str], Dict[str, Any]] = lambda job: {}  # what is told of a job besides its own facts
+        self.short = ShortFacts(self.script_path)
 
     def open(self) -> Optional[int]:
         """Makes the folder, and takes its lock, so that one service has it; clears what an earlier one left half made."""
@@ -125,6 +127,13 @@ class Spool:
         """What was told when the job was submitted; None where its script isn't here."""
         found = read_json(self.script_path(job), is_line=True)
         return None if found is None else {**found, **self.added(job)}
+
+    def listed_facts(self, job: str, owner: str, budget: Budget) -> Dict[str, Any]:
+        """The facts of a job of this owner for a listing: all, or the short ones where the listing has too many."""
+        kept = self.short.of(job)
+        if kept is None:
+            return {}
+        return (self.facts(job) or {}) if budget.has(owner, kept.size) else {**kept.short, **self.added(job)}
 
     def annotate(self, job: str, added: Dict[str, Any]) -> None:
         """Puts something into a job's facts."""

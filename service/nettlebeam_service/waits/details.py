@@ -15,6 +15,7 @@ from typing import AbstractSet, Any, Dict, List, Optional, Sequence
 from ..housekeeping.gone_jobs import recorded
 from ..jobs.active_runs import Runs
 from ..site.answers import Answer
+from ..site.facts import Budget
 from ..site.looks import STARTS, Job, full_name, jobs_told, now
 from ..site.lines import JOB, Client, Denied, name_of
 from ..site.site import Site
@@ -23,6 +24,7 @@ from .groups import Groups
 
 KINDS = (["now"], ["all"], ["now", "why"], ["all", "why"])
 MOST_REASONS = 100
+MOST_PAIRS = 100  # of what one job waits for
 LEFT_ALONE = "left alone, since nothing is run here as its owner"
 PRIVATE = ("arguments", "variables")
 ONE_JOB = re.compile(f"{JOB}\\Z")
@@ -77,9 +79,9 @@ class Details:
     def lines(self, jobs: Sequence[Job], reasons: Dict[str, str], user: str, is_trusted: bool) -> bytes:
         """The lines of jobs."""
         found: List[str] = []
-        stored = set(self.spool.names_kept())
+        stored, budget = set(self.spool.names_kept()), Budget()
         for job in jobs:
-            more = self.more(job) if job["id"] in stored or job["begun"] or job["holds"] else {}
+            more = self.more(job, budget) if job["id"] in stored or job["begun"] or job["holds"] else {}
             if job["owner"] != user and not is_trusted:
                 more = {key: value for key, value in more.items() if key not in PRIVATE}
             if job["id"] in reasons:
@@ -87,15 +89,15 @@ class Details:
             found.append(json.dumps({**job, "more": more}))
         return "".join(f"{line}\n" for line in found).encode("ascii")
 
-    def more(self, job: Job) -> Dict[str, Any]:
+    def more(self, job: Job, budget: Budget) -> Dict[str, Any]:
         """What is known here of a job besides."""
         name = job["id"]
-        more: Dict[str, Any] = dict(self.spool.facts(name) or {})
+        more: Dict[str, Any] = dict(self.spool.listed_facts(name, job["owner"], budget))
         for key in ("owner", "group"):
             more.pop(key, None)
         group = self.groups.by_job.get(name)
         if group and group.is_waiting and "s" in job["holds"]:
-            more["waits"], more["waits_until"] = group.waits_for(), group.at
+            more["waits"], more["waits_until"] = group.waits_for(MOST_PAIRS), group.at
             if group.comment:
                 more["comment"] = group.comment
         elif group and group.most and "s" in job["holds"]:
