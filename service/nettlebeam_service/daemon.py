@@ -46,6 +46,7 @@ FIRST_INHERITED = 3
 MOST_WAITING = 128  # clients that aren't served yet
 FIXED_KEYS = ("directory", "program", "spool", "socket", "backup", "backup_seconds", "free_bytes")
 ORDERLY_SECONDS = 10
+SWITCH_SECONDS = 0.001  # for which a thread at work may keep the loop waiting
 WATCHDOG_PARTS = 4  # as often within the time of systemd
 USAGE = "usage: nettlebeamd CONFIG, or nettlebeamd --check CONFIG, which reads the configuration and ends"
 
@@ -121,7 +122,8 @@ class Service:
         self.waits = Waits(config, self.site, self.spool, self.runs, log, self.changed)
         self.unheard = Unheard(config.name, self.site, keys.spool, log)
         capacity, needed = Capacity(config.name, self.site, log), self.waits.groups.needed
-        self.user_limits = UserLimits(config.name, config.clients, self.site, self.spool, capacity)
+        had = (capacity, os.getuid(), self.waits.groups.pairs_of, self.waits.details.read_for)
+        self.user_limits = UserLimits(config.name, config.clients, self.site, self.spool, *had)
         exchange = Exchange(self.site, self.spool, self.backup)
         eligibility = Eligibility(config.name, self.site)
         parts = (self.site, self.spool, exchange, signals, compacting, told, self.waits)
@@ -133,6 +135,7 @@ class Service:
         self.scheduler = Scheduler(config, self.site, self.spool, self.backup, self.peers, self.nodes, self.runs, starts, log)
         self.waits.leave_alone(self.scheduler.begins.logged)
         self.housekeeping = Housekeeping(config.name, config.house, self.site, self.spool, compacting, capacity, needed, log)
+        self.waits.details.records = self.housekeeping.accounting
         node_count = self.scheduler.node_count
         metrics = Metrics(capacity, self.spool, self.peers, self.backup, self.clients, lambda: node_count.looked_at)
         told_here = (capacity, metrics, self.waits.reasons, self.unheard)
@@ -245,6 +248,7 @@ def main(words: List[str]) -> int:
     if is_check:
         return check(path, config)
     os.umask(0o077)
+    sys.setswitchinterval(SWITCH_SECONDS)
     allow_many_files()
     try:
         return asyncio.run(run(path, config))

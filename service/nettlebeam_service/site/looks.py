@@ -11,7 +11,7 @@ from .site import Site
 Job = Dict[str, Any]  # as the look `jobs` tells it
 Reservation = Dict[str, Any]  # `id`, `site`, `start`, `end`, `nodes`
 Seen = Dict[str, Dict[str, Any]]
-NAMES_OF_LINE = 500
+NAMES_OF_LINE = 250
 STARTS = "starts"  # the answer to why a job waits that starts now
 
 
@@ -59,7 +59,7 @@ def is_granted_to(job: Job, site: str) -> bool:
 async def jobs_told(site: Site, names: Sequence[str] = ()) -> List[Job]:
     """What the site tells of jobs, or of all that it knows; of a site that there isn't it tells none."""
     answer = await site.look(" ".join(["jobs", *names]))
-    return answer.json_lines() if names else await asyncio.to_thread(answer.json_lines)
+    return answer.json_lines() if 0 < len(names) <= NAMES_OF_LINE else await asyncio.to_thread(answer.json_lines)
 
 
 async def living(site: Site) -> List[Job]:

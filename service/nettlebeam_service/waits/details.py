@@ -10,9 +10,11 @@ from __future__ import annotations
 import asyncio
 import json
 import re
-from typing import AbstractSet, Any, Dict, List, Optional, Sequence
+from typing import AbstractSet, Any, Dict, List, Optional, Sequence, Tuple
 
-from ..housekeeping.gone_jobs import recorded
+from ..common.slices import Slices
+from ..housekeeping.accounting import Accounting
+from ..housekeeping.gone_jobs import MOST_BYTES, month_of, months, newest, recorded, size_of
 from ..jobs.active_runs import Runs
 from ..site.answers import Answer
 from ..site.facts import Budget
@@ -24,6 +26,7 @@ from .groups import Groups
 
 KINDS = (["now"], ["all"], ["now", "why"], ["all", "why"])
 MOST_REASONS = 100
+READING_AT_ONCE = 2
 MOST_PAIRS = 100  # of what one job waits for
 LEFT_ALONE = "left alone, since nothing is run here as its owner"
 PRIVATE = ("arguments", "variables")
@@ -41,6 +44,8 @@ class Details:
         self.runs = runs
         self.accounting = accounting
         self.left_alone: AbstractSet[str] = frozenset()
+        self.records: Optional[Accounting] = None  # which keeps the list of all that are recorded
+        self.reading = asyncio.Semaphore(READING_AT_ONCE)
 
     async def answer(self, client: Client, words: Sequence[str], role: Optional[str]) -> bytes:
         """The lines for these words."""
@@ -57,13 +62,34 @@ class Details:
         is_trusted = role is not None and role in client.roles
         return await asyncio.to_thread(self.lines, jobs, reasons, user, is_trusted)
 
+    def read_for(self, words: Sequence[str]) -> Tuple[int, int]:
+        """How many bytes of the accounting are searched at most for these words, and how many are taken."""
+        if words[:1] != ["details"] or len(words) < 2 or "all" not in words[1].split(",") or not self.accounting:
+            return 0, 0
+        if not words[2:]:
+            return 0, min(MOST_BYTES, size_of(self.accounting, months(self.accounting)))
+        recorded_in = self.recorded_in({full_name(name, self.here) for name in words[2:]})
+        return size_of(self.accounting, months(self.accounting) if recorded_in is None else recorded_in), 0
+
+    def recorded_in(self, names: AbstractSet[str]) -> Optional[List[str]]:
+        """The files of the months in which jobs of these names were recorded; None where that isn't known."""
+        if self.records is None or not self.records.is_open:
+            return None
+        known = self.records.known
+        return sorted({month_of(known[name].moment) for name in names if name in known})
+
     async def with_older(self, jobs: Sequence[Job], names: Sequence[str]) -> List[Job]:
         """Jobs with those that the accounting alone has, of these names where there are some."""
         known = {job["id"] for job in jobs}
         wanted = {full_name(name, self.here) for name in names} - known
-        if names and not wanted:
+        recorded_in = self.recorded_in(wanted)
+        if names and (not wanted or recorded_in == []):
             return list(jobs)
-        older = await asyncio.to_thread(recorded, self.accounting, wanted)
+        async with self.reading:
+            if names:
+                older = await asyncio.to_thread(recorded, self.accounting, wanted, recorded_in or ())
+            else:
+                older = await asyncio.to_thread(newest, self.accounting)
         return [job for job in older if job["id"] not in known] + list(jobs)
 
     async def reasons(self, jobs: Sequence[Job]) -> Dict[str, str]:
@@ -79,8 +105,9 @@ class Details:
     def lines(self, jobs: Sequence[Job], reasons: Dict[str, str], user: str, is_trusted: bool) -> bytes:
         """The lines of jobs."""
         found: List[str] = []
-        stored, budget = set(self.spool.names_kept()), Budget()
+        stored, budget, slices = set(self.spool.names_kept()), Budget(), Slices()
         for job in jobs:
+            slices.pause()
             more = self.more(job, budget) if job["id"] in stored or job["begun"] or job["holds"] else {}
             if job["owner"] != user and not is_trusted:
                 more = {key: value for key, value in more.items() if key not in PRIVATE}

@@ -147,6 +147,10 @@ class Groups:
         """The jobs that others wait for."""
         return {job for group in self for _, job in group.depend}
 
+    def pairs_of(self, user: str) -> int:
+        """How many pairs of what is waited for a user's groups have."""
+        return sum(len(group.depend) for group in self.all.values() if group.owner == user)
+
     def array(self, first: str) -> Optional[Group]:
         """The array whose first member this is."""
         group = self.by_job.get(first)
