@@ -1,9 +1,12 @@
 """Scenes of one user who takes much, and of others who are answered as ever: ranges of ended jobs, bytes, pairs, listings."""
 import asyncio
 import json
+import os
+import signal
 import statistics
 import subprocess
 import sys
+import threading
 import time
 from collections import Counter
 
@@ -194,4 +197,133 @@ def long_facts(tally, federation):
     tally.true("of one job all is told", status == 0 and "/" + "x" * 4000 in output)
 
 
-SCENES = {it.__name__: it for it in (range_places, range_joins, ranges_of_users, long_facts)}
+def again(path, seconds, *requests):
+    """Asks for these requests again and again, by 16 threads; prints how often each status was answered, and what was said."""
+    end, found = time.monotonic() + float(seconds), Counter()
+
+    def ask_all():
+        while time.monotonic() < end:
+            for words, facts, body in requests:
+                told = ask(path, words, None, facts, body)
+                found[f"{told.status} {told.words[:60]}"] += 1
+
+    threads = [threading.Thread(target=ask_all) for _ in range(16)]
+    for thread in threads:
+        thread.start()
+    for thread in threads:
+        thread.join()
+    print(json.dumps(found))
+
+
+def look_for_old(path):
+    """Asks for jobs that the accounting alone may have."""
+    again(path, 8, *((["details", "all", name], None, None) for name in ("999999", "7", "999998.argonne", "150000")))
+
+
+def old_jobs(tally, federation):
+    """Who asks for jobs of which the accounting has many, or none, holds nobody up; what it has is told."""
+    if not is_root(tally):
+        return
+    count, moment = 200_000, 1_790_000_000
+    (site,) = federation.make("argonne:4", jobs="run = no")
+    site.kill(signal.SIGTERM)
+    folder, month = f"{site.home}/spool/accounting", time.strftime("%Y-%m", time.localtime(moment))
+    os.makedirs(folder, exist_ok=True)
+    told = {"owner": "ann", "deleted": True, "letter": None, "begun": None, "grant": None, "finished": None, "holds": [], "name": "old"}
+    with open(f"{folder}/{month}.jsonl", "w", encoding="ascii") as file, open(f"{folder}/recorded", "w", encoding="ascii") as index:
+        for number in range(1, count):
+            file.write(json.dumps({"id": f"{number}.argonne", **told, "account": "x" * 300}, separators=(",", ":")) + "\n")
+            index.write(f"{number}.argonne {moment} - -\n")
+    site.start()
+    site.wait_ready()
+    until(lambda: open(f"{folder}/recorded", "rb").read().count(b"\n") >= count - 1 and time.sleep(8) is None, 30, "all is read")
+    name = "123456.argonne"
+    tally.same("a job that is recorded is told", json.loads(site.said("details", "all", name))["id"], name)
+    tally.same("one that isn't is told not", site.ask("details", "all", "900000").answer, b"")
+    found = Beside(tally, site, "old_jobs", 12).compare("look_for_old")
+    print(f"tests/service/rows: old_jobs: {found}")
+    tally.true("all are answered", set(found) == {"0 "})
+
+
+def wait_for_all(path):
+    """Submits jobs that wait for all others in each way; prints how often each status was answered, and what was said."""
+    text = ",".join(f"{kind}:{':'.join(map(str, range(1, 1901)))}" for kind in ("after", "afterok", "afternotok", "afterany"))
+    found = Counter()
+    for _ in range(300):
+        told = ask(path, ["qsub"], None, {"folder": "/", "depend": text}, b"true\n")
+        found[f"{told.status} {told.words[-60:]}"] += 1
+        if told.status == 1 and found[f"{told.status} {told.words[-60:]}"] > 3:
+            break
+    print(json.dumps(found))
+
+
+def many_pairs(tally, federation):
+    """A user's jobs wait for others so many times at most, and what waits is looked at in slices."""
+    if not is_root(tally):
+        return
+    site, _ = filled(federation, ["ann qsub -h"] * 1900)
+    site.utility("qsub", "-h", given="true\n", before=as_user(THIRD), cwd="/")  # for which all are counted once
+    time.sleep(5)
+    found = Beside(tally, site, "many_pairs", 20).compare("wait_for_all")
+    print(f"tests/service/rows: many_pairs: {found}")
+    tally.same("two are taken", found.get("0 "), 2)
+    tally.true("and then no more", any("would wait for others 20000 times" in words for words in found))
+
+
+def alter_again(path, job):
+    """Alters one job 1,500 times in one request; prints the status, and how long it took."""
+    began = time.monotonic()
+    told = ask(path, ["alter", *[job] * 1500], None, {"mail_to": "ann"})
+    print(json.dumps([told.status, time.monotonic() - began]))
+
+
+def submit_large(path):
+    """Submits a job with the longest script; prints its identifier."""
+    print(json.dumps(ask(path, ["qsub", "-h"], None, {"folder": "/"}, b"#" * (16 << 20)).answer.decode().strip()))
+
+
+def large_alters(tally, federation):
+    """Altering a job with a long script again and again keeps no job of others waiting, nor their requests."""
+    if not is_root(tally):
+        return
+    (site,) = federation.make("argonne:4", jobs="run = no")
+    job, first = called_as(OTHER, "submit_large", site.socket), site.submit("true\n", "-h")
+    second = site.submit("true\n", depend=f"afterany:{first}")
+    waits = []
+
+    def release():
+        time.sleep(3)
+        began = time.monotonic()
+        site.ask("qdel", first)
+        until(lambda: not site.jobs(second)[second]["holds"] or None, 300, "it is released")
+        waits.append(time.monotonic() - began)
+
+    releasing = threading.Thread(target=release)
+    beside = Beside(tally, site, "large_alters", 12)
+    releasing.start()
+    status, spent = beside.compare("alter_again", job)
+    releasing.join()
+    print(f"tests/service/rows: large_alters: 1,500 times took {spent:.1f} s; a job that waited was released after {waits[0]:.1f} s")
+    tally.same("they are done", status, 0)
+    tally.true("a job of others is released soon", waits[0] < 5)
+
+
+def refused_words(path):
+    """Submits what is refused: ranges of an array with much in few bytes, and the smallest variables."""
+    variables = b"A=\0" * 349_000
+    array, priority = ["qsub"], ["qsub", "-p", "5000"]
+    facts = {"folder": "/", "array": "0-999," * 680 + "1"}
+    again(path, 8, (array, facts, b"true\n"), (priority, {"folder": "/", "variables": str(len(variables))}, variables + b"true\n"))
+
+
+def small_words(tally, federation):
+    """What costs much for its bytes, and is refused, holds nobody up."""
+    if not is_root(tally):
+        return
+    (site,) = federation.make("argonne:4", jobs="run = no")
+    found = Beside(tally, site, "small_words", 12).compare("refused_words")
+    print(f"tests/service/rows: small_words: {found}")
+    tally.true("all are refused", all(words[0] in "12" for words in found))
+
+
+SCENES = {it.__name__: it for it in (range_places, range_joins, ranges_of_users, long_facts, old_jobs, many_pairs, large_alters, small_words)}

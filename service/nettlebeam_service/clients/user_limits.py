@@ -169,7 +169,8 @@ class UserLimits:
         cost = REQUEST + BYTE_OF_BODY * (request.size or 0) + WORD * len(words) + PAIR * pairs_of(request)
         cost += MEMBER * (members_of(request) + MOST_MEMBERS * sum("[" in word for word in words))
         if verb == ["alter"]:
-            cost += ALTERED * len(words) + BYTE_OF_BODY * self.spool.bytes_of(words[1 : 1 + MOST_LOOKED_AT], self.here)
+            altered = set(words[1:])
+            cost += ALTERED * len(altered) + BYTE_OF_BODY * self.spool.bytes_of(list(altered)[:MOST_LOOKED_AT], self.here)
         searched, taken = self.reading(words)
         return cost + BYTE_SEARCHED * searched + BYTE_TAKEN * taken
 

@@ -108,12 +108,11 @@ class Spool:
         return total
 
     def bytes_of(self, jobs: Sequence[str], here: str) -> int:
-        """How many bytes the scripts of these jobs have, each as often as it is named."""
-        found: Counts[str] = Counter(job if "." in job else f"{job}.{here}" for job in jobs)
+        """How many bytes the scripts of these jobs have."""
         total = 0
-        for name, count in found.items():
+        for job in jobs:
             try:
-                total += count * os.stat(self.script_path(name)).st_size
+                total += os.stat(self.script_path(job if "." in job else f"{job}.{here}")).st_size
             except (OSError, ValueError):
                 continue
         return total
