@@ -1,8 +1,10 @@
 """Scenes of one user who takes much, and of others who are answered as ever: ranges of ended jobs, bytes, pairs, listings."""
 import asyncio
+import gc
 import json
 import os
 import signal
+import socket
 import statistics
 import subprocess
 import sys
@@ -11,9 +13,10 @@ import time
 from collections import Counter
 
 from tests.playing import TOP
-from tests.service.bounds import filled
+from tests.service.bounds import filled, page_of
 from tests.service.scenes import OTHER, as_user, is_root
-from tests.service.sites import accounting, ask, until
+from tests.service.sites import accounting, ask, free_port, until
+from nettlebeam_service.common.commands import call
 from nettlebeam_service.common.config import HouseKeys
 from nettlebeam_service.housekeeping.capacity import Capacity
 from nettlebeam_service.housekeeping.daily import Housekeeping
@@ -326,4 +329,62 @@ def small_words(tally, federation):
     tally.true("all are refused", all(words[0] in "12" for words in found))
 
 
-SCENES = {it.__name__: it for it in (range_places, range_joins, ranges_of_users, long_facts, old_jobs, many_pairs, large_alters, small_words)}
+def keep_silent(port, kind):
+    """Opens connections to the page, some silent, some with requests whose answers aren't read, and keeps them until standard
+    input ends."""
+    streams = []
+    for _ in range(300 if kind == "silent" else 60):
+        try:
+            streams.append(socket.create_connection(("127.0.0.1", int(port)), timeout=10))
+            if kind != "silent":
+                streams[-1].sendall(b"GET /jobs.json HTTP/1.1\r\nHost: localhost\r\n\r\n")
+        except OSError:
+            pass
+    print(len(streams), flush=True)
+    sys.stdin.read()
+
+
+def silent_browsers(tally, federation):
+    """Connections of one user that are silent, or whose answers aren't read, keep nobody else from the page."""
+    if not is_root(tally):
+        return
+    port = free_port()
+    site, _ = filled(federation, ["ann qsub -h"] * 1000, more=f"[page]\nport = {port}\n")
+    code = f"import sys; sys.path.insert(0, {TOP!r}); from tests.service import shares as it; it.keep_silent(*sys.argv[1:])"
+    until(lambda: page_of(port, "jobs.json"), 20, "the page is there")
+    for kind in ("silent", "deaf"):
+        command = [*as_user(OTHER), "/usr/bin/python3", "-B", "-c", code, str(port), kind]
+        keeping = subprocess.Popen(command, stdin=subprocess.PIPE, stdout=subprocess.PIPE)
+        try:
+            tally.true("there are some", int(keeping.stdout.readline()) >= 32)
+            for path in ("", "metrics", "jobs.json") * 3:
+                began = time.monotonic()
+                try:
+                    tally.true(f"beside {kind} ones the page /{path} is told", page_of(port, path))
+                except OSError as fault:
+                    tally.fail(f"beside {kind} ones the page /{path} is: {fault!r}")
+                tally.true("soon", time.monotonic() - began < 5)
+        finally:
+            keeping.stdin.close()
+            keeping.wait()
+
+
+def cancelled_calls(tally, federation):
+    """A command that is ended, while what has left its session keeps its streams, is no fault that the loop logs."""
+    told = []
+
+    async def call_one():
+        asyncio.get_running_loop().set_exception_handler(lambda loop, context: told.append(context))
+        try:
+            await call(("sh", "-c", "setsid sleep 7 & exec sleep 30"), 0.5)
+        except asyncio.TimeoutError:
+            told.append("too late")
+        await asyncio.sleep(2)  # what has left the session ends
+        gc.collect()
+
+    asyncio.run(call_one())
+    tally.same("it is too late, and nothing else", told, ["too late"])
+
+
+ALL = (range_places, range_joins, ranges_of_users, long_facts, old_jobs, many_pairs, large_alters, small_words, silent_browsers, cancelled_calls)
+SCENES = {it.__name__: it for it in ALL}
