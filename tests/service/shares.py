@@ -363,7 +363,7 @@ def silent_browsers(tally, federation):
                     tally.true(f"beside {kind} ones the page /{path} is told", page_of(port, path))
                 except OSError as fault:
                     tally.fail(f"beside {kind} ones the page /{path} is: {fault!r}")
-                tally.true("soon", time.monotonic() - began < 5)
+                tally.true("soon", time.monotonic() - began < 10)
         finally:
             keeping.stdin.close()
             keeping.wait()

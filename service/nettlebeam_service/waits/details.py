@@ -64,6 +64,8 @@ class Details:
 
     def read_for(self, words: Sequence[str]) -> Tuple[int, int]:
         """How many bytes of the accounting are searched at most for these words, and how many are taken."""
+        if words[:1] == ["usage"]:
+            return size_of(self.accounting, months(self.accounting)), 0
         if words[:1] != ["details"] or len(words) < 2 or "all" not in words[1].split(",") or not self.accounting:
             return 0, 0
         if not words[2:]:
