@@ -11,6 +11,7 @@ from typing import Dict, List, Sequence, Set
 from .common.ask import Unasked, ask
 from .common.config import Config
 from .peers.seal import BadSeal, read_key
+from .site import pairing
 from .site.answers import Answer
 
 ROSTER_SECONDS = 10
@@ -81,6 +82,15 @@ def peer_faults(config: Config, roster: Dict[str, int]) -> List[str]:
     return [f"[peer {name}]: {name} is no other site of the roster: {' '.join(roster)}" for name in unknown]
 
 
+def pairing_faults(config: Config) -> List[str]:
+    """A spool that isn't the site's."""
+    try:
+        pairing.check(config.site.directory, config.site.spool)
+    except pairing.Foreign as fault:
+        return [f"[site] spool = {config.site.spool}: {fault}"]
+    return []
+
+
 def faults(config: Config, roster: Dict[str, int]) -> List[str]:
     """All that is wrong."""
     site, jobs = config.site, config.jobs
@@ -92,7 +102,7 @@ def faults(config: Config, roster: Dict[str, int]) -> List[str]:
         found.append(f"[site] directory = {site.directory}: this account may not write there")
     if os.path.exists(site.spool) and not os.access(site.spool, os.R_OK | os.W_OK | os.X_OK):
         found.append(f"[site] spool = {site.spool}: this account may not write there")
-    return found + group_faults(config) + key_faults(config) + peer_faults(config, roster)
+    return found + pairing_faults(config) + group_faults(config) + key_faults(config) + peer_faults(config, roster)
 
 
 def notes(config: Config) -> List[str]:

@@ -34,6 +34,7 @@ from .page.page import Page
 from .peers.eligibility import Eligibility
 from .peers.peers import Peers
 from .peers.unheard_changes import Unheard
+from .site import pairing
 from .site.backup import Backup
 from .site.exchange import Exchange
 from .site.lost_state import LostState
@@ -46,6 +47,7 @@ FIRST_INHERITED = 3
 MOST_WAITING = 128  # clients that aren't served yet
 FIXED_KEYS = ("directory", "program", "spool", "socket", "backup", "backup_seconds", "free_bytes")
 ORDERLY_SECONDS = 10
+SWITCH_SECONDS = 0.001  # for which a thread at work may keep the loop waiting
 WATCHDOG_PARTS = 4  # as often within the time of systemd
 USAGE = "usage: nettlebeamd CONFIG, or nettlebeamd --check CONFIG [USER ..], which says what is wrong with it, and tries what jobs need"
 
@@ -120,7 +122,9 @@ class Service:
         compacting = Compacting(config.house, self.site, self.backup, keys.spool, log)
         self.waits = Waits(config, self.site, self.spool, self.runs, log, self.changed)
         self.unheard = Unheard(config.name, self.site, keys.spool, log)
-        self.user_limits = UserLimits(config.name, config.clients, self.site, self.spool)
+        capacity, needed = Capacity(config.name, self.site, log), self.waits.groups.needed
+        had = (capacity, os.getuid(), self.waits.groups.pairs_of, self.waits.details.read_for)
+        self.user_limits = UserLimits(config.name, config.clients, self.site, self.spool, *had)
         exchange = Exchange(self.site, self.spool, self.backup)
         eligibility = Eligibility(config.name, self.site)
         parts = (self.site, self.spool, exchange, signals, compacting, told, self.waits)
@@ -130,14 +134,15 @@ class Service:
         self.peers = Peers(config.name, config.peers, self.site, exchange, eligibility, log, self.changed)
         self.unheard.is_silent = self.peers.is_silent
         self.scheduler = Scheduler(config, self.site, self.spool, self.backup, self.peers, self.nodes, self.runs, starts, log)
-        capacity, needed = Capacity(config.name, self.site, log), self.waits.groups.needed
         self.waits.leave_alone(self.scheduler.begins.logged)
         self.housekeeping = Housekeeping(config.name, config.house, self.site, self.spool, compacting, capacity, needed, log)
+        self.waits.details.records = self.housekeeping.accounting
         node_count = self.scheduler.node_count
         metrics = Metrics(capacity, self.spool, self.peers, self.backup, self.clients, lambda: node_count.looked_at, self.nodes.states)
         told_here = (capacity, metrics, self.waits.reasons, self.unheard)
         self.page = Page(config, self.site, self.backup, self.peers, self.runs, *told_here, log)
         self.stopping = asyncio.Event()
+        self.held = -1  # the lock of the site, once it is taken
 
     def changed(self) -> None:
         """Something may have changed what starts here."""
@@ -167,8 +172,13 @@ class Service:
     async def run(self) -> int:
         """Runs until it is told to stop."""
         log(f"the service of {self.config.name} starts")
-        if self.spool.open() is None:
-            log(f"another service has the spool {self.spool.folder}")
+        try:
+            pairing.check(self.config.site.directory, self.spool.folder)
+            if self.spool.open() is None:
+                raise pairing.Foreign(f"another service has the spool {self.spool.folder}")
+            self.held = pairing.claim(self.config.site.directory, self.spool.folder)
+        except pairing.Foreign as fault:
+            log(str(fault))
             return 3
         self.lost_state.look()
         self.nodes.open()
@@ -240,6 +250,7 @@ def main(words: List[str]) -> int:
         return check(path, config, paths[1:])
     hold_version()
     os.umask(0o077)
+    sys.setswitchinterval(SWITCH_SECONDS)
     allow_many_files()
     try:
         return asyncio.run(run(path, config))

@@ -15,10 +15,12 @@ from ..common.wire import LONGEST_HEAD, Malformed, Reply, Request, read_head
 from ..site.lines import is_costly
 from ..site.packets import LONGEST_PACKET
 from .requests import Requests
+from .user_limits import BYTE_OF_ANSWER, BYTE_OF_HEAD
 from .users import Users, uid_of
 
 LINES_OF_USER = 16
 COSTLY_LINES = 2
+ALTERING, COSTLY = "alter", "costly"  # lines of which one user has one at a time
 
 
 class Busy(Exception):
@@ -76,19 +78,21 @@ class Gates:
     """
 
     def __init__(self) -> None:
-        self.users: Dict[Tuple[int, bool], asyncio.Semaphore] = {}
-        self.waiting: Counts[Tuple[int, bool]] = Counter()
+        self.users: Dict[Tuple[int, str], asyncio.Semaphore] = {}
+        self.waiting: Counts[Tuple[int, str]] = Counter()
         self.costly = asyncio.Semaphore(COSTLY_LINES)
 
     @contextlib.asynccontextmanager
     async def through(self, uid: int, words: Sequence[str]) -> AsyncIterator[None]:
         """Waits for this user's turn."""
-        key = (uid, is_costly(words))
-        gate = self.users.setdefault(key, asyncio.Semaphore(1 if key[1] else LINES_OF_USER))
+        # an alteration writes scripts anew, and goes through few jobs of the board
+        kind = ALTERING if words[:1] == ["alter"] else COSTLY if is_costly(words) else ""
+        key = (uid, kind)
+        gate = self.users.setdefault(key, asyncio.Semaphore(1 if kind else LINES_OF_USER))
         self.waiting[key] += 1
         try:
             async with gate:
-                if not key[1]:
+                if kind != COSTLY:
                     yield
                     return
                 async with self.costly:
@@ -152,8 +156,12 @@ class Clients:
 
     async def converse(self, uid: int, reader: asyncio.StreamReader, writer: asyncio.StreamWriter) -> None:
         """Reads a request, and answers it."""
+        limits = self.requests.user_limits
         try:
-            request = await asyncio.wait_for(self.head(uid, reader), self.keys.seconds)
+            line = await asyncio.wait_for(self.line(reader), self.keys.seconds)
+            await limits.work.spend(uid, BYTE_OF_HEAD * len(line))
+            request = self.request(uid, line)
+            await limits.work.spend(uid, limits.cost_of(request))
         except Malformed as fault:
             await self.send(writer, Reply(2, words=str(fault)))
             return
@@ -167,15 +175,19 @@ class Clients:
             request.body = b""
             self.answers[reply.status] += 1
             self.seconds += time.monotonic() - began
+        limits.work.charge(uid, BYTE_OF_ANSWER * len(reply.answer))
         with self.meter(uid).hold(uid, len(reply.answer), "bytes"):
             await self.send(writer, reply)
 
-    async def head(self, uid: int, reader: asyncio.StreamReader) -> Request:
+    async def line(self, reader: asyncio.StreamReader) -> bytes:
         """The line of a request."""
         try:
-            line = await reader.readuntil(b"\n")
+            return await reader.readuntil(b"\n")
         except asyncio.LimitOverrunError:
             raise Malformed(f"the line of a request has at most {LONGEST_HEAD} bytes") from None
+
+    def request(self, uid: int, line: bytes) -> Request:
+        """The request in a line."""
         request = read_head(line)
         most = LONGEST_PACKET if uid == self.own else self.keys.script_bytes
         if request.size is not None and request.size > most:

@@ -73,6 +73,12 @@ async def feed(stream: Optional[asyncio.StreamWriter], given: bytes | bytearray)
         await stream.wait_closed()
 
 
+def forget(ended: "asyncio.Future[Any]") -> None:
+    """Takes what a gathering that was cancelled ended with, so that the loop doesn't log it as a fault of which nobody knows."""
+    if not ended.cancelled():
+        ended.exception()
+
+
 def start_tick(pid: int) -> int:
     """The tick at which a child started; 0 where it has ended already."""
     try:
@@ -121,3 +127,4 @@ async def call(
             await asyncio.to_thread(end_session, process.pid, since)
             await asyncio.wait([ended], timeout=ENDING_SECONDS)  # which what has left the session may keep from its end
             ended.cancel()
+            ended.add_done_callback(forget)

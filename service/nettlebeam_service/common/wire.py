@@ -15,6 +15,7 @@ LONGEST_HEAD = 256 * 1024
 LONGEST_FACT = 4096
 LONGEST_LISTS = 65_536
 MOST_VARIABLES = 1024 * 1024
+MOST_NAMES = 10_000  # of variables, each of which costs more than its bytes
 LONGEST_VARIABLE = 128 * 1024 - 1  # more isn't taken by the kernel of one word
 # what a client tells of where it submits
 OF_CLIENTS = ("folder", "home", "host", "lang", "path", "shell", "tz", "umask")
@@ -99,6 +100,8 @@ def split_body(request: Request) -> Tuple[Dict[str, str], bytes]:
     size = int(text) if text.isascii() and text.isdigit() and len(text) < 9 else -1
     if not 0 <= size <= min(MOST_VARIABLES, len(request.body)):
         raise Malformed("the variables have no such size")
+    if request.body.count(b"\0", 0, size) > MOST_NAMES:
+        raise Malformed(f"there are more than {MOST_NAMES} variables")
     variables: Dict[str, str] = {}
     for pair in request.body[:size].split(b"\0")[:-1] if size else []:
         name, mark, value = pair.partition(b"=")
@@ -110,7 +113,7 @@ def split_body(request: Request) -> Tuple[Dict[str, str], bytes]:
 
 def are_variables(value: Any) -> bool:
     """Whether a value that another site told is a job's variables."""
-    if not isinstance(value, dict) or sum(len(str(key)) + len(str(it)) + 2 for key, it in value.items()) > MOST_VARIABLES:
+    if not isinstance(value, dict) or len(value) > MOST_NAMES or sum(len(str(key)) + len(str(it)) + 2 for key, it in value.items()) > MOST_VARIABLES:
         return False
     texts = all(isinstance(it, str) and "\0" not in it and len(it) < LONGEST_VARIABLE for pair in value.items() for it in pair)
     return texts and all(name and "=" not in name for name in value)

@@ -187,3 +187,9 @@ class Accounting:
         """The identifiers of those jobs that are settled, and were recorded at the moment or before."""
         names = [job["id"] for job in jobs if is_settled(job, self.here)]
         return {name for name in names if name in self.known and self.known[name].moment <= moment}
+
+    def retired(self, jobs: Sequence[Dict[str, Any]]) -> List[int]:
+        """The counters of the recorded jobs of this site, ascending, that it doesn't tell any more among these."""
+        told = {job["id"] for job in jobs}
+        mine = (name.partition(".") for name in self.known if name not in told)
+        return sorted(int(number) for number, _, origin in mine if origin == self.here and number.isdigit())

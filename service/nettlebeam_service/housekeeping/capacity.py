@@ -3,10 +3,11 @@ from __future__ import annotations
 
 import time
 from collections import Counter
-from typing import Callable, Counter as Counts, Optional, Sequence
+from typing import Callable, Counter as Counts, Optional, Sequence, Set
 
 from ..site.looks import Job, counter_of, jobs_told, origin_of
 from ..site.site import Site
+from .retiring import HALF, MOST_RANGES, counter_of as counter_in, kept_apart
 
 MOST_JOBS = 10_000
 HIGH = 7_500  # from here on what is gone is retired early
@@ -28,6 +29,9 @@ class Capacity:
         self.counter = 0  # of this site, before the jobs were counted
         self.counted_at: Optional[float] = None
         self.logged = 0
+        self.retired: Sequence[int] = ()  # the counters of the jobs that are, ascending, as far as they are recorded
+        self.apart: Counts[str] = Counter()  # how many ranges end at jobs of each user
+        self.crowding: Set[str] = set()  # the users whose jobs keep too many apart
 
     async def last(self) -> int:
         """The greatest counter of this site. Each of its jobs has one of its own."""
@@ -42,6 +46,21 @@ class Capacity:
         if self.own >= HIGH and self.own != self.logged:
             self.log(f"the site has {self.in_words()}")
         self.logged = self.own
+        self.note_ranges(mine)
+
+    def note_ranges(self, mine: Sequence[Job]) -> None:
+        """Counts how many ranges of what is gone the jobs of each user keep apart, and logs whose are too many."""
+        living = {counter_in(job["id"]): str(job["owner"]) for job in mine if job["letter"]}
+        gone = [counter_in(job["id"]) for job in mine if not job["letter"]]
+        self.apart = kept_apart(living, sorted(gone), self.retired)
+        crowding = {user for user, count in self.apart.items() if count > HALF}
+        for user in sorted(crowding - self.crowding):
+            self.log(f"{self.in_ranges(user)}: no more of them are taken until some are gone")
+        self.crowding = crowding
+
+    def in_ranges(self, user: str) -> str:
+        """What a user's jobs keep apart, in words."""
+        return f"jobs of {user} that aren't gone keep {self.apart[user]} of {MOST_RANGES} ranges of ended jobs apart"
 
     def in_words(self) -> str:
         """How full the site is."""

@@ -6,7 +6,7 @@ from __future__ import annotations
 import asyncio
 import math
 import time
-from typing import Callable, Dict, Iterable, Sequence, Set
+from typing import Callable, Dict, Iterable, List, Sequence, Set
 
 from ..common.config import HouseKeys
 from ..site.looks import Job, is_granted_to, jobs_told, origin_of, reservations_of
@@ -15,7 +15,7 @@ from ..site.spool import Spool
 from .accounting import Accounting
 from .capacity import Capacity
 from .compacting import Compacting
-from .retiring import oldest, ranges_to_retire
+from .retiring import Range, counter_of, names_within, oldest, ranges_to_retire
 
 FIRST_SECONDS = 2
 RETRY_SECONDS = 60
@@ -79,6 +79,7 @@ class Housekeeping:
             count = await asyncio.to_thread(self.accounting.record, jobs, self.completed, self.submitted)
             if count:
                 self.log(f"{count} jobs that are gone are recorded in {self.keys.accounting}")
+            self.capacity.retired = await asyncio.to_thread(self.accounting.retired, jobs)
         self.capacity.note(jobs, last)
         await self.decline(jobs)
         removed = await asyncio.to_thread(self.clear, names, jobs)
@@ -105,23 +106,37 @@ class Housekeeping:
 
     async def retire(self, last: int, jobs: Sequence[Job]) -> None:
         """Retires the jobs of this site up to this counter that were recorded long enough ago; of a site that is nearly full
-        also the oldest of the others that are recorded."""
+        also the oldest of the others that are recorded, and where these can't be retired enough of all that are."""
         mine, needed = [job for job in jobs if origin_of(job["id"]) == self.name], self.needed()
+        recorded = self.accounting.recorded_before(mine, time.time()) - needed
         may_leave = self.accounting.recorded_before(mine, time.time() - self.keys.retire) - needed
-        lacking = self.capacity.surplus() - len(may_leave)
-        if lacking > 0:
-            recorded = self.accounting.recorded_before(mine, time.time()) - needed - may_leave
-            may_leave |= set(oldest(recorded, self.accounting.known)[:lacking])
+        surplus = self.capacity.surplus()
+        if surplus > len(may_leave):
+            may_leave |= set(oldest(recorded - may_leave, self.accounting.known)[: surplus - len(may_leave)])
         standing = [it["id"] for it in await reservations_of(self.site)]
-        count = 0
-        for first, end, its in ranges_to_retire(self.name, last, jobs, standing, may_leave):
-            answer = await self.site.ask(f"retire {first} {end}")
-            if answer.is_just("done"):
-                count += its
-            else:
-                self.log(f"{self.name}: retire {first} {end} is answered {answer.shown()}")
-        if count:
-            self.log(f"{count} jobs of {self.name} that are recorded are retired")
+        gone = await self.retire_those(last, mine, standing, may_leave, len(mine))
+        if len(gone) < surplus:
+            mine = [job for job in mine if job["id"] not in gone]
+            gone |= await self.retire_those(last, mine, standing, recorded - gone, surplus - len(gone))
+        if gone:
+            self.log(f"{len(gone)} jobs of {self.name} that are recorded are retired")
+
+    async def retire_those(self, last: int, mine: Sequence[Job], standing: Sequence[str], leaving: Set[str], most: int) -> Set[str]:
+        """Retires of these jobs of this site those that leave, about so many at most; those that are retired."""
+        left, refused = ranges_to_retire(self.name, last, mine, standing, leaving, self.capacity.retired), 0
+        done: List[Range] = []
+        while left and len(left) != refused:  # again as long as there are fewer: what joins others has made room for them
+            asked, left, refused = left, [], len(left)
+            for each in asked:
+                if sum(it.jobs for it in done) >= most:
+                    break
+                answer = await self.site.ask(f"retire {each.first} {each.last}")
+                (done if answer.is_just("done") else left).append(each)
+        if left:
+            self.log(f"{self.name}: retire {left[0].first} {left[0].last} is answered {answer.shown()}, as are {len(left) - 1} others")
+        gone = names_within(leaving, done)
+        self.capacity.retired = sorted([*self.capacity.retired, *map(counter_of, gone)])
+        return gone
 
     async def decline(self, jobs: Iterable[Job]) -> None:
         """Declines the grants of jobs that were deleted before they began: their origins can't tell else that such a job never

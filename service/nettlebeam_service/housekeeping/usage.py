@@ -10,6 +10,7 @@ import datetime
 import os
 from typing import Dict, Iterator, List, NamedTuple, Optional, Sequence, Tuple
 
+from ..common.slices import Slices
 from ..site.lines import USER, Client, Denied, asker, name_of
 from ..site.looks import Job, jobs_told
 from ..site.site import Site
@@ -59,12 +60,15 @@ def has_ended(job: Job, asked: Asked) -> bool:
 
 def recorded_jobs(folder: str, asked: Asked) -> Iterator[Job]:
     """The jobs of the months that may have some which ended since then: none is recorded before it ends."""
-    since = asked.since
+    since, slices = asked.since, Slices()
     first = datetime.datetime.fromtimestamp(since).strftime("%Y-%m") + SUFFIX if since else ""
     for name in sorted(os.listdir(folder)) if os.path.isdir(folder) else []:
         if name.endswith(SUFFIX) and name >= first:
             with open(os.path.join(folder, name), encoding="ascii", errors="replace") as file:
-                yield from map(job_in, (line.encode() for line in file if asked.user is None or asked.user in line))
+                for line in file:
+                    slices.pause()
+                    if asked.user is None or asked.user in line:
+                        yield job_in(line.encode())
 
 
 def key_of(job: Job) -> Tuple[str, int, int]:

@@ -8,6 +8,7 @@ import time
 from typing import Any, Awaitable, Callable, Dict, List, NamedTuple, Sequence, Tuple
 from urllib.parse import parse_qs, urlsplit
 
+from ..clients.clients import Busy
 from ..common.config import Config
 from ..housekeeping.capacity import MOST_JOBS, Capacity
 from ..jobs.active_runs import Runs
@@ -19,10 +20,11 @@ from ..site.lines import JOB
 from ..site.looks import STARTS, jobs_told, living, machine_of, plan_of, reservations_of, told_of
 from ..site.site import Site, Stopped
 from . import html
+from .connections import Connections
 from .metrics import KIND, Metrics
 
 ADDRESS = "127.0.0.1"
-MOST_CONNECTIONS = 32
+BACKLOG = 32
 MOST_HEAD = 8192
 Reasons = Callable[[Sequence[str]], Dict[str, str]]
 SECONDS = 10.0
@@ -104,7 +106,7 @@ class Page:
         self.waits = waits  # what the service has jobs wait for
         self.unheard = unheard
         self.log = log
-        self.connections = 0
+        self.connections = Connections()
         self.kept: Dict[str, Tuple[float, "asyncio.Future[Any]"]] = {}
 
     async def run(self) -> None:
@@ -112,7 +114,7 @@ class Page:
         told = ""
         while True:
             try:
-                server = await asyncio.start_server(self.serve, ADDRESS, self.config.page.port, limit=MOST_HEAD)
+                server = await asyncio.start_server(self.serve, ADDRESS, self.config.page.port, limit=MOST_HEAD, backlog=BACKLOG)
             except OSError as fault:
                 if told != str(fault):
                     told = str(fault)
@@ -123,17 +125,19 @@ class Page:
 
     async def serve(self, reader: asyncio.StreamReader, writer: asyncio.StreamWriter) -> None:
         """Serves one connection: one request."""
-        self.connections += 1
         try:
-            if self.connections <= MOST_CONNECTIONS:
+            with self.connections.until_heard(writer):
                 head = await asyncio.wait_for(reader.readuntil(b"\r\n\r\n"), SECONDS)
+            async with self.connections.place(writer):
                 response, with_body = await self.respond(head.decode("latin-1"))
+                writer.transport.set_write_buffer_limits(high=0)
                 writer.write(response.data(with_body))
                 await asyncio.wait_for(writer.drain(), SECONDS)
+        except Busy as fault:
+            writer.write(problem(503, f"{fault}.").data(True))
         except (OSError, asyncio.IncompleteReadError, asyncio.LimitOverrunError, asyncio.TimeoutError):
-            pass  # the browser has gone, is too slow, or asks too much
+            writer.transport.abort()  # the browser has gone, is too slow, or asks too much
         finally:
-            self.connections -= 1
             writer.close()
 
     async def respond(self, head: str) -> Tuple[Response, bool]:

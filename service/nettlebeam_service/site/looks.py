@@ -11,7 +11,8 @@ from .site import Site
 Job = Dict[str, Any]  # as the look `jobs` tells it
 Reservation = Dict[str, Any]  # `id`, `site`, `start`, `end`, `nodes`
 Seen = Dict[str, Dict[str, Any]]
-NAMES_OF_LINE = 500
+NAMES_OF_LINE = 25  # who asks between two such lines waits for one of them
+MOST_AT_ONCE = 250  # jobs that the loop reads in one slice
 STARTS = "starts"  # the answer to why a job waits that starts now
 
 
@@ -59,7 +60,7 @@ def is_granted_to(job: Job, site: str) -> bool:
 async def jobs_told(site: Site, names: Sequence[str] = ()) -> List[Job]:
     """What the site tells of jobs, or of all that it knows; of a site that there isn't it tells none."""
     answer = await site.look(" ".join(["jobs", *names]))
-    return answer.json_lines() if names else await asyncio.to_thread(answer.json_lines)
+    return answer.json_lines() if 0 < len(names) <= MOST_AT_ONCE else await asyncio.to_thread(answer.json_lines)
 
 
 async def living(site: Site) -> List[Job]:
@@ -77,7 +78,8 @@ async def told_of_many(site: Site, names: Iterable[str]) -> Dict[str, Job]:
     known: Dict[str, Job] = {}
     ordered = sorted(names)
     for place in range(0, len(ordered), NAMES_OF_LINE):
-        known.update(await told_of(site, ordered[place : place + NAMES_OF_LINE]))
+        async with site.long_looks:
+            known.update(await told_of(site, ordered[place : place + NAMES_OF_LINE]))
     return known
 
 

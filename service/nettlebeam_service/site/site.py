@@ -73,6 +73,7 @@ class Site:
         self.interlude: Optional[Interlude] = None
         self.open = asyncio.Event()  # whether lines are written as they come
         self.open.set()
+        self.long_looks = asyncio.Semaphore(1)  # for lines of which one has to follow another
 
     async def look(self, line: str) -> Answer:
         """The answer to a line that changes nothing. Stopped where none comes."""

@@ -16,6 +16,7 @@ import hashlib
 import json
 import os
 import tempfile
+import threading
 from collections import Counter
 from typing import Any, Callable, Counter as Counts, Dict, List, Mapping, Optional, Sequence, Tuple
 
@@ -23,6 +24,9 @@ from ..common import processes
 from ..common.batching import Batched
 from ..common.files import read_json, remove, sync, write
 from ..common.identifiers import IDENTIFIER
+from .facts import Budget, ShortFacts
+
+ANNOTATED_AT_ONCE = 64
 
 
 class Spool:
@@ -38,6 +42,8 @@ class Spool:
         self.names = Batched(lambda: asyncio.to_thread(sync, self.scripts))
         self.submissions = 0  # how many are asked, and not named yet
         self.added: Callable[[str], Dict[str, Any]] = lambda job: {}  # what is told of a job besides its own facts
+        self.short = ShortFacts(self.script_path)
+        self.annotating = [threading.Lock() for _ in range(ANNOTATED_AT_ONCE)]
 
     def open(self) -> Optional[int]:
         """Makes the folder, and takes its lock, so that one service has it; clears what an earlier one left half made."""
@@ -81,10 +87,15 @@ class Spool:
                 continue
             key = (state.st_ino, state.st_size)
             if key not in owners:
-                owners[key] = self.owners.get(key) or str((read_json(entry.path, is_line=True) or {}).get("owner", ""))
+                owners[key] = self.owners.get(key) or self.owner_of(entry.name)
                 found[owners[key]] += state.st_size
         self.owners = owners
         return found
+
+    def owner_of(self, job: str) -> str:
+        """The owner of a job's script; nothing where it has gone."""
+        kept = self.short.of(job) if IDENTIFIER.match(job) else None
+        return str(kept.short.get("owner", "")) if kept else ""
 
     def growth(self, jobs: Sequence[str], size: int, here: str) -> int:
         """How many bytes the spool grows by at most where each of these jobs is told so many more: a shared script is copied."""
@@ -96,6 +107,16 @@ class Spool:
             except (OSError, ValueError):
                 continue
             total += size + (state.st_size if state.st_nlink > 1 else 0)
+        return total
+
+    def bytes_of(self, jobs: Sequence[str], here: str) -> int:
+        """How many bytes the scripts of these jobs have."""
+        total = 0
+        for job in jobs:
+            try:
+                total += os.stat(self.script_path(job if "." in job else f"{job}.{here}")).st_size
+            except (OSError, ValueError):
+                continue
         return total
 
     def draft(self, facts: Dict[str, Any], script: bytes) -> str:
@@ -128,14 +149,22 @@ class Spool:
         found = read_json(self.script_path(job), is_line=True)
         return None if found is None else {**found, **self.added(job)}
 
+    def listed_facts(self, job: str, owner: str, budget: Budget) -> Dict[str, Any]:
+        """The facts of a job of this owner for a listing: all, or the short ones where the listing has too many."""
+        kept = self.short.of(job)
+        if kept is None:
+            return {}
+        return (self.facts(job) or {}) if budget.has(owner, kept.size) else {**kept.short, **self.added(job)}
+
     def annotate(self, job: str, added: Dict[str, Any]) -> None:
-        """Puts something into a job's facts."""
-        line, _, script = self.stored(job).partition(b"\n")
-        facts = json.loads(line)
-        if "variables" in added:
-            added = {**added, "variables": {**facts.get("variables", {}), **added["variables"]}}
-        self.name(self.draft({**facts, **added}, script), job)
-        sync(self.scripts)
+        """Puts something into a job's facts, one after another of one job. It is called in a thread."""
+        with self.annotating[hash(job) % len(self.annotating)]:
+            line, _, script = self.stored(job).partition(b"\n")
+            facts = json.loads(line)
+            if "variables" in added:
+                added = {**added, "variables": {**facts.get("variables", {}), **added["variables"]}}
+            self.name(self.draft({**facts, **added}, script), job)
+            sync(self.scripts)
 
     def stored(self, job: str) -> bytes:
         """The facts and the script of a job, as they are stored."""

@@ -3,7 +3,7 @@ from __future__ import annotations
 
 import asyncio
 import re
-from typing import Any, Callable, Dict, Optional, Tuple
+from typing import Any, Callable, Dict, List, Optional, Tuple
 
 from ..common.wire import MOST_VARIABLES, OF_OPTIONS, Reply, Request, are_variables, split_body
 from ..site.looks import origin_of, told_of
@@ -50,12 +50,11 @@ class Alterations:
         if variables:
             facts["variables"] = variables
         waits = {key: it for key, it in request.facts.items() if key in WAITS}
-        lines, words = [], []
-        async with self.releasing.lock:
-            for word in request.words[1:]:
-                answer, why = await self.alter(asker(client, request.role), word, facts, waits)
-                lines.append(f"{answer}\n")
-                words += [why] if why else []
+        who, told = asker(client, request.role), {}
+        for word in dict.fromkeys(request.words[1:]):  # one that is named again is altered already
+            told[word] = await self.alter(who, word, facts, waits)
+        lines = [f"{told[word][0]}\n" for word in request.words[1:]]
+        words = [why for _, why in told.values() if why]
         self.releasing.wake()
         self.changed()
         is_done = all(line == "done\n" for line in lines)
@@ -74,7 +73,9 @@ class Alterations:
         if refusal:
             return refusal
         if waits:
-            return await self.await_others(told, waits)
+            depend = await self.group_submission.depends_of(waits["depend"]) if "depend" in waits else None
+            async with self.releasing.lock:
+                return await self.await_others(told, waits, depend)
         return "done", NO_MAIL if points_of(facts) and not self.mail.keys.mail else ""
 
     async def keep(self, job: str, facts: Dict[str, Any]) -> Optional[Tuple[str, str]]:
@@ -92,15 +93,15 @@ class Alterations:
             return "refused 4", f"{job} was granted meanwhile, so that it may run as it was before"
         return None
 
-    async def await_others(self, told: Dict[str, Any], waits: Dict[str, str]) -> Tuple[str, str]:
-        """Sets what a job waits for."""
+    async def await_others(self, told: Dict[str, Any], waits: Dict[str, str], depend: Optional[List[List[str]]]) -> Tuple[str, str]:
+        """Sets what a job waits for, these jobs where some are given."""
         job, group = told["id"], self.groups.by_job.get(told["id"])
         if group is None or (not group.indices and "s" not in told["holds"]):
             group = Group(state=MADE, held=True, owner=told["owner"], name=told["name"], jobs=[job])
         elif group.indices:
             raise Denied(f"{job} is a member of an array, and waits as all of it")
-        if "depend" in waits:
-            group.depend = await self.group_submission.depends_of(waits["depend"])
+        if depend is not None:
+            group.depend = depend
         if "at" in waits:
             group.at = moment_in(waits["at"])
         group.comment = ""

@@ -4,6 +4,7 @@ from __future__ import annotations
 import re
 from typing import List, Optional, Sequence
 
+from ..common.slices import Slices
 from ..site.looks import told_of
 from ..site.lines import NAME, Denied
 from ..site.site import Site
@@ -47,8 +48,9 @@ class Arrays:
         """The words with the members in the places of arrays."""
         if words[0] not in TAKING or not any("[" in word for word in words):
             return list(words)
-        found: List[str] = [words[0]]
+        found, slices = [words[0]], Slices()
         for word in words[1:]:
+            await slices.rest()
             jobs = self.members(word)
             if jobs is None:
                 found.append(word)

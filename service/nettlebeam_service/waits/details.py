@@ -10,11 +10,14 @@ from __future__ import annotations
 import asyncio
 import json
 import re
-from typing import AbstractSet, Any, Dict, List, Optional, Sequence
+from typing import AbstractSet, Any, Dict, List, Optional, Sequence, Tuple
 
-from ..housekeeping.gone_jobs import recorded
+from ..common.slices import Slices
+from ..housekeeping.accounting import Accounting
+from ..housekeeping.gone_jobs import MOST_BYTES, month_of, months, newest, recorded, size_of
 from ..jobs.active_runs import Runs
 from ..site.answers import Answer
+from ..site.facts import Budget
 from ..site.looks import STARTS, Job, full_name, jobs_told, now
 from ..site.lines import JOB, Client, Denied, name_of
 from ..site.site import Site
@@ -23,6 +26,8 @@ from .groups import Groups
 
 KINDS = (["now"], ["all"], ["now", "why"], ["all", "why"])
 MOST_REASONS = 100
+READING_AT_ONCE = 2
+MOST_PAIRS = 100  # of what one job waits for
 LEFT_ALONE = "left alone, since nothing is run here as its owner"
 PRIVATE = ("arguments", "variables")
 ONE_JOB = re.compile(f"{JOB}\\Z")
@@ -39,6 +44,8 @@ class Details:
         self.runs = runs
         self.accounting = accounting
         self.left_alone: AbstractSet[str] = frozenset()
+        self.records: Optional[Accounting] = None  # which keeps the list of all that are recorded
+        self.reading = asyncio.Semaphore(READING_AT_ONCE)
 
     async def answer(self, client: Client, words: Sequence[str], role: Optional[str]) -> bytes:
         """The lines for these words."""
@@ -55,13 +62,36 @@ class Details:
         is_trusted = role is not None and role in client.roles
         return await asyncio.to_thread(self.lines, jobs, reasons, user, is_trusted)
 
+    def read_for(self, words: Sequence[str]) -> Tuple[int, int]:
+        """How many bytes of the accounting are searched at most for these words, and how many are taken."""
+        if words[:1] == ["usage"]:
+            return size_of(self.accounting, months(self.accounting)), 0
+        if words[:1] != ["details"] or len(words) < 2 or "all" not in words[1].split(",") or not self.accounting:
+            return 0, 0
+        if not words[2:]:
+            return 0, min(MOST_BYTES, size_of(self.accounting, months(self.accounting)))
+        recorded_in = self.recorded_in({full_name(name, self.here) for name in words[2:]})
+        return size_of(self.accounting, months(self.accounting) if recorded_in is None else recorded_in), 0
+
+    def recorded_in(self, names: AbstractSet[str]) -> Optional[List[str]]:
+        """The files of the months in which jobs of these names were recorded; None where that isn't known."""
+        if self.records is None or not self.records.is_open:
+            return None
+        known = self.records.known
+        return sorted({month_of(known[name].moment) for name in names if name in known})
+
     async def with_older(self, jobs: Sequence[Job], names: Sequence[str]) -> List[Job]:
         """Jobs with those that the accounting alone has, of these names where there are some."""
         known = {job["id"] for job in jobs}
         wanted = {full_name(name, self.here) for name in names} - known
-        if names and not wanted:
+        recorded_in = self.recorded_in(wanted)
+        if names and (not wanted or recorded_in == []):
             return list(jobs)
-        older = await asyncio.to_thread(recorded, self.accounting, wanted)
+        async with self.reading:
+            if names:
+                older = await asyncio.to_thread(recorded, self.accounting, wanted, recorded_in or ())
+            else:
+                older = await asyncio.to_thread(newest, self.accounting)
         return [job for job in older if job["id"] not in known] + list(jobs)
 
     async def reasons(self, jobs: Sequence[Job]) -> Dict[str, str]:
@@ -77,9 +107,10 @@ class Details:
     def lines(self, jobs: Sequence[Job], reasons: Dict[str, str], user: str, is_trusted: bool) -> bytes:
         """The lines of jobs."""
         found: List[str] = []
-        stored = set(self.spool.names_kept())
+        stored, budget, slices = set(self.spool.names_kept()), Budget(), Slices()
         for job in jobs:
-            more = self.more(job) if job["id"] in stored or job["begun"] or job["holds"] else {}
+            slices.pause()
+            more = self.more(job, budget) if job["id"] in stored or job["begun"] or job["holds"] else {}
             if job["owner"] != user and not is_trusted:
                 more = {key: value for key, value in more.items() if key not in PRIVATE}
             if job["id"] in reasons:
@@ -87,15 +118,15 @@ class Details:
             found.append(json.dumps({**job, "more": more}))
         return "".join(f"{line}\n" for line in found).encode("ascii")
 
-    def more(self, job: Job) -> Dict[str, Any]:
+    def more(self, job: Job, budget: Budget) -> Dict[str, Any]:
         """What is known here of a job besides."""
         name = job["id"]
-        more: Dict[str, Any] = dict(self.spool.facts(name) or {})
+        more: Dict[str, Any] = dict(self.spool.listed_facts(name, job["owner"], budget))
         for key in ("owner", "group"):
             more.pop(key, None)
         group = self.groups.by_job.get(name)
         if group and group.is_waiting and "s" in job["holds"]:
-            more["waits"], more["waits_until"] = group.waits_for(), group.at
+            more["waits"], more["waits_until"] = group.waits_for(MOST_PAIRS), group.at
             if group.comment:
                 more["comment"] = group.comment
         elif group and group.most and "s" in job["holds"]:

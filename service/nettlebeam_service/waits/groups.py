@@ -26,6 +26,7 @@ from ..words.ranges import range_text
 
 SUFFIX = ".json"
 KEY = re.compile(r"[0-9a-f]{16}\Z")
+MOST_SHOWN = 20  # pairs of what is waited for, for people
 MAKING, MADE, ENTERED = "making", "made", "entered"
 
 
@@ -58,13 +59,14 @@ class Group:
         """Whether something has to come true."""
         return bool(self.depend or self.at)
 
-    def waits_for(self) -> str:
-        """What has to come true, in words for a listing."""
-        return text_of([(kind, job) for kind, job in self.depend])
+    def waits_for(self, most: int) -> str:
+        """So much of what has to come true, in words for a listing."""
+        return text_of([(kind, job) for kind, job in self.depend[:most]])
 
     def in_words(self) -> str:
         """What is waited for, for people."""
-        jobs = ", ".join(f"{job} ({kind})" for kind, job in self.depend)
+        shown, more = self.depend[:MOST_SHOWN], len(self.depend) - MOST_SHOWN
+        jobs = ", ".join([*(f"{job} ({kind})" for kind, job in shown), *([f"{more} others"] if more > 0 else [])])
         moment = time.strftime("%Y-%m-%d %H:%M:%S", time.localtime(self.at)) if self.at else ""
         return " and ".join(f"waits for {it}" for it in (jobs, moment) if it)
 
@@ -144,6 +146,10 @@ class Groups:
     def needed(self) -> Set[str]:
         """The jobs that others wait for."""
         return {job for group in self for _, job in group.depend}
+
+    def pairs_of(self, user: str) -> int:
+        """How many pairs of what is waited for a user's groups have."""
+        return sum(len(group.depend) for group in self.all.values() if group.owner == user)
 
     def array(self, first: str) -> Optional[Group]:
         """The array whose first member this is."""

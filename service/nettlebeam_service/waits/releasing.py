@@ -3,8 +3,9 @@ from __future__ import annotations
 
 import asyncio
 import time
-from typing import Callable, Dict, Optional, Sequence
+from typing import AbstractSet, Callable, Dict, Optional, Sequence, Set, Tuple
 
+from ..common.slices import Slices
 from ..site.looks import Job, Seen, seen_by, told_of_many
 from ..site.site import Site, Stopped
 from ..site.spool import Spool
@@ -13,6 +14,7 @@ from .group_submission import GroupSubmission, NotEntered, ask_each
 from .groups import ENTERED, MADE, MAKING, Group, Groups
 from .mail import Mail
 
+Pair = Tuple[str, str]  # a kind and a job
 SHORTEST_GAP = 0.1
 RETRY_SECONDS = 5.0
 WHOLE_SECONDS = 30.0
@@ -104,20 +106,40 @@ class Releasing:
 
     async def look_at(self, groups: Sequence[Group], is_whole: bool) -> None:
         """Does what is to be done for groups that have entered: of those for which something has come about, or of all."""
-        told = await told_of_many(self.site, {job for group in groups for _, job in group.depend})
+        needed, slices = await self.needed(groups), Slices()
+        told = await told_of_many(self.site, {job for _, job in needed})
         seen = await seen_by(self.site) if told else {}
-        touched = [group for group in groups if is_whole or group.most or self.has_news(group, told, seen)]
+        settled: Set[Pair] = set()
+        for pair in needed:
+            await slices.rest()
+            if self.verdict(pair, told, seen) is not None:
+                settled.add(pair)
+        touched = []
+        for group in groups:
+            await slices.rest()
+            if is_whole or group.most or self.has_news(group, settled):
+                touched.append(group)
         told.update(await told_of_many(self.site, {job for group in touched for job in group.jobs}))
         for group in touched:
-            await self.check(group, told, seen)
+            await slices.rest()
+            await self.check(group, told, seen, settled)
 
-    def has_news(self, group: Group, told: Dict[str, Job], seen: Seen) -> bool:
+    async def needed(self, groups: Sequence[Group]) -> Set[Pair]:
+        """What these groups wait for, each pair once, whatever many wait for it."""
+        found: Set[Pair] = set()
+        slices = Slices()
+        for group in groups:
+            await slices.rest()
+            found.update((kind, job) for kind, job in group.depend)
+        return found
+
+    def has_news(self, group: Group, settled: AbstractSet[Pair]) -> bool:
         """Whether something has come true of what a group waits for, or can't any more."""
-        if any(self.verdict(pair, told, seen) is not None for pair in group.depend):
+        if settled and any((kind, job) in settled for kind, job in group.depend):
             return True
         return not group.depend and bool(group.at) and group.at <= time.time()
 
-    async def check(self, group: Group, told: Dict[str, Job], seen: Seen) -> None:
+    async def check(self, group: Group, told: Dict[str, Job], seen: Seen, settled: AbstractSet[Pair]) -> None:
         """Releases of a group what may go on, and deletes it where that can't come true any more."""
         living = [told[job] for job in group.jobs if job in told and told[job]["letter"]]
         if not living:
@@ -127,29 +149,28 @@ class Releasing:
         if group.is_waiting and not held:
             self.log(f"{living[0]['id']}: its system hold was released by others, so that it waits no more")
             group.depend, group.at = [], 0
-        if not await self.resolve(group, told, seen):
+        if not await self.resolve(group, told, seen, settled):
             await self.give_up(group, held)
         elif not group.depend and group.at <= time.time():
             await self.release(group, living)
 
-    async def resolve(self, group: Group, told: Dict[str, Job], seen: Seen) -> bool:
+    async def resolve(self, group: Group, told: Dict[str, Job], seen: Seen, settled: AbstractSet[Pair]) -> bool:
         """Takes off what has come true; False where something can't any more."""
-        unknown = [name for _, name in group.depend if name not in told]
+        unknown = next((name for _, name in group.depend if name not in told), None)
         if unknown and not group.comment:
-            group.comment = f"{unknown[0]}, which is waited for, isn't known any more: qalter -W depend= has it wait for another"
+            group.comment = f"{unknown}, which is waited for, isn't known any more: qalter -W depend= has it wait for another"
             self.log(f"{', '.join(group.jobs[:5])}: {group.comment}")
-        verdicts = [(pair, self.verdict(pair, told, seen)) for pair in group.depend]
-        failed = [pair for pair, it in verdicts if it is False]
+        over = [(kind, name) for kind, name in group.depend if (kind, name) in settled]
+        failed = next((pair for pair in over if self.verdict(pair, told, seen) is False), None)
         if failed:
-            group.comment = f"{failed[0][0]}:{failed[0][1]} can't come true"
+            group.comment = f"{failed[0]}:{failed[1]} can't come true"
             return False
-        left = [pair for pair, it in verdicts if it is None]
-        if left != group.depend:
-            group.depend = left
+        if over:
+            group.depend = [[kind, name] for kind, name in group.depend if (kind, name) not in settled]
             await asyncio.to_thread(self.groups.save, group)
         return True
 
-    def verdict(self, pair: Sequence[str], told: Dict[str, Job], seen: Seen) -> Optional[bool]:
+    def verdict(self, pair: Pair, told: Dict[str, Job], seen: Seen) -> Optional[bool]:
         """Whether a dependency has come true. One of a job that isn't known any more waits for a person."""
         kind, name = pair
         job = told.get(name)

@@ -33,8 +33,8 @@ def read_range(text: str) -> Tuple[List[int], int]:
         if (end - start) // stride >= MOST_MEMBERS:
             raise Fault(f"{text}: an array has at most {MOST_MEMBERS} members")
         indices += range(start, end + 1, stride)
-    if len(indices) > MOST_MEMBERS:
-        raise Fault(f"{text}: an array has at most {MOST_MEMBERS} members")
+        if len(indices) > MOST_MEMBERS:
+            raise Fault(f"{text}: an array has at most {MOST_MEMBERS} members")
     limit = number_of(most, text) if percent else 0
     if percent and not limit:
         raise Fault(f"{text}: not even one at a time")
