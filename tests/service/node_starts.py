@@ -178,18 +178,22 @@ def one_owner_fails(tally, federation):
     if not is_root(tally):
         return
     site, submit = by_owner(federation, 1)
-    failing = f"{federation.folder}/failing"
-    write(failing, "games\n")
+
+    def fails(*users):
+        write(f"{federation.folder}/failing.new", "".join(f"{user}\n" for user in users))
+        os.rename(f"{federation.folder}/failing.new", f"{federation.folder}/failing")
+
+    fails("games")
     jobs = [submit("games", "exit 4\n") for _ in range(7)]
     until(lambda: "games: account expired" in site.said("nodes"), 30, "the node is in trouble")
     others = [submit("daemon", f"exit {number}\n") for number in range(3)]
     tally.same("others run", [site.finished(job) for job in others], [0, 1, 2])
     tally.same("none of the first has ended", [job["finished"] for job in site.jobs(*jobs).values()], [None] * 7)
-    write(failing, "games\nbin\nsys\n")
+    fails("games", "bin", "sys")
     more = [submit(user, "exit 5\n") for user in ("bin", "sys")]
     until(lambda: "set aside until" in site.said("nodes"), 120, "the machine is set aside")
     last = submit("lp", "exit 6\n")
-    write(failing, "")
+    fails()
     time.sleep(3)
     tally.same("nobody's jobs are tried then", site.jobs(last)[last]["finished"], None)
     tally.same("and later all run", [site.finished(job, 180) for job in (last, *jobs, *more)], [6, *[4] * 7, 5, 5])

@@ -87,7 +87,8 @@ class Starts:
                 self.log(f"{run.job}: started on {len(run.hosts)} nodes" + (f", at {run.node.name}" if run.node.name else ""))
             else:
                 self.log(f"{run.job}: {run.node.shown} doesn't start it: {answer}")
-                await asyncio.sleep(0 if run.is_sent else RETRY_SECONDS)
+            if not run.is_sent:
+                await self.try_others(run, answer, set())
         except NodeFault as fault:
             self.runs.doubt_of(run, str(fault))
         except OSError as fault:
@@ -125,28 +126,30 @@ class Starts:
     async def start_elsewhere(self, run: Run, why: str, is_of_owner: bool) -> None:
         """Has a run that its node couldn't start, so that nothing of it ran, started by another node, or by the same one later,
         as long as this process may ask for another nonce. What its owner alone can repair is tried once at each node."""
-        run.is_sent, run.doubt, tried = False, "", set()  # type: bool, str, Set[str]
+        run.is_sent, run.doubt = False, ""
         before, nonce = run.node, run.nonce
-        self.note_failure(run, why, is_of_owner, tried)
-        while run.may_start_again() and not run.is_unwanted and not run.exit:
-            if not self.runs.move(run, tried):
-                if is_of_owner:
-                    break
-                await asyncio.sleep(LOOK_SECONDS)
-                continue
-            run.prepared = -math.inf  # it needs another nonce
-            if await self.try_there(run):
-                break
-            await asyncio.sleep(LOOK_SECONDS)
-        if run.is_sent:
-            if before is not run.node:
-                self.runs.spawn(self.runs.ask_aside(before, {"ask": "forget", "id": run.job, "nonce": nonce}))
-        else:
+        self.note_failure(run, why, is_of_owner)
+        await self.try_others(run, why, {before.name} if is_of_owner else set())
+        if run.is_sent and before is not run.node:
+            self.runs.spawn(self.runs.ask_aside(before, {"ask": "forget", "id": run.job, "nonce": nonce}))
+        elif not run.is_sent:
             run.node, run.nonce = before, nonce  # whose message says why
-            run.exit = run.exit or (deleted() if run.is_unwanted else lost(why))
         run.touched = boot_time()
         self.runs.starting.discard(run.job)
         await self.runs.look(run)
+
+    async def try_others(self, run: Run, why: str, but: Set[str]) -> None:
+        """Tries nodes until a start is sent, or the run has an end: but for these, of which each is tried once if there are some."""
+        while run.may_start_again() and not run.is_unwanted and not run.exit:
+            if self.runs.move(run, but):
+                but |= {run.node.name} if but else set()
+                run.prepared = -math.inf  # it needs another nonce
+                if await self.try_there(run):
+                    return
+            elif but:
+                break
+            await asyncio.sleep(LOOK_SECONDS)
+        run.exit = run.exit or (deleted() if run.is_unwanted else lost(why))
 
     async def try_there(self, run: Run) -> bool:
         """Has a run started by its node; whether a start was sent."""
@@ -164,14 +167,11 @@ class Starts:
             self.log(f"{run.job}: {run.node.shown} doesn't start it either: {answer}")
         return run.is_sent
 
-    def note_failure(self, run: Run, why: str, is_of_owner: bool, tried: Set[str]) -> None:
+    def note_failure(self, run: Run, why: str, is_of_owner: bool) -> None:
         """Keeps that a node couldn't start a run."""
         self.log(f"{run.job}: {run.node.shown} couldn't start it, so it hasn't run: {why}")
-        tried.add(run.node.name)
-        owner = run.owner or str((self.spool.facts(run.job) or {}).get("owner", ""))
         if not is_of_owner:
-            tried.clear()
-            run.node.cannot_start(owner, why)
+            run.node.cannot_start(run.owner or str((self.spool.facts(run.job) or {}).get("owner", "")), why)
 
     async def take_back(self, run: Run) -> None:
         """Takes the nonce of a run away that isn't started. A start that is on its way may come before."""

@@ -135,6 +135,8 @@ def await_word(script: Script, start: Start, end: float) -> str:
         if boot_time() > last:
             return f"no word within {WORD_SECONDS:g} s"
         start.poll()
+    if boot_time() > last:  # this was stopped on its way: the service may take the job for ended
+        return f"no word within {WORD_SECONDS:g} s"
     try:
         os.rename("waiting", "going")
     except OSError as fault:
