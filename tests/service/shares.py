@@ -251,7 +251,7 @@ def old_jobs(tally, federation):
 def wait_for_all(path):
     """Submits jobs that wait for all others in each way; prints how often each status was answered, and what was said."""
     text = ",".join(f"{kind}:{':'.join(map(str, range(1, 1901)))}" for kind in ("after", "afterok", "afternotok", "afterany"))
-    found, end = Counter(), time.monotonic() + 15
+    found, end = Counter(), time.monotonic() + 60
     while time.monotonic() < end:
         told = ask(path, ["qsub"], None, {"folder": "/", "depend": text}, b"true\n")
         found[f"{told.status} {told.words[-60:]}"] += 1
@@ -267,7 +267,7 @@ def many_pairs(tally, federation):
     site, _ = filled(federation, ["ann qsub -h"] * 1900)
     site.utility("qsub", "-h", given="true\n", before=as_user(THIRD), cwd="/")  # for which all are counted once
     time.sleep(5)
-    found = Beside(tally, site, "many_pairs", 20).compare("wait_for_all")
+    found = Beside(tally, site, "many_pairs", 25).compare("wait_for_all")
     print(f"tests/service/rows: many_pairs: {found}")
     tally.same("two are taken", found.get("0 "), 2)
     tally.true("and then no more", any("would wait for others 20000 times" in words for words in found))
