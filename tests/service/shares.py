@@ -122,8 +122,8 @@ def ranges_of_users(tally, federation):
     tally.same("so does the first once some are gone", site.utility("qsub", "-h", given="true\n", before=as_user(OTHER), cwd="/")[0], 0)
 
 
-# What takes so long on a busy machine is noise, whoever does what.
-NOISE = 0.06
+# So many seconds more are noise on a busy machine: of what is waited mostly, and at most.
+NOISE = {"mostly": 0.03, "at most": 0.09}
 
 
 def ask_beside(path, seconds):
@@ -158,7 +158,7 @@ class Beside:
             for what, of in (("mostly", statistics.median), ("at most", max)):
                 quiet, beside = of(self.quiet[name]), of(spent)
                 print(f"tests/service/rows: {self.scene}: {name} waited {1000 * quiet:.0f} ms {what} when quiet, {1000 * beside:.0f} beside")
-                self.tally.true(f"{name} waits {what} three times as long, but for noise", beside <= 3 * quiet + NOISE)
+                self.tally.true(f"{name} waits {what} three times as long, but for noise", beside <= 3 * quiet + NOISE[what])
         return told
 
 
@@ -194,7 +194,7 @@ def long_facts(tally, federation):
                 tally.same(f"qstat {words} lists", (status, said, output.count("argonne") >= 1000), (0, "", True))
     for words, (before, after) in spent.items():
         print(f"tests/service/rows: long_facts: qstat {words} took {1000 * before:.0f} ms with short facts, {1000 * after:.0f} with long ones")
-        tally.true(f"qstat {words} takes three times as long at most", after <= 3 * before + NOISE)
+        tally.true(f"qstat {words} takes three times as long at most", after <= 3 * before + NOISE["at most"])
     job = next(name for name, job in site.jobs().items() if job["owner"] == OTHER)
     status, output, _ = site.utility("qstat", "-f", "-F", "json", job, before=as_user(THIRD), cwd="/")
     tally.true("of one job all is told", status == 0 and "/" + "x" * 4000 in output)
@@ -251,8 +251,8 @@ def old_jobs(tally, federation):
 def wait_for_all(path):
     """Submits jobs that wait for all others in each way; prints how often each status was answered, and what was said."""
     text = ",".join(f"{kind}:{':'.join(map(str, range(1, 1901)))}" for kind in ("after", "afterok", "afternotok", "afterany"))
-    found = Counter()
-    for _ in range(300):
+    found, end = Counter(), time.monotonic() + 60
+    while time.monotonic() < end:
         told = ask(path, ["qsub"], None, {"folder": "/", "depend": text}, b"true\n")
         found[f"{told.status} {told.words[-60:]}"] += 1
         if told.status == 1 and found[f"{told.status} {told.words[-60:]}"] > 3:
@@ -267,7 +267,7 @@ def many_pairs(tally, federation):
     site, _ = filled(federation, ["ann qsub -h"] * 1900)
     site.utility("qsub", "-h", given="true\n", before=as_user(THIRD), cwd="/")  # for which all are counted once
     time.sleep(5)
-    found = Beside(tally, site, "many_pairs", 20).compare("wait_for_all")
+    found = Beside(tally, site, "many_pairs", 25).compare("wait_for_all")
     print(f"tests/service/rows: many_pairs: {found}")
     tally.same("two are taken", found.get("0 "), 2)
     tally.true("and then no more", any("would wait for others 20000 times" in words for words in found))
@@ -314,9 +314,9 @@ def large_alters(tally, federation):
 def refused_words(path):
     """Submits what is refused: ranges of an array with much in few bytes, and the smallest variables."""
     variables = b"A=\0" * 349_000
-    array, priority = ["qsub"], ["qsub", "-p", "5000"]
+    array, nothing = ["qsub"], ["qsub", "-l", "nodes=0"]
     facts = {"folder": "/", "array": "0-999," * 680 + "1"}
-    again(path, 8, (array, facts, b"true\n"), (priority, {"folder": "/", "variables": str(len(variables))}, variables + b"true\n"))
+    again(path, 8, (array, facts, b"true\n"), (nothing, {"folder": "/", "variables": str(len(variables))}, variables + b"true\n"))
 
 
 def small_words(tally, federation):

@@ -36,7 +36,7 @@ PAIR = 50e-6
 MEMBER = 0.0003  # of an array
 ALTERED = 0.003
 SHARE = 0.2  # of its time is each user's
-SAVED = 2.0  # seconds that a user has at most who asked nothing for a while
+SAVED = 1.0  # seconds that a user has at most who asked nothing for a while
 MOST_PAIRS = 20_000
 MOST_LOOKED_AT = 1000  # scripts, for their bytes
 

@@ -11,7 +11,7 @@ from .site import Site
 Job = Dict[str, Any]  # as the look `jobs` tells it
 Reservation = Dict[str, Any]  # `id`, `site`, `start`, `end`, `nodes`
 Seen = Dict[str, Dict[str, Any]]
-NAMES_OF_LINE = 25  # who asks between two such lines waits for one of them
+NAMES_OF_LINE = 10  # who asks between two such lines waits for one of them
 MOST_AT_ONCE = 250  # jobs that the loop reads in one slice
 STARTS = "starts"  # the answer to why a job waits that starts now
 
@@ -79,7 +79,10 @@ async def told_of_many(site: Site, names: Iterable[str]) -> Dict[str, Job]:
     ordered = sorted(names)
     for place in range(0, len(ordered), NAMES_OF_LINE):
         async with site.long_looks:
+            began = time.monotonic()
             known.update(await told_of(site, ordered[place : place + NAMES_OF_LINE]))
+            if len(ordered) > NAMES_OF_LINE:
+                await asyncio.sleep(time.monotonic() - began)  # so that half of the site's time at least is for others
     return known
 
 
