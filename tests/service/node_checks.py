@@ -37,6 +37,8 @@ def node_checks(tally, federation):
         cluster.configure("n1", **keys)
         status, told = checked(NODE, "--check", "--config", f"{folder}/n1.conf", OTHER)
         tally.same(f"{words} is named: {told!r}", (status, words in told), (2, True))
+    cluster.configure("n1", start="")
+    tally.true("without start no other's would", f"no job of {OTHER} would start: start isn't given" in checked(NODE, "--check", "--config", f"{folder}/n1.conf", OTHER)[1])
     cluster.configure("n1", start=BY_SETPRIV)
     right = [NODE, "--check", "--config", f"{folder}/n1.conf", OTHER]
     tally.same("a node that is right", checked(*right)[0], 0)

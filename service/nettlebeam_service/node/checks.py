@@ -154,6 +154,9 @@ def start_faults(keys: NodeKeys, user: str) -> Iterator[str]:
     except KeyError:
         yield f"there is no account {user} here"
         return
+    if not keys.start and user != account():
+        yield f"no job of {user} would start: start isn't given"
+        return
     if entry.pw_uid < keys.least_uid and user != account():
         yield f"jobs of {user}, whose number is {entry.pw_uid}, are left alone: least_uid = {keys.least_uid}"
         return
