@@ -169,21 +169,25 @@ class Service:
         self.waits.use(config)
         log("the configuration is read anew")
 
-    async def run(self) -> int:
-        """Runs until it is told to stop."""
-        log(f"the service of {self.config.name} starts")
-        try:
-            pairing.check(self.config.site.directory, self.spool.folder)
-            if self.spool.open() is None:
-                raise pairing.Foreign(f"another service has the spool {self.spool.folder}")
-            self.held = pairing.claim(self.config.site.directory, self.spool.folder)
-        except pairing.Foreign as fault:
-            log(str(fault))
-            return 3
+    def open(self) -> None:
+        """Takes the spool and the site, and reads what is there. Foreign where another service has one of them."""
+        pairing.check(self.config.site.directory, self.spool.folder)
+        if self.spool.open() is None:
+            raise pairing.Foreign(f"another service has the spool {self.spool.folder}")
+        self.held = pairing.claim(self.config.site.directory, self.spool.folder)
         self.lost_state.look()
         self.nodes.open()
         self.waits.open()
         self.unheard.open()
+
+    async def run(self) -> int:
+        """Runs until it is told to stop."""
+        log(f"the service of {self.config.name} starts")
+        try:
+            self.open()
+        except pairing.Foreign as fault:
+            log(str(fault))
+            return 3
         loop = asyncio.get_running_loop()
         for number in (signal.SIGTERM, signal.SIGINT):
             loop.add_signal_handler(number, self.stopping.set)

@@ -12,7 +12,7 @@ import contextlib
 import re
 import time
 from collections import Counter
-from typing import AsyncIterator, Awaitable, Callable, Counter as Counts, Dict, Optional, Sequence, Tuple
+from typing import AsyncIterator, Awaitable, Callable, Counter as Counts, Dict, Iterator, Optional, Sequence, Tuple
 
 from ..common.config import ClientKeys
 from ..common.wire import Request
@@ -21,6 +21,7 @@ from ..site.lines import Client, Denied
 from ..site.looks import jobs_told, origin_of
 from ..site.site import Site
 from ..site.spool import Spool
+from ..waits.group_submission import MOST_PAIRS
 from ..words.options import Fault, parse
 from ..words.ranges import MOST_MEMBERS, read_range
 
@@ -33,11 +34,11 @@ BYTE_SEARCHED = 4e-9
 BYTE_TAKEN = 60e-9  # of the accounting, as jobs
 WORD = 10e-6
 PAIR = 50e-6
+PAIRS_OF_ARRAY = 20
 MEMBER = 0.0003  # of an array
 ALTERED = 0.003
 SHARE = 0.2  # of its time is each user's
 SAVED = 1.0  # seconds that a user has at most who asked nothing for a while
-MOST_PAIRS = 20_000
 MOST_LOOKED_AT = 1000  # scripts, for their bytes
 
 NUMBER = re.compile(r"[+-]?[0-9]{1,20}\Z")
@@ -133,8 +134,9 @@ def members_of(request: Request) -> int:
 
 
 def pairs_of(request: Request) -> int:
-    """How many jobs a request names for one to wait for, arrays as one each."""
-    return str(request.facts.get("depend", "")).count(":")
+    """How many jobs a request names for one to wait for, an array as some."""
+    depend = str(request.facts.get("depend", ""))
+    return depend.count(":") + PAIRS_OF_ARRAY * depend.count("[")
 
 
 class UserLimits:
@@ -159,6 +161,7 @@ class UserLimits:
         self.capacity = capacity
         self.work = Work(own)
         self.pairs = pairs
+        self.pairs_under_way: Counts[str] = Counter()
         self.reading = reading
         self.jobs = Share(self.count_jobs, JOBS_GAP)
         self.bytes = Share(lambda: asyncio.to_thread(spool.bytes_of_owners, here), BYTES_GAP)
@@ -188,6 +191,17 @@ class UserLimits:
         if user in self.capacity.crowding:
             raise Exceeded(f"{self.capacity.in_ranges(user)}: delete some, or let some end")
 
+    @contextlib.contextmanager
+    def hold_pairs(self, user: str, pairs: int) -> Iterator[None]:
+        """Adds so many to what a user's jobs wait for, where that isn't too much."""
+        if pairs and self.pairs(user) + self.pairs_under_way[user] + pairs > MOST_PAIRS:
+            raise Exceeded(f"jobs of {user} would wait for others {MOST_PAIRS} times and more")
+        self.pairs_under_way[user] += pairs
+        try:
+            yield
+        finally:
+            self.pairs_under_way[user] -= pairs
+
     @contextlib.asynccontextmanager
     async def hold(self, client: Client, request: Request) -> AsyncIterator[None]:
         """Lets a request through that makes jobs or scripts of a client, where that has room for them."""
@@ -200,11 +214,10 @@ class UserLimits:
             raise Denied(f"a priority above {self.keys.priority} is asked as operator or admin")
         jobs, size = members_of(request) if verb == "qsub" else 0, request.size or 0
         if verb == "alter":
-            size = await asyncio.to_thread(self.spool.growth, request.words[1:], size, self.here)
+            size = await asyncio.to_thread(self.spool.growth, list(dict.fromkeys(request.words[1:])), size, self.here)
         async with self.jobs.hold(user, jobs, self.keys.jobs_of_user, "jobs here that aren't gone"):
             if jobs:
                 await self.check_ranges(user)
-            if pairs_of(request) and self.pairs(user) + pairs_of(request) > MOST_PAIRS:
-                raise Exceeded(f"jobs of {user} would wait for others {MOST_PAIRS} times and more")
-            async with self.bytes.hold(user, size, self.keys.spool_of_user, "bytes of scripts here"):
-                yield
+            with self.hold_pairs(user, pairs_of(request)):
+                async with self.bytes.hold(user, size, self.keys.spool_of_user, "bytes of scripts here"):
+                    yield

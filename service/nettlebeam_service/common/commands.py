@@ -73,10 +73,10 @@ async def feed(stream: Optional[asyncio.StreamWriter], given: bytes | bytearray)
         await stream.wait_closed()
 
 
-def forget(ended: "asyncio.Future[Any]") -> None:
-    """Takes what a gathering that was cancelled ended with, so that the loop doesn't log it as a fault of which nobody knows."""
-    if not ended.cancelled():
-        ended.exception()
+def drop(gathering: "asyncio.Future[Any]") -> None:
+    """Cancels what nobody waits for any more, and takes what it ends with, which the loop would else log as a fault."""
+    gathering.cancel()
+    gathering.add_done_callback(lambda ended: ended.cancelled() or ended.exception())
 
 
 def start_tick(pid: int) -> int:
@@ -126,5 +126,4 @@ async def call(
         if not ended.done():
             await asyncio.to_thread(end_session, process.pid, since)
             await asyncio.wait([ended], timeout=ENDING_SECONDS)  # which what has left the session may keep from its end
-            ended.cancel()
-            ended.add_done_callback(forget)
+            drop(ended)

@@ -113,7 +113,9 @@ def split_body(request: Request) -> Tuple[Dict[str, str], bytes]:
 
 def are_variables(value: Any) -> bool:
     """Whether a value that another site told is a job's variables."""
-    if not isinstance(value, dict) or len(value) > MOST_NAMES or sum(len(str(key)) + len(str(it)) + 2 for key, it in value.items()) > MOST_VARIABLES:
+    if not isinstance(value, dict) or len(value) > MOST_NAMES:
+        return False
+    if sum(len(str(key)) + len(str(it)) + 2 for key, it in value.items()) > MOST_VARIABLES:
         return False
     texts = all(isinstance(it, str) and "\0" not in it and len(it) < LONGEST_VARIABLE for pair in value.items() for it in pair)
     return texts and all(name and "=" not in name for name in value)

@@ -133,7 +133,8 @@ class Housekeeping:
                 answer = await self.site.ask(f"retire {each.first} {each.last}")
                 (done if answer.is_just("done") else left).append(each)
         if left:
-            self.log(f"{self.name}: retire {left[0].first} {left[0].last} is answered {answer.shown()}, as are {len(left) - 1} others")
+            others = f", as are {len(left) - 1} others" if left[1:] else ""
+            self.log(f"{self.name}: retire {left[0].first} {left[0].last} is answered {answer.shown()}{others}")
         gone = names_within(leaving, done)
         self.capacity.retired = sorted([*self.capacity.retired, *map(counter_of, gone)])
         return gone

@@ -5,7 +5,7 @@ import re
 from typing import List, Optional, Sequence
 
 from ..common.slices import Slices
-from ..site.looks import told_of
+from ..site.looks import told_of_many
 from ..site.lines import NAME, Denied
 from ..site.site import Site
 from ..words.options import Fault
@@ -55,7 +55,7 @@ class Arrays:
             if jobs is None:
                 found.append(word)
             elif words[0] in OF_LIVING and "[]" in word:
-                told = await told_of(self.site, jobs)
+                told = await told_of_many(self.site, jobs)
                 found += [job for job in jobs if job in told and told[job]["letter"]] or jobs
             else:
                 found += jobs

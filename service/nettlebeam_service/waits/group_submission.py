@@ -13,6 +13,7 @@ from typing import Any, Callable, Dict, List, Optional, Sequence, Set, Tuple
 
 from ..common.files import remove
 from ..common.identifiers import IDENTIFIER
+from ..common.slices import Slices
 from ..site.answers import Answer
 from ..site.lines import Denied
 from ..site.looks import full_name, living, origin_of, seen_by, told_of_many
@@ -27,6 +28,7 @@ SERVICE = "service/admin"  # as whom the service sets holds and deletes
 JOBS_OF_LINE = 100
 AT_ONCE = 250
 UNDO_GAP = 0.01
+MOST_PAIRS = 20_000  # of jobs and those that they wait for, of one user
 WAITING_FACTS = ("array", "at", "depend")
 HELD_OR_OVER = ("done", "refused 3", "refused 4")  # of a hold that is set, or isn't needed: the job is gone, or granted
 
@@ -78,22 +80,23 @@ class GroupSubmission:
             pairs = read_depends(text) if text else []
         except Fault as fault:
             raise Denied(str(fault)) from None
-        found: List[Tuple[str, str]] = []
-        for kind, word in pairs:
+        found: Dict[Tuple[str, str], None] = {}
+        slices = Slices()
+        for kind, word in dict.fromkeys(pairs):
+            await slices.rest()
             number, bracket, rest = word.partition("[")
             name = full_name(word, self.here)
-            if bracket:
-                found += [(kind, job) for job in self.members_of(number, rest)]
-            elif IDENTIFIER.match(name):
-                found.append((kind, name))
-            else:
+            if not bracket and not IDENTIFIER.match(name):
                 raise Denied(f"depend: {word[:40]!r} is no identifier of a job")
+            found.update(dict.fromkeys((kind, job) for job in (self.members_of(number, rest) if bracket else [name])))
+            if len(found) > MOST_PAIRS:
+                raise Denied(f"depend: more than {MOST_PAIRS} jobs are named")
         names = list(dict.fromkeys(job for _, job in found))
         told = await told_of_many(self.site, [name for name in names if origin_of(name) in self.site.roster])
         missing = [name for name in names if name not in told]
         if missing:
             raise Denied(f"depend: {missing[0]} isn't known here")
-        return [list(pair) for pair in dict.fromkeys(found)]
+        return [list(pair) for pair in found]
 
     def members_of(self, number: str, rest: str) -> List[str]:
         """The members of an array, whose identifier is in two parts."""

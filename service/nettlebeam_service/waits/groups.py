@@ -148,8 +148,8 @@ class Groups:
         return {job for group in self for _, job in group.depend}
 
     def pairs_of(self, user: str) -> int:
-        """How many pairs of what is waited for a user's groups have."""
-        return sum(len(group.depend) for group in self.all.values() if group.owner == user)
+        """How many pairs of what is waited for a user's groups have that are made."""
+        return sum(len(group.depend) for group in self.all.values() if group.owner == user and group.state != MAKING)
 
     def array(self, first: str) -> Optional[Group]:
         """The array whose first member this is."""
