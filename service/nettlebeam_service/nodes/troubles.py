@@ -50,7 +50,8 @@ class Troubles:
         if of_owner >= MOST_OF_OWNER:
             self.kept_from.add(owner)
             pause, longest = max(pause, ASIDE_SECONDS), LONGEST_ASIDE
-        self.not_before[owner], self.pauses[owner] = now + pause, min(2 * pause, longest)
+        if of_owner == MOST_OF_OWNER or self.not_before.get(owner, 0.0) <= now:  # else it was tried before that failure was known
+            self.not_before[owner], self.pauses[owner] = now + pause, min(2 * pause, longest)
         if owners >= MOST_OWNERS and self.aside <= now:
             self.aside, self.aside_pause = now + self.aside_pause, min(2 * self.aside_pause, LONGEST_ASIDE)
         return self.aside > now or of_owner == MOST_OF_OWNER
