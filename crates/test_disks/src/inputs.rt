@@ -273,11 +273,11 @@ fn words_make_a_line(rt: HostRuntime) -> Result<(), Fail> {
     }
     assert_eq!(rt;
         take_line(alloc, &["take", "from", "lemont"], b"{}\n")?.as_slice(),
-        b"take from lemont {}"
+        b"take from lemont {}".as_slice()
     );
     assert_eq!(rt;
         take_line(alloc, &["take", "from", "le mont"], b"{}")?.as_slice(),
-        b"\0 {}"
+        b"\0 {}".as_slice()
     );
     Ok(())
 }

@@ -111,13 +111,15 @@ fn settling(rt: HostRuntime) {
     };
     let claims = vec![in alloc; claim].expect(&rt, "memory");
     let seats = vec![in alloc; claims].expect(&rt, "memory");
-    let fault: CloseFault = settle(alloc, &two_sites(), &journals, &seats).expect_err(
+    let roster = two_sites();
+    assert!(rt; journals.len() == roster.len());
+    let fault: CloseFault = settle(alloc, &roster, &journals, &seats).expect_err(
         &rt,
         "a strange claim",
     );
     let (seat, place) = (0, 0);
     assert!(rt; fault == CloseFault::Strange { seat, place } && fault.number() == 1);
-    let settled = settle(alloc, &two_sites(), &journals, &[]).expect(&rt, "no events");
+    let settled = settle(alloc, &roster, &journals, &[]).expect(&rt, "no events");
     assert!(rt; settled.is_empty());
 }
 

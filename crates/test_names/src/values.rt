@@ -7,6 +7,7 @@ use fed_record::{
 use fed_stamp::{ClockFull, JobId, Roster, RosterFault, SiteId, SiteSet, Stamp, Version, Word};
 use fed_tags::{TagChange, TagSet};
 use std::process::Abort;
+use test_values::{ann, both_sites, values};
 
 #[test]
 fn stamps(rt: HostRuntime) {
@@ -79,7 +80,9 @@ fn tag_sets(rt: HostRuntime) {
     let set = changed::<TagSet<u8>>(&rt, at, &TagChange::new(added, Vec::new(alloc)));
     assert!(rt; set.has(&seven) && set.tags(&seven) == [at].as_slice());
     assert!(rt; set.elements().eq([seven]));
-    let again = TagSet::from_pairs(alloc, &[(seven, at)]).expect(&rt, "memory");
+    let pairs = [(seven, at)];
+    assert!(rt; TagSet::is_ascending(&pairs));
+    let again = TagSet::from_pairs(alloc, &pairs).expect(&rt, "memory");
     assert!(rt; again == set);
 }
 
@@ -107,11 +110,10 @@ fn parts<'a>(
     holds: &'a [(HoldKind, Stamp)],
     sites: &'a [(SiteId, Stamp)],
 ) -> JobParts<'a> {
-    let (ann, name) = (Word::new("ann").unwrap(), Word::new("STDIN").unwrap());
     JobParts {
         fields: Fields {
-            owner: (at, ann),
-            name: (at, name),
+            owner: (at, ann().user),
+            name: (at, values(both_sites()).name),
             priority: (at, Priority::new(0).unwrap()),
             nodes: (at, Nodes::new(1).unwrap()),
             limit: (at, Limit::new(3600).unwrap()),
@@ -141,8 +143,8 @@ fn records(rt: HostRuntime) {
     assert!(rt; record.owner() == parts.fields.owner && record.name() == parts.fields.name);
     assert!(rt; record.priority() == parts.fields.priority && record.nodes() == parts.fields.nodes);
     assert!(rt; record.limit() == parts.fields.limit && record.account() == parts.fields.account);
-    assert!(rt; record.holds() == HoldKinds::USER && record.hold_tags().eq(holds));
-    assert!(rt; record.sites().eq([argonne]) && record.site_tags().eq(sites));
+    assert!(rt; record.holds() == HoldKinds::USER && record.hold_tags().eq([(HoldKind::User, at)]));
+    assert!(rt; record.sites().eq([argonne]) && record.site_tags().eq([(argonne, at)]));
     assert!(rt; !record.deleted() && record.grant().is_none() && record.progress().begun.is_none());
     assert!(rt;
         record.touched() == parts.touched && record.letter() == Some(fed_model::Letter::Held)
