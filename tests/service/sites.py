@@ -187,10 +187,11 @@ class ServedSite:
         return told.answer.decode().strip()
 
     def utility(self, name, *words, given="", **how):
-        """Calls a program of the service, or a utility as a user does: its status, its output and its words."""
+        """Calls a program of the service, or a utility as a user does: its status, its output, with the site's own answers, and its
+        words."""
         program = f"{SERVICE}/{name}"
         called = [program] if os.path.exists(program) else [f"{SERVICE}/qask", "--as", name]
-        environment = {**os.environ, "NETTLEBEAM_SOCKET": self.socket, **how.pop("environment", {})}
+        environment = {**os.environ, "NETTLEBEAM_SOCKET": self.socket, "NETTLEBEAM_ANSWERS": "1", **how.pop("environment", {})}
         done = subprocess.run(
             [*how.pop("before", []), *called, *words],
             input=given, capture_output=True, text=True, env=environment, check=False, **how,

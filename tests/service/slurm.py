@@ -61,13 +61,31 @@ def slurm(tally, federation):
     until(lambda: site.jobs(never)[never]["deleted"], 20, "what waits for all its members to end well is deleted")
     tally.same("-W", site.utility("sbatch", "-W", "-p", "argonne", "--wrap", "exit 6", cwd=folder)[0], 6)
     tally.same("--export=NONE", site.finished(parsable(site, folder, "-p", "argonne", "--export=NONE", "--wrap", 'test -z "$MINE"', environment={"MINE": "x"})), 0)
+    with_words(tally, site, folder)
     queued(tally, site, folder)
-    for words in (("-Y",), ("--foo=1",), ("-n", "x"), ("-t", "1:2:3:4"), ("-t", "999999"), ("-a", "5-1"), ("-o", "a-%N"), ("-d", "singleton"), ("--mail-type=X",), ("-d", "afterok:x"), ("tasks.sh", "word")):
-        status, output, errors = site.utility("sbatch", *words, *(() if "tasks.sh" in words else ("--wrap", "true")), cwd=folder)
+    for words in (("-Y",), ("--foo=1",), ("-n", "x"), ("-t", "1:2:3:4"), ("-t", "999999"), ("-a", "5-1"), ("-o", "a-%N"), ("-d", "aftercorr:1"), ("--mail-type=X",), ("-d", "afterok:x")):
+        status, output, errors = site.utility("sbatch", *words, "--wrap", "true", cwd=folder)
         tally.same(f"sbatch {words} is refused, and named", (status, output, words[-1].lstrip("-").partition("=")[0].partition(":")[0] in errors), (2, "", True))
     tally.same("no script beside --wrap", site.utility("sbatch", "--wrap", "true", "tasks.sh", cwd=folder)[:2], (2, ""))
     status, output, errors = site.utility("sbatch", "-p", "debug", "--wrap", "true", cwd=folder)
     tally.same("no partition", (status, output, errors), (1, "", "sbatch: --partition debug: there is no queue and no site of this name\n"))
+
+
+def with_words(tally, site, folder):
+    """A script is called with words, and a singleton waits for the jobs of its name."""
+    with open(f"{folder}/words.sh", "w", encoding="ascii") as file:
+        file.write("#!/bin/sh\n#SBATCH -p argonne -o words.txt\necho $# \"$2\"; sleep 2\n")
+    first = parsable(site, folder, "-J", "single", "words.sh", "-x", "it's  $HOME")
+    second = parsable(site, folder, "-p", "argonne", "-J", "single", "-d", "singleton", "--wrap", "true")
+    other = parsable(site, folder, "-p", "argonne", "-J", "another", "-d", "singleton", "--wrap", "true")
+    tally.same("a singleton waits", site.jobs(second)[second]["holds"], ["s"])
+    tally.same("and one of another name doesn't", site.jobs(other)[other]["holds"], [])
+    tally.same("all end", [site.finished(job) for job in (first, second, other)], [0, 0, 0])
+    tally.same("the script's words", text_of(folder, "words.txt"), "2 it's  $HOME\n")
+    began, ended = site.jobs(second)[second]["begun"]["moment"], site.jobs(first)[first]["finished"]["moment"]
+    tally.true("the singleton began when the first had ended", began >= ended)
+    later = parsable(site, folder, "-p", "argonne", "-b", "now+2seconds", "--wrap", "true")
+    tally.same("--begin", (site.jobs(later)[later]["holds"], site.finished(later)), (["s"], 0))
 
 
 def queued(tally, site, folder):

@@ -3,6 +3,7 @@ from __future__ import annotations
 
 import asyncio
 import contextlib
+import json
 from typing import Any, Callable, Coroutine, Dict, Set
 
 from ..common.files import remove
@@ -134,6 +135,8 @@ class Requests:
             return await self.submit(client, request)
         if verb == "site":
             return Reply(0, f"{self.waits.here}\n".encode("ascii"))
+        if verb == "members":
+            return Reply(0, json.dumps(self.waits.arrays.called()).encode("ascii") + b"\n")
         if verb == "details":
             return Reply(0, await self.waits.details.answer(client, request.words, request.role))
         if verb == "usage":
@@ -148,6 +151,8 @@ class Requests:
             return (await self.why(request.words[1], line)).reply()
         if verb == "grant":
             return self.changed_by(await self.eligibility.grant(*request.words[1:3]))
+        if verb == "qstat":
+            return (await self.site.look(line)).with_names(self.waits.arrays.called()).reply()
         if not self.site.known.changes(request.words):
             return (await self.site.look(line)).reply()
         answer = await self.unheard.with_words(request.words, await self.site.ask(line))

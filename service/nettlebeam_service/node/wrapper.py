@@ -60,7 +60,7 @@ set -- {shell} "$TMPDIR/script"
 {interpreter}
 (
 {variables}
-exec "$@"
+exec "$@" {words}
 )
 status=$?
 cd /
@@ -117,11 +117,20 @@ def text_of(job: str, order: Order, size: int, shell: str, script: bytes) -> str
         size=size,
         exports="\n".join(f"{name}={shlex.quote(value)}; export {name}" for name, value in exports.items()),
         umask=umask_of(facts),
+        words=script_words(facts),
         shell="" if script.startswith(b"#!") else shlex.quote(shell),
         without_execution=without_execution(script),
         variables=variables_text(facts, (*exports, *OF_THE_RUN)),
         interpreter=interpreter_words(facts, order["hosts"][0]),
     )
+
+
+def script_words(facts: Dict[str, Any]) -> str:
+    """The words that a job's script is called with."""
+    try:
+        return " ".join(map(shlex.quote, shlex.split(str(facts.get("script_words", "")))))
+    except ValueError:
+        return ""  # no client tells such
 
 
 def without_execution(script: bytes) -> str:

@@ -5,6 +5,7 @@ import time
 
 from ..common.small_json import dumps
 from ..words.resources import counts_of
+from .help_texts import VERSION
 from .layouts import QUEUE, comment_of, elapsed, hosts_text, long_clock, name_of, plain
 
 TYPE_CHECKING = False
@@ -19,7 +20,6 @@ if TYPE_CHECKING:
 WIDTH = 78
 HOLDS = "uos"
 SUBMITTERS = (("HOME", "home"), ("LANG", "lang"), ("PATH", "path"), ("SHELL", "shell"), ("WORKDIR", "folder"), ("HOST", "host"))
-VERSION = "nettlebeam"
 
 
 def file_of(job: Job, key: str, letter: str) -> str:
@@ -109,7 +109,8 @@ def attributes_of(job: Job, view: View) -> Attributes:
     found: Attributes = [("Job_Name", name_of(job)), ("Job_Owner", owner)]
     found += used_of(job)
     found += [("job_state", job["state"]), ("queue", QUEUE), ("server", view.here), ("Checkpoint", "n")]
-    found += [("Account_Name", job["account"])] if job["account"] else []
+    account = more.get("account") or job["account"]
+    found += [("Account_Name", plain(account))] if account else []
     found += [("depend", more["waits"])] if more.get("waits") else []
     found += [("Execution_Time", time.ctime(more["waits_until"]))] if more.get("waits_until") else []
     found += [("Error_Path", file_of(job, "err", "e"))]

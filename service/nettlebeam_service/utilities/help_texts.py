@@ -1,8 +1,10 @@
 """What the utilities say to `--help`."""
 from __future__ import annotations
 
+# that of the OpenPBS whose utilities these follow, for programs that ask it
+VERSION = "19.0.0 (Nettlebeam 1.0.0)"
 USAGES = {
-    "qsub": "[-a date] [-A account] [-C prefix] [-e path] [-h] [-j oe|eo|n] [-J X-Y[:step][%most]] [-k o|e|oe|n] [-l list] [-m abe|n]"
+    "qsub": "[-a date] [-A account] [-C prefix] [-d folder] [-e path] [-F words] [-h] [-j oe|eo|n] [-J X-Y[:step][%most]] [-k o|e|oe|n] [-l list] [-m abe|n]"
     " [-M users] [-N name] [-o path] [-p priority] [-q queue] [-S shell] [-v variables] [-V] [-W depend=..|block=true] [-z]"
     " [script | -- program word ..]",
     "qalter": "[-a date] [-A account] [-e path] [-j oe|eo|n] [-k o|e|oe|n] [-l list] [-m abe|n] [-M users] [-N name] [-o path]"
@@ -19,6 +21,11 @@ USAGES = {
     "sinfo": "[-h] [-N]",
     "qstat": "[-f [-x] [-F json]] [-a | -i | -r | -H | -Q | -q | -B] [-n] [-s] [-T] [-1] [-w] [-t] [-x] [-u users] [job ..]",
 }
+
+
+def version_of(is_of_slurm: bool) -> str:
+    """What a utility says to `--version`."""
+    return f"{'slurm' if is_of_slurm else 'pbs_version ='} {VERSION}\n"
 
 
 def usage_of(utility: str) -> str:

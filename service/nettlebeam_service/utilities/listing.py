@@ -116,7 +116,7 @@ def in_span(name: str, jobs: List[Job]) -> List[Job]:
 def named(operands: List[str], jobs: List[Job], view: View) -> Tuple[List[Job], List[str], int]:
     """The jobs of the operands that are shown, what is said of the others, and the status for that."""
     said, status = [], 0
-    by_name = {name: job for job in jobs for name in (job["id"], job["shown"])}
+    by_name = {name: job for job in reversed(jobs) for name in (job["id"], job["shown"])}  # an array goes before its first member
     for operand in operands:
         name = full_name(operand, view)
         found = [by_name[name]] if name in by_name else in_span(name, jobs) if "[" in name else []

@@ -18,7 +18,9 @@ if TYPE_CHECKING:
 MORE = ("qselect", "qsig", "qmsg", "qmove", "qrerun", "pbsnodes")
 OF_SLURM = ("sbatch", "squeue", "scancel", "sinfo")
 QUEUE = "batch"
-VERSION = "pbs_version = nettlebeam"
+# what the site answers these is told by their status, and by what they say beside it
+ANSWERED = ("qalter", "qhold", "qrls", "qdel", "qsig", "qmsg", "qmove")
+REFUSED = 1, 2
 NO_SITE = "NETTLEBEAM_SOCKET isn't set, and this machine hasn't one service of a site"
 
 
@@ -66,12 +68,11 @@ def change(path: str, utility: str, words: Words, role: Optional[str]) -> Told:
 def run(utility: str, words: List[str], path: Optional[str]) -> Told:
     """Asks for what the user typed."""
     role = os.environ.get("NETTLEBEAM_ROLE") or None
-    if words == ["--version"]:
-        return Told(0, f"{VERSION}\n".encode(), "")
-    if words == ["--help"]:
-        from .help_texts import usage_of
+    if words in (["--version"], ["--help"]):
+        from .help_texts import usage_of, version_of
 
-        return Told(0, usage_of(utility).encode(), "")
+        text = usage_of(utility) if words == ["--help"] else version_of(utility in OF_SLURM)
+        return Told(0, text.encode(), "")
     if utility in MORE:
         from .more_utilities import run as run_more
 
@@ -100,10 +101,18 @@ def run(utility: str, words: List[str], path: Optional[str]) -> Told:
     return told
 
 
+def as_pbs(utility: str, told: Told) -> Told:
+    """What is told, without the site's words on standard output where PBS writes nothing."""
+    is_refused = utility in ("qsub", "qstat") and told.status in REFUSED
+    if os.environ.get("NETTLEBEAM_ANSWERS") or not (is_refused or utility in ANSWERED):
+        return told
+    return Told(told.status, b"", "\n".join(filter(None, (told.words, *told.others_than("done")[1:]))))
+
+
 def main(utility: str, words: List[str]) -> int:
     """A utility."""
     try:
-        told = run(utility, words, find_socket())
+        told = as_pbs(utility, run(utility, words, find_socket()))
         sys.stdout.buffer.write(told.answer)
         sys.stdout.buffer.flush()
     except (Unasked, Fault) as fault:

@@ -8,6 +8,7 @@ from ..words.dates import moment_of
 from ..words.dependencies import read_depends
 from ..words.options import Fault, naming
 from ..words.ranges import range_text, read_range
+from .other_options import OTHERS
 
 TYPE_CHECKING = False
 if TYPE_CHECKING:
@@ -127,6 +128,8 @@ def more_attributes(submission: Submission, text: str) -> None:
             if not value or len(value) > 4 or not set(value) <= set("01234567"):
                 raise Fault(f"-W umask={value}: no octal number")
             submission.facts["umask"] = value
+        elif name in ("stagein", "stageout"):
+            raise Fault(f"-W {name}: no file is copied for a job here: have the script copy it by cp or scp")
         else:
             submission.say(f"-W {name} is without effect here")
 
@@ -154,24 +157,16 @@ def as_user(submission: Submission, text: str) -> None:
 
 def project(submission: Submission, text: str) -> None:
     """-P: the account, too."""
-    submission.words += ["-A", text]
+    from .submitting import set_account
 
-
-def refuse(what: str) -> Option:
-    """What refuses an option."""
-
-    def tell(submission: Submission, text: str) -> None:
-        """Refuses it."""
-        raise Fault(what)
-
-    return tell
+    set_account(submission, text)
 
 
 BY_LETTER: Dict[str, Option] = {
+    **OTHERS,
     "a": begin_at,
     "c": checkpoint,
     "e": lambda submission, text: submission.facts.update(err=path_of(text, "e")),
-    "I": refuse("-I: there are no interactive jobs here"),
     "J": array,
     "j": join,
     "k": keep,
@@ -185,7 +180,6 @@ BY_LETTER: Dict[str, Option] = {
     "t": array,
     "u": as_user,
     "W": more_attributes,
-    "X": refuse("-X: there is no display for jobs here"),
     "z": lambda submission, text: setattr(submission, "is_silent", True),
 }
 
@@ -237,7 +231,7 @@ def split_variables(text: str) -> List[str]:
 def variables_of(submission: Submission, text: str) -> Dict[str, str]:
     """The variables that -v names, or gives values."""
     found: Dict[str, str] = {}
-    for part in split_variables(text):
+    for part in split_variables(text) if text.strip() else ():
         name, mark, value = part.partition("=")
         name = name.strip()
         if not name or "\0" in part:

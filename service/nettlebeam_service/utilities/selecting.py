@@ -107,4 +107,6 @@ def qselect(words: List[str], path: str) -> Told:
         return told
     jobs = [job for job in told.json_lines() if job["letter"]]
     names = [job["id"] for job in jobs if all(holds(job) for holds in wanted)]
+    shown = ask(path, ["members"]).json_lines()[0] if names else {}
+    names = [shown.get(name, name) for name in names]  # since the number of an array's first member means all of it
     return Told(0, "".join(f"{name}\n" for name in names).encode(), told.words)

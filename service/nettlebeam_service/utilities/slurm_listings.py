@@ -63,7 +63,7 @@ def fields_of(job: Job, plan: Dict[str, int]) -> Dict[str, str]:
         **{"i": shown, "A": job["id"], "F": str(more.get("array_id", job["id"])).replace("[]", ""), "K": str(more.get("index", "N/A"))},
         **{"P": PARTITION, "j": name_of(job), "u": job["owner"], "t": COMPACT[state], "T": state, "M": clock(elapsed(job))},
         **{"l": clock(job["limit"]), "D": str(job["nodes"]), "N": hosts, "r": why, "R": hosts or f"({why})"},
-        **{"a": job["account"] or "(null)", "Q": str(job["priority"]), "S": start, "Z": str(more.get("folder", ""))},
+        **{"a": str(more.get("account") or job["account"] or "(null)"), "Q": str(job["priority"]), "S": start, "Z": str(more.get("folder", ""))},
     }
 
 
@@ -129,7 +129,7 @@ def scancel(given: Given, operands: List[str], path: str, role: Optional[str]) -
     """`scancel [-u users] [-n names] [-t states] [-s signal] job ..`."""
     if not operands and not any(it in given for it in ("user", "name", "state", "me")):
         raise Fault("no job is named")
-    names = [job["id"] for job in chosen(given, operands, path, role)]
+    names = [job["shown"] for job in chosen(given, operands, path, role)]
     told = ask(path, ["qsig", given["signal"], *names] if "signal" in given else ["qdel", *names], role) if names else Told(0, b"", "")
     return Told(told.status, b"", told.words)
 

@@ -15,12 +15,12 @@ from ..common.files import remove
 from ..common.identifiers import IDENTIFIER
 from ..site.answers import Answer
 from ..site.lines import Denied
-from ..site.looks import full_name, living, origin_of, seen_by, told_of_many
+from ..site.looks import full_name, jobs_told, living, origin_of, seen_by, told_of_many
 from ..site.site import Site
 from ..site.spool import Spool
 from ..words.dependencies import read_depends
 from ..words.options import Fault, parse
-from ..words.ranges import read_range
+from ..words.ranges import MOST_MEMBERS, read_range
 from .groups import ENTERED, MADE, MAKING, Group, Groups
 
 SERVICE = "service/admin"  # as whom the service sets holds and deletes
@@ -85,7 +85,8 @@ class GroupSubmission:
             if bracket:
                 found += [(kind, job) for job in self.members_of(number, rest)]
             elif IDENTIFIER.match(name):
-                found.append((kind, name))
+                group = self.groups.array(name)
+                found += [(kind, job) for job in (group.jobs if group else [name])]
             else:
                 raise Denied(f"depend: {word[:40]!r} is no identifier of a job")
         names = list(dict.fromkeys(job for _, job in found))
@@ -111,6 +112,9 @@ class GroupSubmission:
     async def submit(self, asker: str, words: Sequence[str], facts: Dict[str, Any], script: bytes) -> Tuple[Answer, List[str]]:
         """Submits a job that waits, or an array; the answer with its identifier, or the first refusal, and the jobs."""
         group = await self.group_for(facts, words)
+        full = await self.without_room(len(group.indices))
+        if full:
+            return full, []
         facts = {**facts, "group": group.key}
         line = " ".join([asker, *words[:1], *([] if group.held else ["-h"]), *words[1:]])
         while not self.may_make.is_set():
@@ -133,6 +137,15 @@ class GroupSubmission:
             self.busy.discard(group.key)
         await self.enter(group)
         return Answer(f"{group.array_id if group.indices else group.jobs[0]}\n".encode("ascii")), group.jobs
+
+    async def without_room(self, members: int) -> Optional[Answer]:
+        """The refusal of a large array for which the site has no room. What is deleted in the middle takes its room, too, until it
+        is retired."""
+        if members <= JOBS_OF_LINE:
+            return None
+        left = MOST_MEMBERS - sum(origin_of(job["id"]) == self.here for job in await jobs_told(self.site, []))
+        words = f"refused 14 (SiteFull): {self.here} has room for {left} jobs, and the array has {members}"
+        return Answer(b"refused 14\n", words, 1) if members > left else None
 
     async def submit_all(self, group: Group, line: str, facts: Dict[str, Any], script: bytes) -> Optional[Answer]:
         """Submits all jobs of a group, with their scripts; the first refusal, where there is one."""
