@@ -49,7 +49,7 @@ def called(site, folder, words):
 
 def options(tally, federation):
     """Each call of the table is answered as the table says."""
-    (site,) = federation.make("argonne:8", "lemont:4", jobs="run = no")[:1]
+    (site,) = federation.make("argonne:8", "lemont:4", jobs="run = no", sites="here")[:1]
     folder = work_in(federation)
     os.makedirs(f"{folder}/there")
     with open(f"{folder}/job.sh", "w", encoding="ascii") as file:

@@ -158,13 +158,14 @@ def pbs_others(tally, federation):
     def job_of(*words, given="true\n"):
         status, output, errors = site.utility("qsub", *words, given=given, cwd=folder)
         tally.same(f"qsub {words}", (status, bool(NUMBER.match(output))), (0, True))
-        return site.jobs(output.strip())[output.strip()], errors
+        return site.jobs(output.strip())[output.strip()], errors.replace("qsub: it may run at argonne, lemont\n", "")
 
     tally.same("-q batch", job_of("-q", "batch")[0]["sites"], ["argonne", "lemont"])
     for words in (("-q", "lemont"), ("-q", "@lemont"), ("-q", "batch@lemont"), ("-l", "sites=argonne", "-q", "lemont")):
         tally.same(f"{words}", job_of("-h", *words)[0]["sites"], ["lemont"])
     none = site.utility("qsub", "-q", "workq", "-l", "nodes=2", given="true\n", cwd=folder)
-    tally.same("-q of no site", none, (1, "", "qsub: -q workq: there is no queue and no site of this name\n"))
+    said = "qsub: -q workq: there is no queue and no site of this name; there are batch, argonne, lemont\n"
+    tally.same("-q of no site", none, (1, "", said))
     tally.same("the last -q counts", job_of("-q", "lemont", "-q", "batch")[0]["sites"], ["argonne", "lemont"])
     for words in (("-A", "chem"), ("-P", "chem")):
         tally.same(f"{words}", job_of(*words)[0]["account"], "chem")

@@ -68,7 +68,7 @@ def slurm(tally, federation):
         tally.same(f"sbatch {words} is refused, and named", (status, output, words[-1].lstrip("-").partition("=")[0].partition(":")[0] in errors), (2, "", True))
     tally.same("no script beside --wrap", site.utility("sbatch", "--wrap", "true", "tasks.sh", cwd=folder)[:2], (2, ""))
     status, output, errors = site.utility("sbatch", "-p", "debug", "--wrap", "true", cwd=folder)
-    tally.same("no partition", (status, output, errors), (1, "", "sbatch: --partition debug: there is no queue and no site of this name\n"))
+    tally.same("no partition", (status, output, errors), (1, "", "sbatch: --partition debug: there is no queue and no site of this name; there are batch, argonne, lemont\n"))
 
 
 def with_words(tally, site, folder):

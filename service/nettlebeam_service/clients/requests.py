@@ -22,6 +22,7 @@ from ..site.site import Lost, NotKept, Silent, Site, Stopped
 from ..site.spool import Spool
 from ..waits.group_submission import WAITING_FACTS, NotEntered
 from ..waits.waits import Waits
+from .destinations import Destinations, Unplaced
 from .node_requests import OF_NODES, NodeRequests
 from .signals import TO_RUNNING, Signals
 from .user_limits import Exceeded, UserLimits
@@ -42,6 +43,7 @@ class Requests:
         unheard: Unheard,
         user_limits: UserLimits,
         eligibility: Eligibility,
+        destinations: Destinations,
         changed: Callable[[], None],
     ):
         self.site = site
@@ -56,6 +58,7 @@ class Requests:
         self.left: Set["asyncio.Future[Reply]"] = set()  # what goes on though its client was told that the site does not answer
         self.user_limits = user_limits
         self.eligibility = eligibility
+        self.destinations = destinations
 
     async def answer(self, client: Client, request: Request) -> Reply:
         """The reply to a request of this client."""
@@ -75,7 +78,7 @@ class Requests:
             return Reply(3, words=f"the backup failed, so that no packet may leave: {fault}")
         except Uncompacted as fault:
             return Reply(3, words=f"the journal isn't compacted: {fault}")
-        except Exceeded as fault:
+        except (Exceeded, Unplaced) as fault:
             return Reply(1, words=str(fault))
         except OSError as fault:
             return Reply(3, words=f"the spool: {fault.strerror or fault}")
@@ -113,8 +116,12 @@ class Requests:
         if not self.site.known.utilities:
             raise Stopped(self.site.trouble)  # the program hasn't told yet what may be asked
         request.words = await self.waits.arrays.expanded(request.words)
+        said = await self.destinations.placed(client, request)
         async with self.user_limits.hold(client, request):
-            return await self.do_words(client, request)
+            reply = await self.do_words(client, request)
+        if said and not reply.status:
+            reply.words = "\n".join(filter(None, (said, reply.words)))
+        return reply
 
     async def do_words(self, client: Client, request: Request) -> Reply:
         """Does what the words ask."""

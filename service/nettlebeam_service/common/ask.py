@@ -42,6 +42,10 @@ class Told:
         """Whether one of the answer's lines is this fixed one: of each job that is named there is a line."""
         return text.encode() in self.answer.splitlines()
 
+    def begins(self, text: str) -> bool:
+        """Whether the words begin so."""
+        return self.words.startswith(text)
+
     def others_than(self, text: str) -> List[str]:
         """For people: the lines of the answer that aren't this fixed one, each with its place, if there are several."""
         lines = self.answer.decode("ascii", "replace").splitlines()

@@ -21,7 +21,7 @@ OF_CLIENTS = ("folder", "home", "host", "lang", "path", "shell", "tz", "umask")
 # what a client tells of what it submits, as the options of PBS have it
 OF_OPTIONS = (
     *("account", "arguments", "array", "at", "chunks", "depend", "err", "interpreter", "join", "keep"),
-    *("mail", "mail_to", "name", "out", "resources", "script_words", "slurm", "variables"),
+    *("mail", "mail_to", "name", "out", "queue", "resources", "script_words", "slurm", "variables"),
 )
 # what a client tells of itself with a qsub; the service passes it to the job, and rests nothing on it
 FACTS = (*OF_CLIENTS, *OF_OPTIONS)

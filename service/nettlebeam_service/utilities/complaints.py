@@ -31,8 +31,8 @@ def explained(utility: str, options: Options, told: Told, names: Dict[str, str])
     an identifier."""
     given = [(names.get(letter, f"-{letter}"), argument) for letter, argument in options if argument is not None]
     queue = dict(options).get("q")
-    if queue and told.is_just(UNKNOWN_SITE):  # a queue is a site here
-        return Told(told.status, b"", f"{names.get('q', '-q')} {queue}: there is no queue and no site of this name")
+    if queue and told.begins(f"{queue}: "):
+        return Told(told.status, b"", f"{names.get('q', '-q')} {told.words}")
     words = told.words
     if given and (told.is_just(BAD_VALUE, UNKNOWN_SITE) or told.status == NOT_ASKED):
         words += f"\nthe options are {' '.join(f'{name} {argument}' for name, argument in given)}"

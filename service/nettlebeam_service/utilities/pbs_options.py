@@ -24,7 +24,6 @@ LONGEST_PATH = 4000
 # what belongs to the machine, the account or the shell that qsub is called by
 NOT_OF_JOBS = ("PWD", "OLDPWD", "SHLVL", "_", "DISPLAY", "TMPDIR", "HOME", "USER", "LOGNAME", "SHELL")
 OUR_OWN = ("PBS_", "NETTLEBEAM_")
-QUEUE = "batch"
 
 
 def path_of(text: str, letter: str) -> str:
@@ -60,13 +59,8 @@ def keep(submission: Submission, text: str) -> None:
 
 
 def queue(submission: Submission, text: str) -> None:
-    """-q: the only queue, or sites to run at."""
-    name, at, site = text.partition("@")
-    chosen = site if at else "" if name == QUEUE else name
-    if at and name not in ("", QUEUE):
-        raise Fault(f"-q {text}: the only queue is {QUEUE}")
-    if chosen:
-        submission.resources.pairs["sites="] = chosen
+    """-q: a queue, or a site to run at, which the service knows."""
+    submission.facts["queue"] = text
 
 
 def shell(submission: Submission, text: str) -> None:
