@@ -1,7 +1,8 @@
 """Scenes of where a job may run: the own site first, queues by name, and what no site could ever hold."""
+import os
 import re
 
-from tests.service.pbs import work_in
+from tests.service.pbs import text_of, work_in
 from tests.service.scenes import OPERATOR, OTHER, as_user, is_root
 from tests.service.sites import until
 from tests.service.waits import qsub
@@ -46,5 +47,94 @@ def own_site_first(tally, federation):
     tally.same("until its own has room", (argonne.finished(waits), argonne.jobs(waits)[waits]["begun"]["site"]), (0, "argonne"))
 
 
-SCENES = {it.__name__: it for it in (own_site_first,)}
-__all__ = ["OPERATOR", "OTHER", "SCENES", "as_user", "is_root", "re"]
+QUEUES = """\
+[queues]
+workq = here
+far = lemont
+short = here+lemont, walltime<=3600, nodes<=2, walltime=600
+mine = any, users=games
+"""
+
+
+def queues(tally, federation):
+    """`[queues]`: names for sites with limits, in submissions, alterations and all listings."""
+    site = federation.make("argonne:4", "lemont:8", jobs="hosts = h1 h2 h3 h4", more=QUEUES, sites="here", operators=OPERATOR)[0]
+    folder = work_in(federation)
+
+    def told(*words, utility="qsub", **how):
+        more = ("--parsable", "--wrap", "true") if utility == "sbatch" else ("-h",)
+        status, output, errors = site.utility(utility, *words, *more, given="true\n", cwd=folder, **how)
+        found = site.jobs(output.strip())[output.strip()] if not status else {}
+        return (status, *(found.get(key) for key in ("sites", "limit")), errors)
+
+    both, said = ["argonne", "lemont"], "qsub: it may run at argonne, lemont\n"
+    for words, wanted in (
+        ((), (0, ["argonne"], 3600, "")),
+        (("-q", "far"), (0, ["lemont"], 3600, "qsub: it may run at lemont\n")),
+        (("-q", "far", "-l", "nodes=8"), (0, ["lemont"], 3600, "qsub: it may run at lemont\n")),
+        (("-q", "short"), (0, both, 600, said)),
+        (("-q", "short@argonne", "-l", "walltime=60"), (0, ["argonne"], 60, "")),
+        (("-q", "short", "-l", "sites=argonne"), (0, ["argonne"], 600, "")),
+        (("-q", "mine"), (0, both, 3600, said)),
+        (("-q", "@argonne"), (0, ["argonne"], 3600, "")),
+    ):
+        tally.same(f"qsub {words}", told(*words), wanted)
+    for words, why in (
+        (("-q", "batch"), "-q batch: there is no queue of this name; there are workq, far, short, mine"),
+        (("-q", "long@lemont"), "-q long@lemont: there is no queue of this name"),
+        (("-q", "far@argonne"), "the queue far is at lemont, and not at argonne"),
+        (("-l", "sites=lemont"), "the queue workq is at argonne, and not at lemont"),
+        (("-q", "short", "-l", "nodes=3"), "the queue short has jobs of at most 2 nodes, and not of 3"),
+        (("-q", "short", "-l", "walltime=1:00:01"), "the queue short has jobs of at most 3600 seconds, and not of 3601"),
+        (("-q", "far", "-l", "nodes=9"), "9 nodes are more than any site has that the job may run at: lemont 8"),
+        (("-l", "nodes=5"), "5 nodes are more than any site has that the job may run at: argonne 4"),
+    ):
+        status, _, _, errors = told(*words)
+        tally.same(f"qsub {words}: {errors!r}", (status, why in errors), (1, True))
+    tally.same("sbatch -p", told("-p", "short", utility="sbatch")[:3], (0, both, 600))
+    tally.true("sbatch of none", "--partition debug: there is no queue of this name" in told("--partition=debug", utility="sbatch")[3])
+    if is_root(tally):
+        def other(name):
+            return told("-q", "mine", before=as_user(name))
+
+        os.chmod(folder, 0o755)
+        tally.same("one of its users", other(OPERATOR)[0], 0)
+        tally.same("and another", (other(OTHER)[0], "the queue mine is for games" in other(OTHER)[3]), (1, True))
+    listed_queues(tally, site, folder)
+
+
+def listed_queues(tally, site, folder):
+    """The queues in the listings."""
+    site.ask("qdel", *site.jobs())
+    if os.getuid() == 0:
+        site.utility("qdel", *site.jobs(), before=as_user(OPERATOR))
+    job = qsub(site, folder, "-q", "short", "-h", "-N", "named")
+    other = qsub(site, folder, "-h")
+
+    def lines(*words, utility="qstat"):
+        return site.utility(utility, *words)[1].splitlines()
+
+    tally.same("qstat -Q", [line.split()[::2][:2] for line in lines("-Q")[2:]], [["workq", "1"], ["far", "0"], ["short", "1"], ["mine", "0"]])
+    tally.same("qstat -Q of one", len(lines("-Q", "short")), 3)
+    tally.same("qstat -Qf", lines("-Qf", "short")[4:8], [
+        "    resources_max.walltime = 01:00:00", "    resources_max.nodect = 2", "    resources_default.walltime = 00:10:00", "    sites = argonne+lemont"])
+    tally.true("qstat -q", any(re.match(r"short +-- +-- +01:00:00 +2 +0 +1 ", line) for line in lines("-q")))
+    tally.true("qstat -Bf", "    default_queue = workq" in lines("-Bf"))
+    tally.same("qstat -a", [line.split()[2] for line in lines("-a")[5:]], ["short", "workq"])
+    tally.same("qstat of a queue", [line.split()[0] for line in lines("-a", "short")[5:]], [job])
+    tally.same("and by its name alone", [line.split()[-1] for line in lines("short")[2:]], ["short"])
+    tally.same("of none", site.utility("qstat", "-a", "batch")[0], 170)
+    tally.true("qstat -f", "    queue = short" in lines("-fx", job))
+    tally.same("qselect -q", [lines("-q", name, utility="qselect") for name in ("short", "workq", "far")], [[job], [other], []])
+    tally.same("squeue -p", lines("-h", "-o", "%i %P", "-p", "short", utility="squeue"), [f"{job} short"])
+    tally.same("sinfo", [line.split()[:3] for line in lines(utility="sinfo")[1:]], [["workq*", "up", "infinite"], ["short", "up", "1:00:00"], ["mine", "up", "infinite"]])
+    tally.same("sinfo -p", len(lines("-h", "-p", "short", utility="sinfo")), 1)
+    altered = site.utility("qalter", "-l", "nodes=3", job)
+    tally.same("qalter keeps the limits", (altered[0], "at most 2 nodes" in altered[2], site.jobs(job)[job]["nodes"]), (1, True, 1))
+    tally.same("within them", site.utility("qalter", "-l", "nodes=2", job)[0], 0)
+    site.ask("qdel", other)
+    shown = qsub(site, folder, "-q", "short@argonne", "-o", "queue.txt", script="echo $PBS_QUEUE\n")
+    tally.same("a job is told its queue", (site.finished(shown), text_of(folder, "queue.txt")), (0, "short\n"))
+
+
+SCENES = {it.__name__: it for it in (own_site_first, queues)}

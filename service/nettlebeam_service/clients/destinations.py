@@ -3,7 +3,9 @@ could ever hold is refused."""
 from __future__ import annotations
 
 import asyncio
+import json
 import pwd
+from dataclasses import asdict
 from typing import Dict, List, Optional, Sequence, Tuple
 
 from ..common.config import Config
@@ -89,6 +91,12 @@ class Destinations:
         if sites:
             pairs["sites"] = "+".join(sites)
         return ""
+
+    def told(self) -> bytes:
+        """The queues, a line of JSON for each, the first of them that of jobs which name none."""
+        queues = self.config.queues or (Queue(BATCH, self.config.clients.sites),)
+        lines = [json.dumps({**asdict(queue), "sites": self.sites_in(queue.sites)}) for queue in queues]
+        return "".join(f"{line}\n" for line in lines).encode("ascii")
 
     def sites_in(self, text: str) -> List[str]:
         """The sites that a text names."""

@@ -142,6 +142,8 @@ class Requests:
             return await self.submit(client, request)
         if verb == "site":
             return Reply(0, f"{self.waits.here}\n".encode("ascii"))
+        if verb == "queues":
+            return Reply(0, self.destinations.told())
         if verb == "members":
             return Reply(0, json.dumps(self.waits.arrays.called()).encode("ascii") + b"\n")
         if verb == "details":

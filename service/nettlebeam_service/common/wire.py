@@ -28,7 +28,7 @@ FACTS = (*OF_CLIENTS, *OF_OPTIONS)
 # those that the node of a job is told
 OF_RUNS = (
     *(*OF_CLIENTS, "array_id", "chunks", "err", "index", "interpreter", "join", "keep", "out"),
-    *("script_words", "slurm", "variables"),
+    *("queue", "script_words", "slurm", "variables"),
 )
 # those that may be longer than the others
 LISTS = ("depend", "resources", "arguments")

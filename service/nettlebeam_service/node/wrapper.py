@@ -15,6 +15,7 @@ from ..words.resources import read_chunks, times_of
 from .job_files import OF_THE_RUN, interpreter_words, more_exports, placed, shown_id, slurm_exports, variables_text
 
 PATH = "/usr/local/bin:/usr/bin:/bin"
+QUEUE = "batch"  # of a site that names none
 LONGEST_FIRST_LINE = 256  # as much of it as the kernel reads
 # the names of POSIX.1-2017 for what the submitter's environment had
 SUBMITTERS = {
@@ -88,8 +89,8 @@ def exports_of(job: str, order: Order) -> Dict[str, str]:
         "PBS_JOBID": shown_id(job, facts),
         "PBS_JOBNAME": order["name"],
         "PBS_O_LOGNAME": order["owner"],
-        "PBS_O_QUEUE": "batch",
-        "PBS_QUEUE": "batch",
+        "PBS_O_QUEUE": str(facts.get("queue") or QUEUE),
+        "PBS_QUEUE": str(facts.get("queue") or QUEUE),
         **more_exports(order["nodes"], facts),
         **slurm_exports(job, order["name"], order["nodes"], facts),
         **named,

@@ -6,7 +6,7 @@ import time
 from ..common.small_json import dumps
 from ..words.resources import counts_of
 from .help_texts import VERSION
-from .layouts import QUEUE, comment_of, elapsed, hosts_text, long_clock, name_of, plain
+from .layouts import comment_of, elapsed, hosts_text, long_clock, name_of, plain, queue_of
 
 TYPE_CHECKING = False
 if TYPE_CHECKING:
@@ -42,7 +42,7 @@ def variables_of(job: Job) -> Dict[str, str]:
     more = job["more"]
     told = {f"PBS_O_{name}": str(more[key]) for name, key in SUBMITTERS if key in more}
     given = more.get("variables", {})
-    return {**told, "PBS_O_LOGNAME": job["owner"], "PBS_O_QUEUE": QUEUE, **(given if isinstance(given, dict) else {})}
+    return {**told, "PBS_O_LOGNAME": job["owner"], "PBS_O_QUEUE": queue_of(job), **(given if isinstance(given, dict) else {})}
 
 
 def moments_of(job: Job) -> Attributes:
@@ -108,7 +108,7 @@ def attributes_of(job: Job, view: View) -> Attributes:
     owner = f"{job['owner']}@{more['host']}" if more.get("host") else job["owner"]
     found: Attributes = [("Job_Name", name_of(job)), ("Job_Owner", owner)]
     found += used_of(job)
-    found += [("job_state", job["state"]), ("queue", QUEUE), ("server", view.here), ("Checkpoint", "n")]
+    found += [("job_state", job["state"]), ("queue", queue_of(job)), ("server", view.here), ("Checkpoint", "n")]
     account = more.get("account") or job["account"]
     found += [("Account_Name", plain(account))] if account else []
     found += [("depend", more["waits"])] if more.get("waits") else []

@@ -16,9 +16,9 @@ USAGES = {
     "sbatch": "[-n tasks] [-N nodes] [-c processors] [--ntasks-per-node=n] [-t time] [-J name] [-o path] [-e path] [-p partition]"
     " [-M sites] [-A account] [-d dependencies] [-a indices] [-D folder] [-H] [-W] [--export=..] [--mail-type=..] [--mail-user=..]"
     " [--parsable] [--wrap=command | script]",
-    "squeue": "[-h] [-o format] [-j jobs] [-u users | --me] [-t states] [-n names]",
+    "squeue": "[-h] [-o format] [-j jobs] [-u users | --me] [-t states] [-n names] [-p partitions]",
     "scancel": "[-u users | --me] [-n names] [-t states] [-s signal] [job ..]",
-    "sinfo": "[-h] [-N]",
+    "sinfo": "[-h] [-N] [-p partitions]",
     "qstat": "[-f [-x] [-F json]] [-a | -i | -r | -H | -Q | -q | -B] [-n] [-s] [-T] [-1] [-w] [-t] [-x] [-u users] [job ..]",
 }
 

@@ -34,7 +34,7 @@ def alter(path: str, words: Words, role: Optional[str]) -> Told:
 def list_jobs(path: str, words: Words, role: Optional[str]) -> Told:
     """`qstat`: the site's own listings where POSIX's options are given, and those of PBS else."""
     options, operands = words.options, words.operands
-    is_queue = any("@" in operand or operand == QUEUE for operand in operands)
+    is_queue = any("@" in operand or operand == QUEUE or is_named(path, operand) for operand in operands)
     if any(letter != "f" for letter, _ in options) or is_queue:
         from .listing import qstat
 
@@ -46,6 +46,15 @@ def list_jobs(path: str, words: Words, role: Optional[str]) -> Told:
     from .listing import known
 
     return known(path, [f"-{letter}" for letter, _ in options], operands, role)
+
+
+def is_named(path: str, operand: str) -> bool:
+    """Whether a queue has this name; no job has one that begins with a letter."""
+    if not operand[:1].isalpha():
+        return False
+    from .queues import has_queue
+
+    return has_queue(path, operand)
 
 
 def are_living(path: str, operands: List[str]) -> bool:

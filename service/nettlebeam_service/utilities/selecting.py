@@ -27,6 +27,7 @@ RESOURCE = re.compile(r"([a-z]+)(?:=|\.(eq|ne|ge|gt|le|lt)\.)(.+)\Z")
 NUMBERS = {"nodes": "nodes", "walltime": "limit"}
 STATES = "EHQRT"
 HOLDS = "uos"
+QUEUE = "batch"
 
 
 def compare(text: str, key: str) -> Condition:
@@ -79,8 +80,9 @@ def condition(letter: str, text: str) -> List[Condition]:
     if letter == "p":
         return [compare(text, "priority")]
     if letter == "q":
-        site = text.rpartition("@")[2]
-        return [lambda job: site in job["sites"]]
+        name, _, site = text.partition("@")
+        # a site's name alone is taken for it
+        return [lambda job: name in ("", job.get("queue")) or name in job["sites"], lambda job: not site or site in job["sites"]]
     if letter == "s":
         states = letters(text, STATES, "states")
         return [lambda job: job["letter"] in states]
@@ -102,10 +104,12 @@ def qselect(words: List[str], path: str) -> Told:
     if operands:
         raise Fault("it has no operands")
     wanted = [holds for letter, text in options.items() for holds in named_condition(letter, text)]
-    told = ask(path, ["jobs"])
+    told = ask(path, ["details", "now"] if "q" in options else ["jobs"])
     if told.status:
         return told
     jobs = [job for job in told.json_lines() if job["letter"]]
+    for job in jobs if "q" in options else ():
+        job["queue"] = job["more"].get("queue") or QUEUE
     names = [job["id"] for job in jobs if all(holds(job) for holds in wanted)]
     shown = ask(path, ["members"]).json_lines()[0] if names else {}
     names = [shown.get(name, name) for name in names]  # since the number of an array's first member means all of it

@@ -6,7 +6,7 @@ import time
 
 from ..common.ask import Told, ask
 from ..words.options import Fault
-from .layouts import elapsed, name_of
+from .layouts import elapsed, name_of, queue_of
 from .listing import UNKNOWN_STATUS, View, here_of, jobs_for, named, planned, with_arrays
 from .pbsnodes import nodes_in
 from .slurm import NOT_KNOWN, identifiers
@@ -18,6 +18,8 @@ if TYPE_CHECKING:
     from .listing import Job
     from .slurm import Given
 
+    Partitions = List[Tuple[str, str]]
+
 STATES = {"Q": "PENDING", "H": "PENDING", "W": "PENDING", "T": "CONFIGURING", "R": "RUNNING", "E": "COMPLETING", "F": "COMPLETED"}
 COMPACT = {"PENDING": "PD", "CONFIGURING": "CF", "RUNNING": "R", "COMPLETING": "CG", "COMPLETED": "CD"}
 LONG_STATE = {short: state for state, short in COMPACT.items()}
@@ -27,7 +29,6 @@ HEADS = {
     **{"t": "ST", "T": "STATE", "M": "TIME", "l": "TIME_LIMIT", "D": "NODES", "R": "NODELIST(REASON)", "N": "NODELIST"},
     **{"r": "REASON", "a": "ACCOUNT", "Q": "PRIORITY", "S": "START_TIME", "Z": "WORK_DIR"},
 }
-PARTITION = "batch"
 NODES = {"down": "down", "offline": "drain", "job-exclusive": "alloc", "free": "idle"}
 
 
@@ -61,7 +62,7 @@ def fields_of(job: Job, plan: Dict[str, int]) -> Dict[str, str]:
     why = reason(job, plan)
     return {
         **{"i": shown, "A": job["id"], "F": str(more.get("array_id", job["id"])).replace("[]", ""), "K": str(more.get("index", "N/A"))},
-        **{"P": PARTITION, "j": name_of(job), "u": job["owner"], "t": COMPACT[state], "T": state, "M": clock(elapsed(job))},
+        **{"P": queue_of(job), "j": name_of(job), "u": job["owner"], "t": COMPACT[state], "T": state, "M": clock(elapsed(job))},
         **{"l": clock(job["limit"]), "D": str(job["nodes"]), "N": hosts, "r": why, "R": hosts or f"({why})"},
         **{"a": str(more.get("account") or job["account"] or "(null)"), "Q": str(job["priority"]), "S": start, "Z": str(more.get("folder", ""))},
     }
@@ -113,6 +114,7 @@ def chosen(given: Given, names: List[str], path: str, role: Optional[str]) -> Li
         and (not users or job["owner"] in users.split(","))
         and (not given.get("name") or job["name"] in given["name"].split(","))
         and (not wanted or STATES[job["state"]] in wanted)
+        and (not given.get("partition") or queue_of(job) in given["partition"].split(","))
     ]
 
 
@@ -134,27 +136,45 @@ def scancel(given: Given, operands: List[str], path: str, role: Optional[str]) -
     return Told(told.status, b"", told.words)
 
 
-def node_lines(nodes: List[Tuple[str, str]]) -> List[str]:
+def node_lines(nodes: List[Tuple[str, str]], partitions: Partitions) -> List[str]:
     """The lines of `sinfo -N`, the first of them the head."""
-    lines = [f"{name:<16} {1:>5} {PARTITION + '*':>9} {state}\n" for name, state in nodes]
+    lines = [f"{name:<16} {1:>5} {partition:>9} {state}\n" for name, state in nodes for partition, _ in partitions]
     return [f"{'NODELIST':<16} NODES PARTITION STATE\n", *lines]
 
 
-def partition_lines(nodes: List[Tuple[str, str]]) -> List[str]:
+def partition_lines(nodes: List[Tuple[str, str]], partitions: Partitions) -> List[str]:
     """The lines of `sinfo`, the first of them the head."""
     lines = ["PARTITION AVAIL  TIMELIMIT  NODES  STATE NODELIST\n"]
-    for wanted in ("down", "drain", "alloc", "idle"):
-        names = [name for name, state in nodes if state == wanted]
-        if names:
-            lines.append(f"{PARTITION + '*':<9} {'up':>5} {'infinite':>10} {len(names):>6} {wanted:>6} {','.join(names)}\n")
+    for partition, limit in partitions:
+        for wanted in ("down", "drain", "alloc", "idle"):
+            names = [name for name, state in nodes if state == wanted]
+            if names:
+                lines.append(f"{partition:<9} {'up':>5} {limit:>10} {len(names):>6} {wanted:>6} {','.join(names)}\n")
     return lines
 
 
+def partitions_of(path: str, given: Given) -> Partitions:
+    """The queues that may have jobs here, the first of all with a star, and their limits."""
+    from .queues import queues_of
+
+    queues, here = queues_of(path), here_of(path)
+    wanted = [it for it in given.get("partition", "").split(",") if it]
+    unknown = [it for it in wanted if it not in [queue["name"] for queue in queues]]
+    if unknown:
+        raise Fault(f"--partition {unknown[0]}: there is no queue of this name; there are {', '.join(it['name'] for it in queues)}")
+    return [
+        (queue["name"] + ("*" if queue is queues[0] else ""), clock(queue["most_seconds"]) if queue["most_seconds"] else "infinite")
+        for queue in queues
+        if here in queue["sites"] and (not wanted or queue["name"] in wanted)
+    ]
+
+
 def sinfo(given: Given, operands: List[str], path: str, role: Optional[str]) -> Told:
-    """`sinfo [-h] [-N]`: the nodes of the site's machine."""
+    """`sinfo [-h] [-N] [-p partitions]`: the nodes of the site's machine."""
     if operands:
         raise Fault(f"{operands[0]}: it has no operands")
     told = ask(path, ["nodes-json"], role)
     nodes = [(node["name"], NODES[node["state"].partition(",")[0]]) for node in nodes_in(told)]
-    lines = node_lines(nodes) if "Node" in given else partition_lines(nodes)
+    partitions = partitions_of(path, given)
+    lines = node_lines(nodes, partitions) if "Node" in given else partition_lines(nodes, partitions)
     return Told(told.status, "".join(lines[1:] if "noheader" in given else lines).encode(), told.words)

@@ -17,9 +17,9 @@ SHORT: Dict[str, Dict[str, str]] = {
         **{"G": "gpus", "i": "input", "k": "no-kill", "L": "licenses", "O": "overcommit", "s": "oversubscribe"},
         **{"S": "core-spec", "v": "verbose", "w": "nodelist", "x": "exclude"},
     },
-    "squeue": {"h": "noheader", "o": "format", "j": "jobs", "u": "user", "t": "states", "n": "name", "r": "array"},
+    "squeue": {"h": "noheader", "o": "format", "j": "jobs", "u": "user", "t": "states", "n": "name", "r": "array", "p": "partition"},
     "scancel": {"u": "user", "n": "name", "t": "state", "s": "signal", "Q": "quiet"},
-    "sinfo": {"h": "noheader", "N": "Node"},
+    "sinfo": {"h": "noheader", "N": "Node", "p": "partition"},
 }
 LONG = {
     "sbatch": ("parsable", "ntasks-per-node", "wrap", "export", "mail-type", "mail-user", "ignore-pbs"),

@@ -25,6 +25,7 @@ from .groups import ENTERED, MADE, MAKING, Group, Groups
 
 SERVICE = "service/admin"  # as whom the service sets holds and deletes
 JOBS_OF_LINE = 100
+FEW_MEMBERS = 1000  # of an array for which nobody counts all jobs of the site
 AT_ONCE = 250
 UNDO_GAP = 0.01
 WAITING_FACTS = ("array", "at", "depend")
@@ -141,7 +142,7 @@ class GroupSubmission:
     async def without_room(self, members: int) -> Optional[Answer]:
         """The refusal of a large array for which the site has no room. What is deleted in the middle takes its room, too, until it
         is retired."""
-        if members <= JOBS_OF_LINE:
+        if members <= FEW_MEMBERS:
             return None
         left = MOST_MEMBERS - sum(origin_of(job["id"]) == self.here for job in await jobs_told(self.site, []))
         words = f"refused 14 (SiteFull): {self.here} has room for {left} jobs, and the array has {members}"
