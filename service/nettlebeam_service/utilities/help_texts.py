@@ -12,11 +12,14 @@ USAGES = {
     "qhold": "[-h kinds] job ..",
     "qrls": "[-h kinds] job ..",
     "qdel": "job ..",
-    "pbsnodes": "-a [-F json] | -l | -S | -o [-C why] host .. | -r host .. | host ..",
+    "tracejob": "job ..",
+    "sacct": "[-a] [-j jobs] [-u users] [-S moment] [-E moment] [-s states] [-o fields] [-n] [-P | -p]",
+    "scontrol": "show job|node|partition [name] | hold job .. | release job ..",
+    "pbsnodes": "-a [-F json] | -l [state] | -S | -o [-C why] host .. | -r host .. | host ..",
     "sbatch": "[-n tasks] [-N nodes] [-c processors] [--ntasks-per-node=n] [-t time] [-J name] [-o path] [-e path] [-p partition]"
     " [-M sites] [-A account] [-d dependencies] [-a indices] [-D folder] [-H] [-W] [--export=..] [--mail-type=..] [--mail-user=..]"
     " [--parsable] [--wrap=command | script]",
-    "squeue": "[-h] [-o format] [-j jobs] [-u users | --me] [-t states] [-n names] [-p partitions]",
+    "squeue": "[-h] [-o format | -O fields | --json] [--start] [-j jobs] [-u users | --me] [-t states] [-n names] [-p partitions]",
     "scancel": "[-u users | --me] [-n names] [-t states] [-s signal] [job ..]",
     "sinfo": "[-h] [-N] [-p partitions]",
     "qstat": "[-f [-x] [-F json]] [-a | -i | -r | -H | -Q | -q | -B] [-n] [-s] [-T] [-1] [-w] [-t] [-x] [-u users] [job ..]",

@@ -15,8 +15,8 @@ TYPE_CHECKING = False
 if TYPE_CHECKING:
     from typing import List, Optional
 
-MORE = ("qselect", "qsig", "qmsg", "qmove", "qrerun", "pbsnodes")
-OF_SLURM = ("sbatch", "squeue", "scancel", "sinfo")
+MORE = ("qselect", "qsig", "qmsg", "qmove", "qrerun", "pbsnodes", "tracejob")
+OF_SLURM = ("sbatch", "squeue", "scancel", "sinfo", "sacct", "scontrol", "srun", "salloc")
 QUEUE = "batch"
 # what the site answers these is told by their status, and by what they say beside it
 ANSWERED = ("qalter", "qhold", "qrls", "qdel", "qsig", "qmsg", "qmove")

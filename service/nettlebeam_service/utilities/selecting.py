@@ -6,6 +6,7 @@ import re
 
 from ..common.ask import Told, ask
 from ..words.options import OPTIONS, Fault, naming, seconds_of
+from .listing import state_of
 from .more_utilities import read_words
 
 TYPE_CHECKING = False
@@ -25,7 +26,7 @@ OPERATORS = {
 COMPARED = re.compile(r"(?:\.(eq|ne|ge|gt|le|lt)\.)?([+-]?[0-9]+)\Z")
 RESOURCE = re.compile(r"([a-z]+)(?:=|\.(eq|ne|ge|gt|le|lt)\.)(.+)\Z")
 NUMBERS = {"nodes": "nodes", "walltime": "limit"}
-STATES = "EHQRT"
+STATES = "BEFHMQRSTUWX"  # those of PBS, of which some no job here ever has
 HOLDS = "uos"
 QUEUE = "batch"
 
@@ -85,7 +86,7 @@ def condition(letter: str, text: str) -> List[Condition]:
         return [lambda job: name in ("", job.get("queue")) or name in job["sites"], lambda job: not site or site in job["sites"]]
     if letter == "s":
         states = letters(text, STATES, "states")
-        return [lambda job: job["letter"] in states]
+        return [lambda job: job["letter"] in states or (job.get("state") == "W" and "W" in states)]
     users = text.split(",")
     return [lambda job: job["owner"] in users]
 
@@ -104,12 +105,13 @@ def qselect(words: List[str], path: str) -> Told:
     if operands:
         raise Fault("it has no operands")
     wanted = [holds for letter, text in options.items() for holds in named_condition(letter, text)]
-    told = ask(path, ["details", "now"] if "q" in options else ["jobs"])
+    has_more = "q" in options or "W" in options.get("s", "")
+    told = ask(path, ["details", "now"] if has_more else ["jobs"])
     if told.status:
         return told
     jobs = [job for job in told.json_lines() if job["letter"]]
-    for job in jobs if "q" in options else ():
-        job["queue"] = job["more"].get("queue") or QUEUE
+    for job in jobs if has_more else ():
+        job["queue"], job["state"] = job["more"].get("queue") or QUEUE, state_of(job)
     names = [job["id"] for job in jobs if all(holds(job) for holds in wanted)]
     shown = ask(path, ["members"]).json_lines()[0] if names else {}
     names = [shown.get(name, name) for name in names]  # since the number of an array's first member means all of it

@@ -237,9 +237,17 @@ def identifiers(path: str, names: Sequence[str], role: Optional[str]) -> List[st
 
 def run(utility: str, words: List[str], path: str, role: Optional[str]) -> Told:
     """Does what a utility is asked."""
+    if utility in ("srun", "salloc"):
+        from .slurm_jobs import instead
+
+        return instead(utility)
     given, operands = read_options(utility, words)
     if utility == "sbatch":
         return sbatch(given, operands, words, path, role)
+    if utility in ("sacct", "scontrol"):
+        from .slurm_jobs import sacct, scontrol
+
+        return (sacct if utility == "sacct" else scontrol)(given, operands, path, role)
     from .slurm_listings import scancel, sinfo, squeue
 
     return {"squeue": squeue, "scancel": scancel, "sinfo": sinfo}[utility](given, operands, path, role)

@@ -24,6 +24,7 @@ STATES = {"Q": "PENDING", "H": "PENDING", "W": "PENDING", "T": "CONFIGURING", "R
 COMPACT = {"PENDING": "PD", "CONFIGURING": "CF", "RUNNING": "R", "COMPLETING": "CG", "COMPLETED": "CD"}
 LONG_STATE = {short: state for state, short in COMPACT.items()}
 FORMAT = "%.18i %.9P %.8j %.8u %.2t %.10M %.6D %R"
+START_FORMAT = "%.18i %.9P %.8j %.8u %.2t %.19S %.6D %R"
 HEADS = {
     **{"i": "JOBID", "A": "JOBID", "F": "ARRAY_JOB_ID", "K": "ARRAY_TASK_ID", "P": "PARTITION", "j": "NAME", "u": "USER"},
     **{"t": "ST", "T": "STATE", "M": "TIME", "l": "TIME_LIMIT", "D": "NODES", "R": "NODELIST(REASON)", "N": "NODELIST"},
@@ -58,10 +59,11 @@ def fields_of(job: Job, plan: Dict[str, int]) -> Dict[str, str]:
     front, _, index = job["shown"].partition("[")
     shown = f"{front}_{index.replace(']', '')}" if index else front
     hosts = ",".join(more.get("hosts", [])) or (begun["site"] if begun else "")
-    start = time.strftime("%Y-%m-%dT%H:%M:%S", time.localtime(begun["moment"])) if begun else "N/A"
+    moment = begun["moment"] if begun else plan.get(job["id"], 0)
+    start = time.strftime("%Y-%m-%dT%H:%M:%S", time.localtime(moment)) if moment else "N/A"
     why = reason(job, plan)
     return {
-        **{"i": shown, "A": job["id"], "F": str(more.get("array_id", job["id"])).replace("[]", ""), "K": str(more.get("index", "N/A"))},
+        **{"i": shown, "A": shown, "F": str(more.get("array_id", job["id"])).replace("[]", ""), "K": str(more.get("index", "N/A"))},
         **{"P": queue_of(job), "j": name_of(job), "u": job["owner"], "t": COMPACT[state], "T": state, "M": clock(elapsed(job))},
         **{"l": clock(job["limit"]), "D": str(job["nodes"]), "N": hosts, "r": why, "R": hosts or f"({why})"},
         **{"a": str(more.get("account") or job["account"] or "(null)"), "Q": str(job["priority"]), "S": start, "Z": str(more.get("folder", ""))},
@@ -118,11 +120,24 @@ def chosen(given: Given, names: List[str], path: str, role: Optional[str]) -> Li
     ]
 
 
+def chosen_names(names: List[str], path: str, role: Optional[str]) -> List[str]:
+    """What the jobs are called that these words mean, which must be known."""
+    return [job["shown"] for job in chosen({}, [it for name in names for it in name.split(",")], path, role)]
+
+
 def squeue(given: Given, operands: List[str], path: str, role: Optional[str]) -> Told:
-    """`squeue [-h] [-o format] [-j jobs] [-u users] [-t states] [-n names]`."""
+    """`squeue [-h] [-o format | -O fields | --json] [-j jobs] [-u users] [-t states] [-n names] [-p partitions] [--start]`."""
     jobs = chosen(given, [*operands, *filter(None, given.get("jobs", "").split(","))], path, role)
-    form = given.get("format", FORMAT)
-    plan = planned(path) if any(job["letter"] == "Q" for job in jobs) and "r" in form.lower() else {}
+    form = given.get("format", START_FORMAT if "start" in given else FORMAT)
+    if "start" in given:
+        jobs = [job for job in jobs if not job["begun"]]
+    has_plan = any(job["letter"] == "Q" for job in jobs) and ("r" in form.lower() or "S" in form or "Format" in given or "json" in given)
+    plan = planned(path) if has_plan else {}
+    if "json" in given or "Format" in given:
+        from .slurm_forms import objects, table
+
+        texts = [objects(jobs, plan)] if "json" in given else table(given["Format"], jobs, plan, "noheader" not in given)
+        return Told(0, "".join(texts).encode(), "")
     lines = [] if "noheader" in given else [line_of(form, HEADS)]
     return Told(0, "".join([*lines, *(line_of(form, fields_of(job, plan)) for job in jobs)]).encode(), "")
 

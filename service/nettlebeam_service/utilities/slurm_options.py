@@ -17,15 +17,22 @@ SHORT: Dict[str, Dict[str, str]] = {
         **{"G": "gpus", "i": "input", "k": "no-kill", "L": "licenses", "O": "overcommit", "s": "oversubscribe"},
         **{"S": "core-spec", "v": "verbose", "w": "nodelist", "x": "exclude"},
     },
-    "squeue": {"h": "noheader", "o": "format", "j": "jobs", "u": "user", "t": "states", "n": "name", "r": "array", "p": "partition"},
+    "squeue": {"h": "noheader", "o": "format", "j": "jobs", "u": "user", "t": "states", "n": "name", "r": "array", "p": "partition", "O": "Format"},
     "scancel": {"u": "user", "n": "name", "t": "state", "s": "signal", "Q": "quiet"},
     "sinfo": {"h": "noheader", "N": "Node", "p": "partition"},
+    "sacct": {
+        **{"a": "allusers", "j": "jobs", "u": "user", "S": "starttime", "E": "endtime", "s": "state", "o": "format", "n": "noheader"},
+        **{"P": "parsable2", "p": "parsable", "X": "allocations"},
+    },
+    "scontrol": {},
 }
 LONG = {
     "sbatch": ("parsable", "ntasks-per-node", "wrap", "export", "mail-type", "mail-user", "ignore-pbs"),
-    "squeue": ("me",),
+    "squeue": ("me", "start", "json"),
     "scancel": ("me",),
     "sinfo": (),
+    "sacct": ("name",),
+    "scontrol": (),
 }
 # those of sbatch that are without effect, since nodes are whole here and no job begins twice
 IDLE = (
@@ -71,9 +78,11 @@ REFUSED = {
 REFUSED_FLAGS = ("reboot", "resv-ports", "stepmgr", "test-only")
 FLAGS = {
     "sbatch": ("hold", "wait", "quiet", "parsable", "ignore-pbs", *IDLE_FLAGS, *REFUSED_FLAGS),
-    "squeue": ("noheader", "me", "array"),
+    "squeue": ("noheader", "me", "array", "start", "json"),
     "scancel": ("me", "quiet"),
     "sinfo": ("noheader", "Node"),
+    "sacct": ("allusers", "noheader", "parsable", "parsable2", "allocations"),
+    "scontrol": (),
 }
 
 

@@ -19,6 +19,7 @@ OPTIONS = {
     "qhold": "h",
     "qrls": "h",
     "pbsnodes": "vCF",
+    "tracejob": "cfnpw",
 }
 
 
