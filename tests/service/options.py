@@ -1,7 +1,8 @@
 """The scene `options`: each option of the qsub of OpenPBS and of Torque, and of Slurm's sbatch, by the table `options.tsv`.
 
 A line of the table is a call and what its answer must be: `done`, which writes a name and no complaint; `said WORDS`, which writes
-a name, and these words beside it; or `refused WORDS`, which writes nothing but these words among others on standard error.
+a name, and these words beside it; `quiet`, which writes nothing; or `refused WORDS`, which writes nothing but these words among
+others on standard error.
 """
 import io
 import os
@@ -59,12 +60,12 @@ def options(tally, federation):
     for line in lines:
         call, mark, wanted = line.partition("\t")
         kind, _, said = wanted.partition(" ")
-        if not mark or kind not in ("done", "said", "refused") or (kind == "done") == bool(said):
+        if not mark or kind not in ("done", "quiet", "said", "refused") or (kind in ("done", "quiet")) == bool(said):
             tally.fail(f"options.tsv: {line!r} is no call and its answer")
             continue
         status, output, errors = called(site, folder, shlex.split(call))
-        if kind == "done":
-            tally.same(call, (status, bool(output), errors), (0, True, ""))
+        if kind in ("done", "quiet"):
+            tally.same(call, (status, bool(output), errors), (0, kind == "done", ""))
         else:
             tally.same(f"{call}: {errors!r}", (status == 0, bool(output), said in errors), (*2 * (kind == "said",), True))
 

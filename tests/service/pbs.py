@@ -203,6 +203,7 @@ def pbs_others(tally, federation):
     tally.same("qalter writes nothing", site.utility("qalter", "-p", "-1", held, **plain), (0, "", ""))
     tally.same("nor does qhold", site.utility("qhold", held, **plain), (0, "", ""))
     tally.same("nor qrls", site.utility("qrls", held, "-h", "u", **plain), (0, "", ""))
+    held = site.utility("qsub", "-h", given="true\n", **plain)[1].strip()
     status, output, errors = site.utility("qdel", "900", held, "901", **plain)
     tally.same("nor qdel, which says of each job why it isn't done", (status, output, "900.argonne" in errors, "number 3 of 3 jobs: refused 1" in errors, "number 2" in errors), (1, "", True, True, False))
     version = "pbs_version = 19.0.0 (Nettlebeam 1.0.0)\n"

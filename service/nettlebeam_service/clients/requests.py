@@ -27,6 +27,8 @@ from .node_requests import OF_NODES, NodeRequests
 from .signals import TO_RUNNING, Signals
 from .user_limits import Exceeded, UserLimits
 
+OF_SERVICE = ("site", "queues", "members", "details", "usage")
+
 
 class Requests:
     """Answers requests. `changed` is called where an answer may tell of a change."""
@@ -140,16 +142,8 @@ class Requests:
             return await self.compact(client, request)
         if verb == "qsub" and request.size is not None:
             return await self.submit(client, request)
-        if verb == "site":
-            return Reply(0, f"{self.waits.here}\n".encode("ascii"))
-        if verb == "queues":
-            return Reply(0, self.destinations.told())
-        if verb == "members":
-            return Reply(0, json.dumps(self.waits.arrays.called()).encode("ascii") + b"\n")
-        if verb == "details":
-            return Reply(0, await self.waits.details.answer(client, request.words, request.role))
-        if verb == "usage":
-            return Reply(0, await self.waits.usage.answer(client, request.words, request.role))
+        if verb in OF_SERVICE:
+            return Reply(0, await self.told(client, request))
         if verb == "alter":
             return await self.waits.altering.answer(client, request)
         line = line_of(self.site.known, client, request.words, request.role)
@@ -169,6 +163,19 @@ class Requests:
             with contextlib.suppress(Stopped):  # the answer is there, and the next child is asked for the roster anyhow
                 await self.site.learn_roster()
         return self.changed_by(answer)
+
+    async def told(self, client: Client, request: Request) -> bytes:
+        """What the service tells by itself."""
+        verb = request.words[0]
+        if verb == "queues":
+            return self.destinations.told()
+        if verb == "members":
+            return json.dumps(self.waits.arrays.called()).encode("ascii") + b"\n"
+        if verb == "details":
+            return await self.waits.details.answer(client, request.words, request.role)
+        if verb == "usage":
+            return await self.waits.usage.answer(client, request.words, request.role)
+        return f"{self.waits.here}\n".encode("ascii")
 
     async def why(self, job: str, line: str) -> Answer:
         """The site's answer to why a job waits, with what the service knows of that."""

@@ -77,10 +77,13 @@ def change(path: str, utility: str, words: Words, role: Optional[str]) -> Told:
 def run(utility: str, words: List[str], path: Optional[str]) -> Told:
     """Asks for what the user typed."""
     role = os.environ.get("NETTLEBEAM_ROLE") or None
-    if words in (["--version"], ["--help"]):
+    option = words[0] if len(words) == 1 else ""
+    if utility == "sbatch":
+        option = {"-h": "--help", "--usage": "--help", "-V": "--version"}.get(option, option)
+    if option in ("--version", "--help"):
         from .help_texts import usage_of, version_of
 
-        text = usage_of(utility) if words == ["--help"] else version_of(utility in OF_SLURM)
+        text = usage_of(utility) if option == "--help" else version_of(utility in OF_SLURM)
         return Told(0, text.encode(), "")
     if utility in MORE:
         from .more_utilities import run as run_more
