@@ -6,7 +6,7 @@ import time
 from ..common.ask import Told, ask
 from ..words.options import Fault
 from .full_listing import file_of
-from .layouts import comment_of, elapsed, long_clock, name_of, queue_of
+from .layouts import comment_of, elapsed, long_clock, name_of, plain, queue_of
 from .listing import View, here_of, jobs_for
 from .pbsnodes import nodes_in
 from .slurm import NOT_KNOWN, identifiers
@@ -64,11 +64,11 @@ def fields_of(job: Job) -> Dict[str, str]:
     }
     return {
         **{"jobid": shown_of(job), "jobidraw": shown_of(job), "jobname": name_of(job), "partition": queue_of(job)},
-        **{"account": str(more.get("account") or job["account"]), "user": job["owner"], "state": state_of(job)},
+        **{"account": plain(str(more.get("account") or job["account"])), "user": job["owner"], "state": state_of(job)},
         **{"exitcode": f"{status if status < 128 else 0}:{status - 128 if status > 128 else 0}"},
         **{"alloccpus": str(job["nodes"]), "allocnodes": str(job["nodes"]), "nnodes": str(job["nodes"]), "ncpus": str(job["nodes"])},
         **{"nodelist": ",".join(more.get("hosts", [])) or "None assigned", "cluster": begun["site"] if begun else ""},
-        **{"workdir": str(more.get("folder", "")), "priority": str(job["priority"])},
+        **{"workdir": plain(str(more.get("folder", ""))), "priority": str(job["priority"])},
         **{"totalcpu": clock_of(int(used.get("cput", 0))), "maxrss": f"{used['mem']}K" if used else ""},
         **spans,
         **moments,
@@ -146,8 +146,8 @@ def shown_job(job: Job) -> str:
         f"Partition={fields['partition']} NodeList={','.join(more.get('hosts', [])) or '(null)'}",
         f"NumNodes={job['nodes']} Clusters={','.join(job['sites'])}",
         f"WorkDir={fields['workdir']}",
-        f"StdErr={file_of(job, 'err', 'e')}",
-        f"StdOut={file_of(job, 'out', 'o')}",
+        f"StdErr={plain(file_of(job, 'err', 'e'))}",
+        f"StdOut={plain(file_of(job, 'out', 'o'))}",
     ]
     comment = comment_of(job)
     return "\n   ".join([*lines, *([f"Comment={comment}"] if comment else [])]) + "\n\n"

@@ -6,7 +6,7 @@ import time
 
 from ..common.ask import Told, ask
 from ..words.options import Fault
-from .layouts import elapsed, name_of, queue_of
+from .layouts import elapsed, name_of, plain, queue_of
 from .listing import UNKNOWN_STATUS, View, here_of, jobs_for, named, planned, with_arrays
 from .pbsnodes import nodes_in
 from .slurm import NOT_KNOWN, identifiers
@@ -66,7 +66,7 @@ def fields_of(job: Job, plan: Dict[str, int]) -> Dict[str, str]:
         **{"i": shown, "A": shown, "F": str(more.get("array_id", job["id"])).replace("[]", ""), "K": str(more.get("index", "N/A"))},
         **{"P": queue_of(job), "j": name_of(job), "u": job["owner"], "t": COMPACT[state], "T": state, "M": clock(elapsed(job))},
         **{"l": clock(job["limit"]), "D": str(job["nodes"]), "N": hosts, "r": why, "R": hosts or f"({why})"},
-        **{"a": str(more.get("account") or job["account"] or "(null)"), "Q": str(job["priority"]), "S": start, "Z": str(more.get("folder", ""))},
+        **{"a": plain(str(more.get("account") or job["account"] or "(null)")), "Q": str(job["priority"]), "S": start, "Z": plain(str(more.get("folder", "")))},
     }
 
 

@@ -6,7 +6,7 @@ import time
 from ..common.ask import Told
 from ..words.options import Fault, parse_anywhere
 from .full_listing import used_of
-from .layouts import comment_of, hosts_text, name_of, queue_of
+from .layouts import comment_of, hosts_text, name_of, plain, queue_of
 from .listing import UNKNOWN_STATUS, View, full_name, here_of, jobs_for
 
 TYPE_CHECKING = False
@@ -28,7 +28,7 @@ def events_of(job: Job) -> List[Tuple[int, str]]:
     """What has happened to a job, with its moments; 0 where none is known."""
     more, begun, ended = job["more"], job["begun"], job["finished"]
     last = ended["moment"] if ended else 0
-    where = f", from {more['host']}" if more.get("host") else ""
+    where = f", from {plain(str(more['host']))}" if more.get("host") else ""
     asked = f"Job Queued at request of {job['owner']}{where}, job name = {name_of(job)}, queue = {queue_of(job)}"
     found = [(int(more.get("ctime", 0) or 0), asked)]
     if job["grant"] and not begun:
