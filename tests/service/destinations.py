@@ -131,6 +131,8 @@ def listed_queues(tally, site, folder):
     tally.same("sinfo -p", len(lines("-h", "-p", "short", utility="sinfo")), 1)
     altered = site.utility("qalter", "-l", "nodes=3", job)
     tally.same("qalter keeps the limits", (altered[0], "at most 2 nodes" in altered[2], site.jobs(job)[job]["nodes"]), (1, True, 1))
+    site.ask("alter", job, facts={"queue": "mine"})
+    tally.same("and nobody takes a job out of its queue", site.utility("qalter", "-l", "nodes=3", job)[0], 1)
     tally.same("within them", site.utility("qalter", "-l", "nodes=2", job)[0], 0)
     site.ask("qdel", other)
     shown = qsub(site, folder, "-q", "short@argonne", "-o", "queue.txt", script="echo $PBS_QUEUE\n")

@@ -174,6 +174,7 @@ def pbs_others(tally, federation):
     tally.same("an account of another form", (told["account"], account in errors, errors.count("\n")), ("", True, 1))
     shown = lambda: re.findall(r"    Account_Name = (.*)\n", site.utility("qstat", "-f", "-x", told["id"])[1])  # noqa: E731
     tally.same("qstat -f shows it", shown(), [account])
+    tally.same("qselect finds it", site.utility("qselect", "-A", account), (0, f"{told['id']}\n", ""))
     tally.same("qalter -A", (site.utility("qalter", "-A", "7up", told["id"])[0], shown()), (0, ["7up"]))
     tally.same("and with one of the site's form", (site.utility("qalter", "-A", "math", told["id"]), shown()), ((0, "done\n", ""), ["math"]))
     tally.same("one that is longer is refused", site.utility("qsub", "-A", "x" * 64, given="true\n", cwd=folder)[0], 1)

@@ -311,7 +311,8 @@ def arrays_refused(tally, federation):
     said = "qsub: usage 4 (BadValue): 5000 is no priority from -1024 to 1023\nqsub: the options are -J 1-5 -p 5000\n"
     tally.same("a wrong word", told, (1, "", said))
     tally.same("leaves nothing", site.jobs(), {})
-    for _ in range(19):
+    qsub(site, folder, "-J", "1-1500")
+    for _ in range(16):
         qsub(site, folder, "-J", "1-500")
     qsub(site, folder, "-J", "1-450")
     tally.same("nearly full", site.said("qstat").count("\n"), 9950)
@@ -322,7 +323,7 @@ def arrays_refused(tally, federation):
     status, output, errors = site.utility("qsub", "-J", "1-1001", given="true\n", cwd=folder)
     tally.same("a large one isn't begun", (status, output, "has room for 0 jobs" in errors), (1, "", True))
     tally.same("and no file", len(os.listdir(f"{site.home}/spool/scripts")) - living, 50)
-    tally.same("others can be listed", site.utility("qstat", "-a")[1].count("[]."), 20)
+    tally.same("others can be listed", site.utility("qstat", "-a")[1].count("[]."), 18)
 
 
 

@@ -45,6 +45,8 @@ class Destinations:
         verb = request.words[0]
         if verb not in ("qsub", "qalter"):
             return ""
+        if not self.site.roster:
+            await self.site.learn_roster()  # the site has just been started
         options, operands = parse(verb, request.words[1:])
         lists = [argument for letter, argument in options if letter == "l"]
         are_whole = all(letter in OF_SITE and (argument is not None or letter == "h") for letter, argument in options)

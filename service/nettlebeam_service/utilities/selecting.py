@@ -105,13 +105,15 @@ def qselect(words: List[str], path: str) -> Told:
     if operands:
         raise Fault("it has no operands")
     wanted = [holds for letter, text in options.items() for holds in named_condition(letter, text)]
-    has_more = "q" in options or "W" in options.get("s", "")
+    has_more = "q" in options or "A" in options or "W" in options.get("s", "")
     told = ask(path, ["details", "now"] if has_more else ["jobs"])
     if told.status:
         return told
     jobs = [job for job in told.json_lines() if job["letter"]]
     for job in jobs if has_more else ():
-        job["queue"], job["state"] = job["more"].get("queue") or QUEUE, state_of(job)
+        more = job["more"]
+        job["queue"], job["state"] = more.get("queue") or QUEUE, state_of(job)
+        job["account"] = more.get("account") or job["account"]
     names = [job["id"] for job in jobs if all(holds(job) for holds in wanted)]
     shown = ask(path, ["members"]).json_lines()[0] if names else {}
     names = [shown.get(name, name) for name in names]  # since the number of an array's first member means all of it
