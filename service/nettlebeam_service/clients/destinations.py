@@ -54,7 +54,10 @@ class Destinations:
             return ""  # the site says what is wrong with the words
         pairs = dict(pair.partition("=")[::2] for pair in (lists[-1] or "").split(",")) if lists else {}
         asked = dict(pairs)
-        said = await self.submission(client, request, pairs) if verb == "qsub" else self.alteration(operands, pairs)
+        if verb == "qsub":
+            said = await self.submission(client, request, pairs)
+        else:
+            said = await asyncio.to_thread(self.alteration, operands, pairs)
         if pairs != asked:
             text = ",".join(f"{name}={value}" for name, value in pairs.items())
             kept = as_words([option for option in options if option[0] != "l"])
@@ -78,7 +81,7 @@ class Destinations:
         return "" if sites == [self.config.name] else f"it may run at {', '.join(sites)}"
 
     def alteration(self, operands: Sequence[str], pairs: Dict[str, str]) -> str:
-        """Looks at the queues of the jobs that are altered."""
+        """Looks at the queues of the jobs that are altered, of which there may be many."""
         sites = self.sites_in(pairs["sites"]) if "sites" in pairs else []
         queues = {queue.name: queue for queue in self.config.queues}
         for word in operands if queues else ():
