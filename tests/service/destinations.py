@@ -100,6 +100,11 @@ def queues(tally, federation):
         os.chmod(folder, 0o755)
         tally.same("one of its users", other(OPERATOR)[0], 0)
         tally.same("and another", (other(OTHER)[0], "the queue mine is for games" in other(OTHER)[3]), (1, True))
+    wrong = f"{federation.folder}/wrong.conf"
+    with open(site.config, encoding="ascii") as file, open(wrong, "w", encoding="ascii") as copy:
+        copy.write(file.read().replace("far = lemont", "far = nowhere"))
+    status, output, errors = site.utility("nettlebeamd", "--check", wrong)
+    tally.same("an unknown site is found by --check", (status == 0, "[queues] far: nowhere is no site of the roster" in output + errors), (False, True))
     listed_queues(tally, site, folder)
 
 

@@ -104,6 +104,11 @@ def pbs_files(tally, federation):
     tally.same("-w and -F", text_of(folder, f"there/STDIN.o{job.split('.')[0]}"), f"{there}2 a b\n")
     job, _ = submitted(tally, site, folder, place, "-d", "there", "-o", "d.out")
     tally.same("-d with -o", text_of(folder, "d.out"), f"{there}0\n")
+    job, _ = submitted(tally, site, folder, place, "-d", "there", "-k", "o", "-N", "kept")
+    path = os.path.expanduser(f"~/kept.o{job.split('.')[0]}")
+    tally.same("-d with -k", text_of(os.path.dirname(path), os.path.basename(path)), f"{there}0\n")
+    if os.path.exists(path):
+        os.remove(path)
     again = site.utility("qsub", "-N", "sent", "-o", "m.out", "-j", "oe", given="echo one; sleep 2\n", cwd=folder)[1].strip()
     until(lambda: text_of(folder, "m.out"), 20, "it writes")
     tally.same("qmsg to both", site.utility("qmsg", "-EO", "hello", again)[0], 0)

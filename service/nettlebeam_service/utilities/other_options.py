@@ -41,8 +41,7 @@ def folder(letter: str) -> Option:
         if not text or "\n" in text or not os.path.isdir(path):
             raise Fault(f"-{letter} {text}: there is no such folder here")
         if letter == "d" and path != submission.facts.get("folder"):
-            for key in ("out", "err"):
-                submission.facts.setdefault(key, os.path.join(os.getcwd(), ""))
+            submission.output_folder = os.path.join(os.getcwd(), "")
         submission.facts["folder"] = path
 
     return take

@@ -191,6 +191,9 @@ def apply_more(submission: Submission, options: List[Tuple[str, Optional[str]]])
                 BY_LETTER[letter](submission, argument or "")
             except Fault as fault:
                 raise naming(submission.option(letter), argument or "", fault) from None
+    for key in ("out", "err") if submission.output_folder else ():
+        if key[0] not in submission.facts.get("keep", ""):
+            submission.facts.setdefault(key, submission.output_folder)
     size = sum(len(os.fsencode(name)) + len(os.fsencode(value)) + 2 for name, value in submission.variables.items())
     if size > MOST_VARIABLES:
         raise Fault(f"the variables have {size} bytes, and at most {MOST_VARIABLES} are taken")

@@ -32,6 +32,7 @@ class Submission:
         self.said: List[str] = []
         self.resources = Resources()
         self.variables: Dict[str, str] = {}
+        self.output_folder = ""  # of files for which no option names another place
         self.is_blocking = False
         self.is_silent = False
         self.utility = "qsub"
