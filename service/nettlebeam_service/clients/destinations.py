@@ -27,7 +27,7 @@ class Unplaced(Exception):
 
 
 def number(pairs: Dict[str, str], name: str, usual: int) -> int:
-    """A number of a list of resources; where it is none the site says so."""
+    """A number of a list of resources; if it is none the site says so."""
     text = pairs.get(name, "")
     return int(text) if text.isascii() and text.isdigit() and len(text) <= 9 else usual
 
@@ -111,7 +111,7 @@ class Destinations:
         return list(dict.fromkeys(found))
 
     def queue_of(self, text: str) -> Tuple[Optional[Queue], str]:
-        """The queue that is meant, if there are some by name, and the site that stands behind it."""
+        """The queue that is meant, if there are some by name, and the site that is named with it."""
         name, at, where = text.partition("@")
         queues = self.config.queues
         if queues:
@@ -127,7 +127,7 @@ class Destinations:
         return None, chosen
 
     def check_user(self, client: Client, request: Request, queue: Queue) -> None:
-        """Unplaced where the user may not use a queue. Who asks in a role may, and so may the site's own account."""
+        """Unplaced if the user may not use a queue. Who asks in a role may, and so may the site's own account."""
         user = client.user or ""
         if not (queue.users or queue.groups) or user in queue.users or client.is_site or (request.role and request.role in client.roles):
             return
@@ -139,7 +139,7 @@ class Destinations:
             raise Unplaced(f"the queue {queue.name} is for {', '.join([*queue.users, *(f'the group {it}' for it in queue.groups)])}")
 
     def check_limits(self, queue: Queue, pairs: Dict[str, str]) -> None:
-        """Unplaced where more is asked for than a queue permits."""
+        """Unplaced if more is asked for than a queue permits."""
         nodes, seconds = number(pairs, "nodes", 1), number(pairs, "walltime", 1)
         if queue.most_nodes and nodes > queue.most_nodes:
             raise Unplaced(f"the queue {queue.name} has jobs of at most {queue.most_nodes} nodes, and not of {nodes}")
@@ -147,13 +147,13 @@ class Destinations:
             raise Unplaced(f"the queue {queue.name} has jobs of at most {queue.most_seconds} seconds, and not of {seconds}")
 
     def check_sites(self, queue: Optional[Queue], sites: Sequence[str]) -> None:
-        """Unplaced where a queue hasn't one of these sites."""
+        """Unplaced if a queue hasn't one of these sites."""
         others = [name for name in sites if name not in self.sites_in(queue.sites)] if queue else []
         if queue and others:
             raise Unplaced(f"the queue {queue.name} is at {', '.join(self.sites_in(queue.sites))}, and not at {others[0]}")
 
     def check_room(self, sites: Sequence[str], nodes: int) -> None:
-        """Unplaced where none of these sites has nodes enough, by the roster that is known here."""
+        """Unplaced if none of these sites has nodes enough, by the roster that is known here."""
         known = {name: self.site.roster[name] for name in sites if name in self.site.roster}
         if known and len(known) == len(sites) and nodes > max(known.values()):
             told = ", ".join(f"{name} {count}" for name, count in known.items())

@@ -165,7 +165,7 @@ class Requests:
         return self.changed_by(answer)
 
     async def told(self, client: Client, request: Request) -> bytes:
-        """What the service tells by itself."""
+        """What the service answers by itself."""
         verb = request.words[0]
         if verb == "queues":
             return self.destinations.told()

@@ -131,7 +131,7 @@ def script_words(facts: Dict[str, Any]) -> str:
     try:
         return " ".join(map(shlex.quote, shlex.split(str(facts.get("script_words", "")))))
     except ValueError:
-        return ""  # no client tells such
+        return ""  # no utility submits such words
 
 
 def without_execution(script: bytes) -> str:

@@ -1,4 +1,4 @@
-"""The queues of a site, as the service tells them, and `qstat -Q`, `-q` and `-B`: the queues, and the server, which is the site."""
+"""The queues of a site, as the service lists them, and `qstat -Q`, `-q` and `-B`: the queues, and the server, which is the site."""
 from __future__ import annotations
 
 from ..common.ask import Told, ask

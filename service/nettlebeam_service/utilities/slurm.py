@@ -129,7 +129,7 @@ def pbs_options(path: str, given: Given, name: str, role: Optional[str]) -> Opti
 
 
 def moment(text: str) -> str:
-    """A moment as qsub has it: `now+1hour`, `16:00`, `2030-01-20`, `2030-01-20T12:34:00`. Fault where it is another."""
+    """A moment as qsub has it: `now+1hour`, `16:00`, `2030-01-20`, `2030-01-20T12:34:00`. Fault if it is another."""
     front, plus, span = text.partition("+")
     count = span.rstrip("abcdefghijklmnopqrstuvwxyz")
     unit = next((size for name, size in UNITS.items() if span[len(count) :] and f"{name}s".startswith(span[len(count) :])), 0)

@@ -47,7 +47,7 @@ def state_of(job: Job) -> str:
 
 
 def shown_of(job: Job) -> str:
-    """How Slurm calls a job: a member of an array behind an underscore."""
+    """How Slurm calls a job: a member of an array by its index after an underscore."""
     return str(job["shown"]).replace("[", "_").replace("]", "")
 
 

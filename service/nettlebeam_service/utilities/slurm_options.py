@@ -116,7 +116,7 @@ def read_options(utility: str, words: List[str]) -> Tuple[Given, List[str]]:
 
 
 def check(given: Given) -> None:
-    """Fault where an option of sbatch is given that is refused."""
+    """Fault if an option of sbatch is given that is refused."""
     for name, value in given.items():
         if name in REFUSED:
             raise Fault(f"--{name}{value and '='}{value}: {REFUSED[name]}")

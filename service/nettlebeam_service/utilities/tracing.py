@@ -25,7 +25,7 @@ def line(moment: int, text: str) -> str:
 
 
 def events_of(job: Job) -> List[Tuple[int, str]]:
-    """What has happened to a job, with its moments; 0 where none is known."""
+    """What has happened to a job, with its moments; 0 if none is known."""
     more, begun, ended = job["more"], job["begun"], job["finished"]
     last = ended["moment"] if ended else 0
     where = f", from {plain(str(more['host']))}" if more.get("host") else ""

@@ -23,7 +23,7 @@ TAKING = (*OF_NUMBERS, "jobs", "script", "why")
 def first_operand(words: Sequence[str]) -> int:
     """The place of the first word that names a job."""
     if words[0] in ("qsig", "details"):
-        return 2  # behind a signal, or what is to be told
+        return 2  # after a signal, or what is to be listed
     return len(words) - len(parse(words[0], list(words[1:]))[1])
 
 

@@ -27,7 +27,7 @@ def read_depends(text: str) -> List[Tuple[str, str]]:
         if plain not in TYPES:
             raise Fault(f"depend={part}: {kind or 'nothing'} is none of {', '.join(TYPES)}")
         if any("+" in job for job in jobs):
-            raise Fault(f"depend={part}: minutes behind a + can't be had here; there is -a, or --begin, with a moment")
+            raise Fault(f"depend={part}: minutes after a + can't be had here; there is -a, or --begin, with a moment")
         # PBS names a server behind a @
         names = [job.partition("@")[0] for job in jobs]
         if not names or not all(names):

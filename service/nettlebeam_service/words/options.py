@@ -74,7 +74,7 @@ def parse_front(utility: str, words: List[str]) -> Tuple[Options, List[str], boo
 
 
 def unknown_option(words: List[str]) -> str:
-    """The first option of a qsub that is none, as it was typed; nothing where all are known."""
+    """The first option of a qsub that is none, as it was typed; nothing if all are known."""
     place = 0
     while place < len(words) and words[place].startswith("-") and words[place] not in ("-", "--"):
         word, place = words[place], place + 1
