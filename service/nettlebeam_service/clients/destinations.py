@@ -129,7 +129,8 @@ class Destinations:
     def check_user(self, client: Client, request: Request, queue: Queue) -> None:
         """Unplaced if the user may not use a queue. Who asks in a role may, and so may the site's own account."""
         user = client.user or ""
-        if not (queue.users or queue.groups) or user in queue.users or client.is_site or (request.role and request.role in client.roles):
+        is_trusted = client.is_site or (request.role is not None and request.role in client.roles)
+        if not (queue.users or queue.groups) or user in queue.users or is_trusted:
             return
         try:
             entry = pwd.getpwnam(user)

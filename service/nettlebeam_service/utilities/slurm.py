@@ -178,7 +178,8 @@ def same_jobs(path: str, name: str) -> List[str]:
     from .slurm_listings import user_name
 
     user = user_name()
-    jobs = [job["id"] for job in ask(path, ["jobs"]).json_lines() if job["letter"] and (job["owner"], job["name"]) == (user, name[:15])]
+    living = [job for job in ask(path, ["jobs"]).json_lines() if job["letter"]]
+    jobs = [job["id"] for job in living if (job["owner"], job["name"]) == (user, name[:15])]
     return [":".join(["afterany", *jobs])] if jobs else []
 
 

@@ -42,7 +42,11 @@ def table(form: str, jobs: List[Job], plan: Dict[str, int], has_head: bool) -> L
         columns.append((LETTERS[name.lower()], int(size or USUAL_WIDTH), width.startswith(".")))
     rows = [HEADS] if has_head else []
     rows += [fields_of(job, plan) for job in jobs]
-    return ["".join(f"{row[letter][:size]:{'>' if is_right else '<'}{size}}" for letter, size, is_right in columns).rstrip() + "\n" for row in rows]
+    lines = []
+    for row in rows:
+        texts = [(row[letter][:size], size, is_right) for letter, size, is_right in columns]
+        lines.append("".join(text.rjust(size) if is_right else text.ljust(size) for text, size, is_right in texts).rstrip() + "\n")
+    return lines
 
 
 def objects(jobs: List[Job], plan: Dict[str, int]) -> str:

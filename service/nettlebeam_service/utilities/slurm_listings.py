@@ -66,7 +66,8 @@ def fields_of(job: Job, plan: Dict[str, int]) -> Dict[str, str]:
         **{"i": shown, "A": shown, "F": str(more.get("array_id", job["id"])).replace("[]", ""), "K": str(more.get("index", "N/A"))},
         **{"P": queue_of(job), "j": name_of(job), "u": job["owner"], "t": COMPACT[state], "T": state, "M": clock(elapsed(job))},
         **{"l": clock(job["limit"]), "D": str(job["nodes"]), "N": hosts, "r": why, "R": hosts or f"({why})"},
-        **{"a": plain(str(more.get("account") or job["account"] or "(null)")), "Q": str(job["priority"]), "S": start, "Z": plain(str(more.get("folder", "")))},
+        **{"a": plain(str(more.get("account") or job["account"] or "(null)")), "Q": str(job["priority"]), "S": start},
+        "Z": plain(str(more.get("folder", ""))),
     }
 
 
@@ -131,8 +132,8 @@ def squeue(given: Given, operands: List[str], path: str, role: Optional[str]) ->
     form = given.get("format", START_FORMAT if "start" in given else FORMAT)
     if "start" in given:
         jobs = [job for job in jobs if not job["begun"]]
-    has_plan = any(job["letter"] == "Q" for job in jobs) and ("r" in form.lower() or "S" in form or "Format" in given or "json" in given)
-    plan = planned(path) if has_plan else {}
+    is_asked = "r" in form.lower() or "S" in form or "Format" in given or "json" in given
+    plan = planned(path) if is_asked and any(job["letter"] == "Q" for job in jobs) else {}
     if "json" in given or "Format" in given:
         from .slurm_forms import objects, table
 

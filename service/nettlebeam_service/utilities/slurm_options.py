@@ -17,7 +17,10 @@ SHORT: Dict[str, Dict[str, str]] = {
         **{"G": "gpus", "i": "input", "k": "no-kill", "L": "licenses", "O": "overcommit", "s": "oversubscribe"},
         **{"S": "core-spec", "v": "verbose", "w": "nodelist", "x": "exclude"},
     },
-    "squeue": {"h": "noheader", "o": "format", "j": "jobs", "u": "user", "t": "states", "n": "name", "r": "array", "p": "partition", "O": "Format"},
+    "squeue": {
+        **{"h": "noheader", "o": "format", "O": "Format", "j": "jobs", "u": "user", "t": "states", "n": "name", "r": "array"},
+        "p": "partition",
+    },
     "scancel": {"u": "user", "n": "name", "t": "state", "s": "signal", "Q": "quiet"},
     "sinfo": {"h": "noheader", "N": "Node", "p": "partition"},
     "sacct": {

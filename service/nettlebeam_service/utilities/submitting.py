@@ -107,7 +107,8 @@ def name_job(submission: Submission, name: str) -> None:
 def is_account(text: str) -> bool:
     """Whether a text is an account as centres have them, though the site takes none of its form."""
     is_of_site = is_name(text) and len(text) <= LONGEST_NAME
-    return text.isascii() and 0 < len(text) <= LONGEST_ACCOUNT and not is_of_site and all(it.isalnum() or it in "_.:/+@-" for it in text)
+    has_form = text.isascii() and all(it.isalnum() or it in "_.:/+@-" for it in text)
+    return has_form and 0 < len(text) <= LONGEST_ACCOUNT and not is_of_site
 
 
 def set_account(submission: Submission, text: str) -> None:
