@@ -18,6 +18,7 @@ spool = {folder}/spool
 socket = {folder}/site.sock
 [clients]
 most_of_user = 900
+sites = any
 [jobs]
 run = {run}
 hosts = {hosts}

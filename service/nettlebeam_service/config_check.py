@@ -91,6 +91,13 @@ def pairing_faults(config: Config) -> List[str]:
     return []
 
 
+def destination_faults(config: Config, roster: Dict[str, int]) -> List[str]:
+    """Sites of [clients] and [queues] that the roster hasn't."""
+    named = [("[clients] sites", config.clients.sites), *((f"[queues] {queue.name}", queue.sites) for queue in config.queues)]
+    pairs = [(key, name) for key, text in named for name in text.split("+") if name not in ("here", "any")]
+    return [f"{key}: {name} is no site of the roster: {' '.join(roster)}" for key, name in pairs if roster and name not in roster]
+
+
 def faults(config: Config, roster: Dict[str, int]) -> List[str]:
     """All that is wrong."""
     site, jobs = config.site, config.jobs
@@ -102,7 +109,7 @@ def faults(config: Config, roster: Dict[str, int]) -> List[str]:
         found.append(f"[site] directory = {site.directory}: this account may not write there")
     if os.path.exists(site.spool) and not os.access(site.spool, os.R_OK | os.W_OK | os.X_OK):
         found.append(f"[site] spool = {site.spool}: this account may not write there")
-    return found + pairing_faults(config) + group_faults(config) + key_faults(config) + peer_faults(config, roster)
+    return found + pairing_faults(config) + group_faults(config) + key_faults(config) + peer_faults(config, roster) + destination_faults(config, roster)
 
 
 def notes(config: Config) -> List[str]:

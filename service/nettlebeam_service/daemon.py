@@ -12,6 +12,7 @@ from dataclasses import replace
 from typing import Any, List, Optional, Sequence
 
 from .clients.clients import Clients, listen
+from .clients.destinations import Destinations
 from .clients.node_requests import NodeRequests
 from .clients.requests import Requests
 from .clients.signals import Signals
@@ -128,7 +129,8 @@ class Service:
         exchange = Exchange(self.site, self.spool, self.backup)
         eligibility = Eligibility(config.name, self.site)
         parts = (self.site, self.spool, exchange, signals, compacting, told, self.waits)
-        self.requests = Requests(*parts, self.unheard, self.user_limits, eligibility, self.changed)
+        self.destinations = Destinations(config, self.site, self.spool)
+        self.requests = Requests(*parts, self.unheard, self.user_limits, eligibility, self.destinations, self.changed)
         self.users = Users(config.site, self.site.known)
         self.clients = Clients(config.clients, self.users, self.requests, os.getuid(), log)
         self.peers = Peers(config.name, config.peers, self.site, exchange, eligibility, log, self.changed)
@@ -164,6 +166,7 @@ class Service:
         self.users.keys, self.users.known = config.site, {}
         self.clients.use(config.clients)
         self.user_limits.keys = config.clients
+        self.destinations.config = config
         self.page.config = replace(self.page.config, jobs=config.jobs)
         self.scheduler.use(config)
         self.waits.use(config)

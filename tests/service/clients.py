@@ -127,7 +127,7 @@ def statuses(tally, federation):
     write(limited, LIMITED.format(program=federation.program).encode())
     os.chmod(limited, 0o755)
     federation.program = limited
-    (site,) = federation.make("argonne:4", "lemont:4", jobs="run = no")[:1]
+    (site,) = federation.make("argonne:4", "lemont:4", jobs="run = no", sites="here")[:1]
     call([limited, "init", alone, "argonne", "argonne:4", "lemont:4"])
     own = ME
     lines = (
@@ -148,6 +148,8 @@ def statuses(tally, federation):
         pass  # a line that is shorter than the one for which no room is left then
     for number in range(200):
         site.ask("qalter", "-p", str(number), "1")
+    for _ in range(50):
+        site.ask("qrls", "1")  # a line that is no longer than that for which no room is to be left
     status, output, errors = call([limited, "at", alone, own, "qdel", "1"])
     tally.same("without room by at", (status, output, "File too large" in errors), (3, "", True))
     told = site.ask("qdel", "1")

@@ -158,7 +158,8 @@ def keys(tally, federation):
     tally.same("with its defaults", settings.read_node_keys(path), settings.NodeKeys())
     for wrong, told in (("[jobs]\nhots = a\n", "hots"), ("[job]\n", "job"), ("[page]\nport = x\n", "port"), ("[jobs]\nrun = 1\n", "drain"),
                         ("[peer lemont]\nfolder = /x\n", "key"), ("[house]\nevery = -1\n", "below 0"),
-                        ("[peer argonne]\ncommand = x\n", "no other site"), ("[peer lemont]\n", "command or folder"), ("[jobs]\nhosts = a b a\n", "twice"), ("[jobs]\nlink = x {host}\n", "hosts"), ("[jobs]\nhosts = a\nlink = x\n", "{host}"), ("[jobs]\ncount = 1\n", "count"), ("x\n", "line")):
+                        ("[peer argonne]\ncommand = x\n", "no other site"), ("[peer lemont]\n", "command or folder"), ("[jobs]\nhosts = a b a\n", "twice"), ("[jobs]\nlink = x {host}\n", "hosts"), ("[jobs]\nhosts = a\nlink = x\n", "{host}"), ("[jobs]\ncount = 1\n", "count"), ("x\n", "line"),
+                        ("[clients]\nsites = a,b\n", "sites: a,b is neither"), ("[queues]\nq = here, a=b\n", "q = here, a=b: a=b is none"), ("[queues]\n5q = here\n", "5q = here: a queue"), ("[queues]\nq = here, walltime=9, walltime<=5\n", "above")):
         try:
             config_of(path, f"[site]\ndirectory = {site.home}/site\n{wrong}")
             tally.fail(f"{wrong!r} is taken")

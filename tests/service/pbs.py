@@ -96,6 +96,19 @@ def pbs_files(tally, federation):
             os.remove(path)
     for words in (("-j", "x"), ("-k", "z"), ("-o", "host:"), ("-j",)):
         tally.same(f"{words} is refused", site.utility("qsub", *words, given="true\n", cwd=folder)[0], 2)
+    os.makedirs(f"{folder}/there")
+    place = "pwd; echo $# $1\n"
+    there = f"{folder}/there\n"
+    tally.same("-d", found(("-d", "there"), "STDIN.o@"), ["out\n"])
+    job, _ = submitted(tally, site, folder, place, "-w", "there", "-F", "'a  b' c")
+    tally.same("-w and -F", text_of(folder, f"there/STDIN.o{job.split('.')[0]}"), f"{there}2 a b\n")
+    job, _ = submitted(tally, site, folder, place, "-d", "there", "-o", "d.out")
+    tally.same("-d with -o", text_of(folder, "d.out"), f"{there}0\n")
+    job, _ = submitted(tally, site, folder, place, "-d", "there", "-k", "o", "-N", "kept")
+    path = os.path.expanduser(f"~/kept.o{job.split('.')[0]}")
+    tally.same("-d with -k", text_of(os.path.dirname(path), os.path.basename(path)), f"{there}0\n")
+    if os.path.exists(path):
+        os.remove(path)
     again = site.utility("qsub", "-N", "sent", "-o", "m.out", "-j", "oe", given="echo one; sleep 2\n", cwd=folder)[1].strip()
     until(lambda: text_of(folder, "m.out"), 20, "it writes")
     tally.same("qmsg to both", site.utility("qmsg", "-EO", "hello", again)[0], 0)
@@ -150,16 +163,26 @@ def pbs_others(tally, federation):
     def job_of(*words, given="true\n"):
         status, output, errors = site.utility("qsub", *words, given=given, cwd=folder)
         tally.same(f"qsub {words}", (status, bool(NUMBER.match(output))), (0, True))
-        return site.jobs(output.strip())[output.strip()], errors
+        return site.jobs(output.strip())[output.strip()], errors.replace("qsub: it may run at argonne, lemont\n", "")
 
     tally.same("-q batch", job_of("-q", "batch")[0]["sites"], ["argonne", "lemont"])
     for words in (("-q", "lemont"), ("-q", "@lemont"), ("-q", "batch@lemont"), ("-l", "sites=argonne", "-q", "lemont")):
         tally.same(f"{words}", job_of("-h", *words)[0]["sites"], ["lemont"])
     none = site.utility("qsub", "-q", "workq", "-l", "nodes=2", given="true\n", cwd=folder)
-    tally.same("-q of no site", none, (1, "", "qsub: -q workq: there is no queue and no site of this name\n"))
+    said = "qsub: -q workq: there is no queue and no site of this name; there are batch, argonne, lemont\n"
+    tally.same("-q of no site", none, (1, "", said))
     tally.same("the last -q counts", job_of("-q", "lemont", "-q", "batch")[0]["sites"], ["argonne", "lemont"])
     for words in (("-A", "chem"), ("-P", "chem")):
         tally.same(f"{words}", job_of(*words)[0]["account"], "chem")
+    account = "2026-chem:grants/a-name-of-up-to-sixty-three-characters"
+    told, errors = job_of("-h", "-A", account)
+    tally.same("an account of another form", (told["account"], account in errors, errors.count("\n")), ("", True, 1))
+    shown = lambda: re.findall(r"    Account_Name = (.*)\n", site.utility("qstat", "-f", "-x", told["id"])[1])  # noqa: E731
+    tally.same("qstat -f shows it", shown(), [account])
+    tally.same("qselect finds it", site.utility("qselect", "-A", account), (0, f"{told['id']}\n", ""))
+    tally.same("qalter -A", (site.utility("qalter", "-A", "7up", told["id"])[0], shown()), (0, ["7up"]))
+    tally.same("and with one of the site's form", (site.utility("qalter", "-A", "math", told["id"]), shown()), ((0, "done\n", ""), ["math"]))
+    tally.same("one that is longer is refused", site.utility("qsub", "-A", "x" * 64, given="true\n", cwd=folder)[0], 1)
     for words, said in (
         (("-r", "n"), ""),
         (("-r", "y"), "no job begins twice"),
@@ -175,9 +198,21 @@ def pbs_others(tally, federation):
         errors = job_of(*words)[1]
         tally.same(f"{words} says", (bool(errors), said in errors), (bool(said), True))
     tally.same("-z", site.utility("qsub", "-z", given="true\n", cwd=folder)[:2], (0, ""))
-    for words in (("-I",), ("-X",), ("-m", "q"), ("-r", "x"), ("-a", "9"), ("-W", "depend=on:3"), ("-W", "x"), ("-J", "5-1"), ("-J", "1-2000")):
+    for words in (("-I",), ("-X",), ("-m", "q"), ("-r", "x"), ("-a", "9"), ("-W", "depend=on:3"), ("-W", "x"), ("-J", "5-1"), ("-J", "1-20000")):
         tally.same(f"{words} is refused", site.utility("qsub", *words, given="true\n", cwd=folder)[:2], (2, ""))
     tally.same("an unknown one is the site's", site.utility("qsub", "-Y", given="true\n", cwd=folder)[:2], (1, "usage 2\n"))
+    plain = {"environment": {"NETTLEBEAM_ANSWERS": ""}, "cwd": folder}
+    unknown = (1, "", "qsub: usage 2 (UnknownOption): qsub has no option -Y\n")
+    tally.same("its argument isn't read as a script", site.utility("qsub", "-Y", "there", **plain), unknown)
+    tally.same("what the site refuses is on standard error alone", site.utility("qsub", "-p", "x", given="true\n", **plain)[:2], (1, ""))
+    held = site.utility("qsub", "-h", given="true\n", **plain)[1].strip()
+    tally.same("qalter writes nothing", site.utility("qalter", "-p", "-1", held, **plain), (0, "", ""))
+    tally.same("nor does qhold", site.utility("qhold", held, **plain), (0, "", ""))
+    tally.same("nor qrls", site.utility("qrls", held, "-h", "u", **plain), (0, "", ""))
+    held = site.utility("qsub", "-h", given="true\n", **plain)[1].strip()
+    status, output, errors = site.utility("qdel", "900", held, "901", **plain)
+    tally.same("nor qdel, which says of each job why it isn't done", (status, output, "900.argonne" in errors, "number 3 of 3 jobs: refused 1" in errors, "number 2" in errors), (1, "", True, True, False))
+    version = "pbs_version = 19.0.0 (Nettlebeam 1.0.0)\n"
     began = time.monotonic()
     status, output, _ = site.utility("qsub", "-W", "block=true", "-l", "sites=argonne", given="sleep 1; exit 7\n", cwd=folder)
     tally.same("-W block ends with the job's status", (status, bool(NUMBER.match(output))), (7, True))
@@ -186,7 +221,7 @@ def pbs_others(tally, federation):
     tally.same("-- PROGRAM", (status, site.finished(output.strip())), (0, 0))
     tally.same("with its words as they are", text_of(folder, f"STDIN.o{output.split('.')[0]}"), "a  b it's\n")
     for name in ("qsub", "qstat", "qalter", "qdel"):
-        tally.same(f"{name} --version", site.utility(name, "--version")[0], 0)
+        tally.same(f"{name} --version", site.utility(name, "--version"), (0, version, ""))
         tally.true(f"{name} --help", site.utility(name, "--help")[1].startswith(f"usage: {name} "))
 
 

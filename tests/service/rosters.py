@@ -25,7 +25,9 @@ def joining(tally, federation):
     """A site joins two that run: each is told the longer roster by `qask`, and a machine that grew runs a greater job."""
     federation.has_links = True
     argonne, lemont = federation.make("argonne:2", "lemont:1", jobs="hosts = h1 h2")
-    wide = argonne.submit('cat "$PBS_NODEFILE" > hosts; exit 6\n', "-l", "nodes=3,sites=argonne")
+    wide = argonne.submit('cat "$PBS_NODEFILE" > hosts; exit 6\n', "-h", "-l", "nodes=2,sites=argonne")
+    argonne.ask("qalter", "-l", "nodes=3", wide)
+    argonne.ask("qrls", wide)
     far = argonne.submit("true\n", "-h", "-l", "sites=lemont")
     batavia = federation.add("batavia", *LONGER)
     batavia.wait_ready()

@@ -118,8 +118,9 @@ class ServedSite:
         self.log = f"{federation.folder}/{name}.log"
         self.process = None
 
-    def make(self, program, roster, jobs, more, operators="", admins="", site="[site]"):
-        """Makes the site, and its configuration, where `site` names the folder of the site as `{home}`."""
+    def make(self, program, roster, jobs, more, operators="", admins="", site="[site]", sites="any"):
+        """Makes the site, and its configuration, where `site` names the folder of the site as `{home}`. A job that names no site may
+        run at all, unless `sites` or a section of clients says another."""
         os.makedirs(self.home, exist_ok=True)
         subprocess.run([program, "init", f"{self.home}/site", self.name, *roster], check=True)
         folder = self.federation.folder
@@ -130,6 +131,8 @@ class ServedSite:
         for peer in (entry.split(":")[0] for entry in roster):
             if peer != self.name and (self.federation.has_links or self.federation.folders):
                 text += self.peer_section(peer)
+        if "[clients]" not in text + more:
+            more += f"[clients]\nsites = {sites}\n"
         with open(self.config, "w", encoding="ascii") as file:
             file.write(text + more)
 
@@ -187,10 +190,11 @@ class ServedSite:
         return told.answer.decode().strip()
 
     def utility(self, name, *words, given="", **how):
-        """Calls a program of the service, or a utility as a user does: its status, its output and its words."""
+        """Calls a program of the service, or a utility as a user does: its status, its output, with the site's own answers, and its
+        words."""
         program = f"{SERVICE}/{name}"
         called = [program] if os.path.exists(program) else [f"{SERVICE}/qask", "--as", name]
-        environment = {**os.environ, "NETTLEBEAM_SOCKET": self.socket, **how.pop("environment", {})}
+        environment = {**os.environ, "NETTLEBEAM_SOCKET": self.socket, "NETTLEBEAM_ANSWERS": "1", **how.pop("environment", {})}
         done = subprocess.run(
             [*how.pop("before", []), *called, *words],
             input=given, capture_output=True, text=True, env=environment, check=False, **how,

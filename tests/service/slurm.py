@@ -1,4 +1,5 @@
 """A scene of what those use who come from Slurm: sbatch, squeue, scancel and sinfo."""
+import json
 import re
 import time
 
@@ -61,13 +62,31 @@ def slurm(tally, federation):
     until(lambda: site.jobs(never)[never]["deleted"], 20, "what waits for all its members to end well is deleted")
     tally.same("-W", site.utility("sbatch", "-W", "-p", "argonne", "--wrap", "exit 6", cwd=folder)[0], 6)
     tally.same("--export=NONE", site.finished(parsable(site, folder, "-p", "argonne", "--export=NONE", "--wrap", 'test -z "$MINE"', environment={"MINE": "x"})), 0)
+    with_words(tally, site, folder)
     queued(tally, site, folder)
-    for words in (("-Y",), ("--foo=1",), ("-n", "x"), ("-t", "1:2:3:4"), ("-t", "999999"), ("-a", "5-1"), ("-o", "a-%N"), ("-d", "singleton"), ("--mail-type=X",), ("-d", "afterok:x"), ("tasks.sh", "word")):
-        status, output, errors = site.utility("sbatch", *words, *(() if "tasks.sh" in words else ("--wrap", "true")), cwd=folder)
+    for words in (("-Y",), ("--foo=1",), ("-n", "x"), ("-t", "1:2:3:4"), ("-t", "999999"), ("-a", "5-1"), ("-o", "a-%N"), ("-d", "aftercorr:1"), ("--mail-type=X",), ("-d", "afterok:x")):
+        status, output, errors = site.utility("sbatch", *words, "--wrap", "true", cwd=folder)
         tally.same(f"sbatch {words} is refused, and named", (status, output, words[-1].lstrip("-").partition("=")[0].partition(":")[0] in errors), (2, "", True))
     tally.same("no script beside --wrap", site.utility("sbatch", "--wrap", "true", "tasks.sh", cwd=folder)[:2], (2, ""))
     status, output, errors = site.utility("sbatch", "-p", "debug", "--wrap", "true", cwd=folder)
-    tally.same("no partition", (status, output, errors), (1, "", "sbatch: --partition debug: there is no queue and no site of this name\n"))
+    tally.same("no partition", (status, output, errors), (1, "", "sbatch: --partition debug: there is no queue and no site of this name; there are batch, argonne, lemont\n"))
+
+
+def with_words(tally, site, folder):
+    """A script is called with words, and a singleton waits for the jobs of its name."""
+    with open(f"{folder}/words.sh", "w", encoding="ascii") as file:
+        file.write("#!/bin/sh\n#SBATCH -p argonne -o words.txt\necho $# \"$2\"; sleep 2\n")
+    first = parsable(site, folder, "-J", "single", "words.sh", "-x", "it's  $HOME")
+    second = parsable(site, folder, "-p", "argonne", "-J", "single", "-d", "singleton", "--wrap", "true")
+    other = parsable(site, folder, "-p", "argonne", "-J", "another", "-d", "singleton", "--wrap", "true")
+    tally.same("a singleton waits", site.jobs(second)[second]["holds"], ["s"])
+    tally.same("and one of another name doesn't", site.jobs(other)[other]["holds"], [])
+    tally.same("all end", [site.finished(job) for job in (first, second, other)], [0, 0, 0])
+    tally.same("the script's words", text_of(folder, "words.txt"), "2 it's  $HOME\n")
+    began, ended = site.jobs(second)[second]["begun"]["moment"], site.jobs(first)[first]["finished"]["moment"]
+    tally.true("the singleton began when the first had ended", began >= ended)
+    later = parsable(site, folder, "-p", "argonne", "-b", "now+2seconds", "--wrap", "true")
+    tally.same("--begin", (site.jobs(later)[later]["holds"], site.finished(later)), (["s"], 0))
 
 
 def queued(tally, site, folder):
@@ -121,4 +140,57 @@ def queued(tally, site, folder):
     tally.true("and soon", time.monotonic() - began < 30)
 
 
-SCENES = {"slurm": slurm}
+def slurm_listings(tally, federation):
+    """`squeue` in other forms, `sacct`, `scontrol`, `tracejob`, more of `pbsnodes` and `qselect`; and what isn't there."""
+    (site,) = federation.make("argonne:4", jobs="hosts = h1 h2 h3 h4")
+    folder = work_in(federation)
+    failed = parsable(site, folder, "-J", "failed", "-A", "2026-chem", "--wrap", "exit 3")
+    site.finished(failed)
+    runs = parsable(site, folder, "-J", "runs", "--wrap", "sleep 300")
+    until(lambda: site.jobs(runs)[runs]["begun"], 20, "it runs")
+    waits = parsable(site, folder, "-J", "waits", "-N", "4", "-t", "90", "--wrap", "true")
+    array = parsable(site, folder, "-H", "-a", "1-2", "--wrap", "true")
+    later = parsable(site, folder, "-b", "2030-01-01", "--wrap", "true")
+    number = array.split(".")[0]
+
+    def told(*words, status=0):
+        found = site.utility(*words)
+        tally.same(f"{words} is done: {found[2]!r}", found[0], status)
+        return found[1]
+
+    names = [waits, *(f"{number}_{index}.argonne" for index in (1, 2)), later]
+    started = [line.split() for line in told("squeue", "--start", "-h").splitlines()]
+    tally.same("squeue --start", [line[0] for line in started], names)
+    tally.true("the moment of the plan", re.match(r"20[0-9-]{8}T[0-9:]{8}\Z", started[0][5]) and started[1][5] == "N/A")
+    form = told("squeue", "-O", "JobID:12,Name:.8,StateCompact:3,TimeLimit", "-j", waits).splitlines()
+    tally.same("squeue -O", form, ["JOBID           NAMEST TIME_LIMIT", f"{waits:<12}   waitsPD 1:30:00"])
+    rows = {job["job_id"]: job for job in json.loads(told("squeue", "--json"))["jobs"]}
+    tally.same("squeue --json", [list(rows), rows[waits]["node_count"], rows[runs]["job_state"]], [[runs, *names], 4, "RUNNING"])
+    fields = told("sacct", "-j", f"{failed},{runs}", "--format=JobID,JobName,Account,State,ExitCode", "-P").splitlines()
+    tally.same("sacct -P", fields, ["JobID|JobName|Account|State|ExitCode", f"{failed}|failed|2026-chem|FAILED|3:0", f"{runs}|runs||RUNNING|0:0"])
+    tally.same("sacct of a state", told("sacct", "-nX", "-s", "FAILED", "-o", "JobID").split(), [failed])
+    tally.same("of another user", told("sacct", "-n", "-u", "nobody"), "")
+    tally.same("of yesterday", told("sacct", "-n", "-E", "2020-01-01", "-s", "FAILED", "-S", "2019-01-01"), "")
+    tally.same("of no field", site.utility("sacct", "-o", "Nothing")[0], 2)
+    shown = told("scontrol", "show", "job", failed)
+    tally.same("scontrol show job", [it in shown for it in (f"JobId={failed} ", "JobState=FAILED", "ExitCode=3:0", "Account=2026-chem")], [True] * 4)
+    tally.true("scontrol show node", "NodeName=h1 " in told("scontrol", "show", "node", "h1"))
+    tally.true("scontrol show partition", "PartitionName=batch\n" in told("scontrol", "show", "partition=batch"))
+    told("scontrol", "hold", waits)
+    tally.same("scontrol hold", site.jobs(waits)[waits]["holds"], ["u"])
+    told("scontrol", "release", waits)
+    tally.same("scontrol release", site.jobs(waits)[waits]["holds"], [])
+    trace = told("tracejob", failed)
+    tally.same("tracejob", [it in trace for it in (f"Job: {failed}\n", "Job Queued at request of", "Job Run at argonne on h1/0", "Exit_status=3")], [True] * 4)
+    tally.same("of one that isn't known", site.utility("tracejob", "900")[:2], (153, ""))
+    tally.same("qselect -s W", told("qselect", "-s", "W").split(), [later])
+    tally.same("qselect of all letters", len(told("qselect", "-s", "BEFHMQRSTUWX").split()), 5)
+    tally.same("pbsnodes -l free", [line.split() for line in told("pbsnodes", "-l", "free").splitlines()], [[f"h{it}", "free"] for it in (2, 3, 4)])
+    tally.same("pbsnodes -aSj", told("pbsnodes", "-aSj").splitlines()[3].split()[:3], ["h1", "job-exclusive", "1"])
+    for utility, said in (("srun", "sbatch"), ("salloc", "sbatch")):
+        found = site.utility(utility, "hostname")
+        tally.same(f"{utility} is refused", (found[:2], said in found[2]), ((1, ""), True))
+    tally.same("qsub -I", site.utility("qsub", "-I")[:2], (2, ""))
+
+
+SCENES = {"slurm": slurm, "slurm_listings": slurm_listings}

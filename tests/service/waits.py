@@ -253,6 +253,7 @@ def arrays(tally, federation):
     tally.same("why it waits", site.utility("qask", "why", f"{number}[7]", "0"), (0, "held u\n", ""))
     tally.same("some of them", site.utility("qdel", f"{number}[1-100].argonne"), (0, "done\n" * 100, ""))
     tally.same("the others", site.utility("qdel", array), (0, "done\n" * 100, ""))
+    by_number(tally, site, folder)
     tally.same("one that is none", site.utility("qdel", "900[]")[:2], (2, ""))
     living = qsub(site, folder, "-J", "1-3", "-h").split("[")[0]
     for words in (f"afterok:{living}[9]", f"afterok:{living}[1-2]", "afterok:900[]"):
@@ -281,6 +282,28 @@ def arrays(tally, federation):
 
 
 
+def by_number(tally, site, folder):
+    """The number of an array's first member means all of it, and a member is called by its index, also in listings."""
+    array = qsub(site, folder, "-J", "5-7", "-h", "-a", "203001010000", "-N", "called")
+    number = array.split("[")[0]
+    members = [f"{number}[{index}].argonne" for index in (5, 6, 7)]
+    tally.same("qstat calls them", re.findall(r"^(\S+) +called", site.utility("qstat")[1], re.MULTILINE), members)
+    tally.same("in columns as all", {len(line.partition("called")[0]) for line in site.utility("qstat")[1].splitlines()}, {19})
+    tally.same("qstat -f calls them", re.findall(r"^Job Id: (\S+)", site.utility("qstat", "-f", number)[1], re.MULTILINE), members)
+    tally.same("qselect calls them", site.utility("qselect", "-N", "called")[1].split(), members)
+    tally.same("qstat -a of the number", site.utility("qstat", "-a", number)[1].count(array), 1)
+    tally.same("qalter of the number", site.utility("qalter", "-p", "-7", number), (0, "done\n" * 3, ""))
+    tally.same("of another number", site.utility("qalter", "-p", number, members[0])[:2], (0, "done\n"))
+    tally.same("qrls of the number", site.utility("qrls", f"{number}.argonne"), (0, "done\n" * 3, ""))
+    tally.same("qhold of the number", site.utility("qhold", number)[1].count("\n"), 3)
+    behind = qsub(site, folder, "-W", f"depend=afterany:{number}")
+    waited_for = ":".join(site.jobs(f"{number}[]"))
+    tally.true("one waits for all", f"    depend = afterany:{waited_for}\n" in site.utility("qstat", "-fw", behind, "-x")[1])
+    tally.same("a member alone", site.utility("qdel", members[0]), (0, "done\n", ""))
+    tally.same("all others", site.utility("qdel", number), (0, "done\n" * 2, ""))
+    tally.same("what waited runs", site.finished(behind), 0)
+
+
 def arrays_refused(tally, federation):
     """All members or none: the site is full in the middle, or the words are wrong."""
     (site,) = federation.make("argonne:4", jobs="run = no")
@@ -289,7 +312,8 @@ def arrays_refused(tally, federation):
     said = "qsub: usage 4 (BadValue): 5000 is no priority from -1024 to 1023\nqsub: the options are -J 1-5 -p 5000\n"
     tally.same("a wrong word", told, (1, "", said))
     tally.same("leaves nothing", site.jobs(), {})
-    for _ in range(19):
+    qsub(site, folder, "-J", "1-1500")
+    for _ in range(16):
         qsub(site, folder, "-J", "1-500")
     qsub(site, folder, "-J", "1-450")
     tally.same("nearly full", site.said("qstat").count("\n"), 9950)
@@ -297,8 +321,10 @@ def arrays_refused(tally, federation):
     tally.same("an array of which some find no place", (status, output, errors.startswith("qsub: ") and errors.count("\n") == 1), (1, "", True))
     living = site.said("qstat").count("\n")
     tally.same("leaves none of its members", living, 9950)
+    status, output, errors = site.utility("qsub", "-J", "1-1001", given="true\n", cwd=folder)
+    tally.same("a large one isn't begun", (status, output, "has room for 0 jobs" in errors), (1, "", True))
     tally.same("and no file", len(os.listdir(f"{site.home}/spool/scripts")) - living, 50)
-    tally.same("others can be listed", site.utility("qstat", "-a")[1].count("[]."), 20)
+    tally.same("others can be listed", site.utility("qstat", "-a")[1].count("[]."), 18)
 
 
 

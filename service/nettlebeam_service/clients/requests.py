@@ -3,6 +3,7 @@ from __future__ import annotations
 
 import asyncio
 import contextlib
+import json
 from typing import Any, Callable, Coroutine, Dict, Set
 
 from ..common.files import remove
@@ -21,9 +22,12 @@ from ..site.site import Lost, NotKept, Silent, Site, Stopped
 from ..site.spool import Spool
 from ..waits.group_submission import WAITING_FACTS, NotEntered
 from ..waits.waits import Waits
+from .destinations import Destinations, Unplaced
 from .node_requests import OF_NODES, NodeRequests
 from .signals import TO_RUNNING, Signals
 from .user_limits import Exceeded, UserLimits
+
+OF_SERVICE = ("site", "queues", "members", "details", "usage")
 
 
 class Requests:
@@ -41,6 +45,7 @@ class Requests:
         unheard: Unheard,
         user_limits: UserLimits,
         eligibility: Eligibility,
+        destinations: Destinations,
         changed: Callable[[], None],
     ):
         self.site = site
@@ -55,6 +60,7 @@ class Requests:
         self.left: Set["asyncio.Future[Reply]"] = set()  # what goes on though its client was told that the site does not answer
         self.user_limits = user_limits
         self.eligibility = eligibility
+        self.destinations = destinations
 
     async def answer(self, client: Client, request: Request) -> Reply:
         """The reply to a request of this client."""
@@ -74,7 +80,7 @@ class Requests:
             return Reply(3, words=f"the backup failed, so that no packet may leave: {fault}")
         except Uncompacted as fault:
             return Reply(3, words=f"the journal isn't compacted: {fault}")
-        except Exceeded as fault:
+        except (Exceeded, Unplaced) as fault:
             return Reply(1, words=str(fault))
         except OSError as fault:
             return Reply(3, words=f"the spool: {fault.strerror or fault}")
@@ -112,8 +118,12 @@ class Requests:
         if not self.site.known.utilities:
             raise Stopped(self.site.trouble)  # the program hasn't told yet what may be asked
         request.words = await self.waits.arrays.expanded(request.words)
+        said = await self.destinations.placed(client, request)
         async with self.user_limits.hold(client, request):
-            return await self.do_words(client, request)
+            reply = await self.do_words(client, request)
+        if said and not reply.status:
+            reply.words = "\n".join(filter(None, (said, reply.words)))
+        return reply
 
     async def do_words(self, client: Client, request: Request) -> Reply:
         """Does what the words ask."""
@@ -132,12 +142,8 @@ class Requests:
             return await self.compact(client, request)
         if verb == "qsub" and request.size is not None:
             return await self.submit(client, request)
-        if verb == "site":
-            return Reply(0, f"{self.waits.here}\n".encode("ascii"))
-        if verb == "details":
-            return Reply(0, await self.waits.details.answer(client, request.words, request.role))
-        if verb == "usage":
-            return Reply(0, await self.waits.usage.answer(client, request.words, request.role))
+        if verb in OF_SERVICE:
+            return Reply(0, await self.told(client, request))
         if verb == "alter":
             return await self.waits.altering.answer(client, request)
         line = line_of(self.site.known, client, request.words, request.role)
@@ -148,6 +154,8 @@ class Requests:
             return (await self.why(request.words[1], line)).reply()
         if verb == "grant":
             return self.changed_by(await self.eligibility.grant(*request.words[1:3]))
+        if verb == "qstat":
+            return (await self.site.look(line)).with_names(self.waits.arrays.called()).reply()
         if not self.site.known.changes(request.words):
             return (await self.site.look(line)).reply()
         answer = await self.unheard.with_words(request.words, await self.site.ask(line))
@@ -155,6 +163,19 @@ class Requests:
             with contextlib.suppress(Stopped):  # the answer is there, and the next child is asked for the roster anyhow
                 await self.site.learn_roster()
         return self.changed_by(answer)
+
+    async def told(self, client: Client, request: Request) -> bytes:
+        """What the service answers by itself."""
+        verb = request.words[0]
+        if verb == "queues":
+            return self.destinations.told()
+        if verb == "members":
+            return json.dumps(self.waits.arrays.called()).encode("ascii") + b"\n"
+        if verb == "details":
+            return await self.waits.details.answer(client, request.words, request.role)
+        if verb == "usage":
+            return await self.waits.usage.answer(client, request.words, request.role)
+        return f"{self.waits.here}\n".encode("ascii")
 
     async def why(self, job: str, line: str) -> Answer:
         """The site's answer to why a job waits, with what the service knows of that."""

@@ -42,6 +42,15 @@ class Told:
         """Whether one of the answer's lines is this fixed one: of each job that is named there is a line."""
         return text.encode() in self.answer.splitlines()
 
+    def begins(self, text: str) -> bool:
+        """Whether the words begin so."""
+        return self.words.startswith(text)
+
+    def others_than(self, text: str) -> List[str]:
+        """For people: the lines of the answer that aren't this fixed one, each with its place, if there are several."""
+        lines = self.answer.decode("ascii", "replace").splitlines()
+        return [f"number {place} of {len(lines)} jobs: {line}" for place, line in enumerate(lines, 1) if line != text and lines[1:]]
+
     def name(self) -> str:
         """The answer, where it is a name."""
         return self.answer.decode("ascii", "replace").strip()

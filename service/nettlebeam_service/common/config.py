@@ -9,6 +9,7 @@ from dataclasses import dataclass, field, fields, replace
 from typing import Any, Dict, List, Mapping, Tuple
 
 from .journal import Nameless, owner_of
+from .queue_keys import NoQueue, Queue, check_sites, read_queues
 
 Words = Tuple[str, ...]
 
@@ -44,6 +45,7 @@ class ClientKeys:
     jobs_of_user: int = 1000
     spool_of_user: int = 1024**3
     priority: int = 0
+    sites: str = "here"
 
 
 @dataclass(frozen=True)
@@ -114,9 +116,11 @@ class Config:
     page: PageKeys = PageKeys()
     house: HouseKeys = HouseKeys()
     peers: Mapping[str, PeerKeys] = field(default_factory=dict)
+    queues: Tuple[Queue, ...] = ()
 
 
 SECTIONS = {"site": SiteKeys, "clients": ClientKeys, "jobs": JobKeys, "page": PageKeys, "house": HouseKeys}
+QUEUES = "queues"
 RUNS = ("yes", "drain", "no")
 COUNTS = ("yes", "no")
 GREATEST_PORT = 65_535
@@ -189,9 +193,9 @@ def read_config(path: str) -> Config:
         raise ConfigFault(f"{path}: {fault.strerror}") from None
     except (configparser.Error, UnicodeDecodeError) as fault:
         raise ConfigFault(" ".join(str(fault).split())) from None
-    unknown = [title for title in parser.sections() if title not in SECTIONS and title.split(" ")[0] != "peer"]
+    unknown = [title for title in parser.sections() if title not in (*SECTIONS, QUEUES) and title.split(" ")[0] != "peer"]
     if unknown:
-        raise ConfigFault(f"[{unknown[0]}]: there is no such section; there are {', '.join(SECTIONS)} and peer NAME")
+        raise ConfigFault(f"[{unknown[0]}]: there is no such section; there are {', '.join(SECTIONS)}, {QUEUES} and peer NAME")
     given = {title: dict(parser[title]) if title in parser else {} for title in SECTIONS}
     parts = {title: read_section(kind, title, given[title]) for title, kind in SECTIONS.items()}
     keys: SiteKeys = parts["site"]
@@ -204,7 +208,12 @@ def read_config(path: str) -> Config:
     check_jobs(parts["jobs"])
     if parts["page"].port > GREATEST_PORT:
         raise ConfigFault(f"[page] port = {parts['page'].port}: above {GREATEST_PORT}")
-    return Config(name, peers=read_peers(parser, name), **parts)
+    try:
+        check_sites(parts["clients"].sites)
+        queues = read_queues(dict(parser[QUEUES]) if QUEUES in parser else {})
+    except NoQueue as fault:
+        raise ConfigFault(str(fault) if QUEUES in str(fault) else f"[clients] sites: {fault}") from None
+    return Config(name, peers=read_peers(parser, name), queues=queues, **parts)
 
 
 def check_jobs(keys: JobKeys) -> None:

@@ -21,13 +21,16 @@ LONGEST_VARIABLE = 128 * 1024 - 1  # more isn't taken by the kernel of one word
 OF_CLIENTS = ("folder", "home", "host", "lang", "path", "shell", "tz", "umask")
 # what a client tells of what it submits, as the options of PBS have it
 OF_OPTIONS = (
-    *("arguments", "array", "at", "chunks", "depend", "err", "interpreter", "join", "keep"),
-    *("mail", "mail_to", "name", "out", "resources", "slurm", "variables"),
+    *("account", "arguments", "array", "at", "chunks", "depend", "err", "interpreter", "join", "keep"),
+    *("mail", "mail_to", "name", "out", "queue", "resources", "script_words", "slurm", "variables"),
 )
 # what a client tells of itself with a qsub; the service passes it to the job, and rests nothing on it
 FACTS = (*OF_CLIENTS, *OF_OPTIONS)
 # those that the node of a job is told
-OF_RUNS = (*OF_CLIENTS, "array_id", "chunks", "err", "index", "interpreter", "join", "keep", "out", "slurm", "variables")
+OF_RUNS = (
+    *(*OF_CLIENTS, "array_id", "chunks", "err", "index", "interpreter", "join", "keep", "out"),
+    *("queue", "script_words", "slurm", "variables"),
+)
 # those that may be longer than the others
 LISTS = ("depend", "resources", "arguments")
 # what the service of a job's origin adds, for the service where it runs

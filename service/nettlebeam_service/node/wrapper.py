@@ -16,6 +16,7 @@ from .job_files import OF_THE_RUN, interpreter_words, more_exports, placed, show
 from .job_start import UNWRITABLE
 
 PATH = "/usr/local/bin:/usr/bin:/bin"
+QUEUE = "batch"  # of a site that names none
 LONGEST_FIRST_LINE = 256  # as much of it as the kernel reads
 # the names of POSIX.1-2017 for what the submitter's environment had
 SUBMITTERS = {
@@ -81,7 +82,7 @@ set -- {shell} "$script"
 {interpreter}
 (
 {variables}
-exec "$@"
+exec "$@" {words}
 )
 status=$?
 cd /
@@ -116,8 +117,8 @@ def exports_of(job: str, order: Order) -> Dict[str, str]:
         "PBS_JOBID": shown_id(job, facts),
         "PBS_JOBNAME": order["name"],
         "PBS_O_LOGNAME": order["owner"],
-        "PBS_O_QUEUE": "batch",
-        "PBS_QUEUE": "batch",
+        "PBS_O_QUEUE": str(facts.get("queue") or QUEUE),
+        "PBS_QUEUE": str(facts.get("queue") or QUEUE),
         **more_exports(order["nodes"], facts),
         **slurm_exports(job, order["name"], order["nodes"], facts),
         **named,
@@ -156,6 +157,7 @@ def text_of(job: str, order: Order, hosts: bytes, shell: str, script: bytes, way
         unwritable=UNWRITABLE,
         exports="\n".join(f"{name}={shlex.quote(value)}; export {name}" for name, value in exports.items()),
         umask=umask_of(facts),
+        words=script_words(facts),
         shell="" if script.startswith(b"#!") else shlex.quote(shell),
         without_execution=without_execution(script),
         variables=variables_text(facts, (*exports, *OF_THE_RUN)),
@@ -174,6 +176,14 @@ def other_than_this(owner: str) -> str:
         return ":"
     why = f"nettlebeam: start runs jobs of {owner} as {account()}, who could read and change the site"
     return f'[ "$(id -u)" != {os.getuid()} ] || {{ echo {shlex.quote(why)} >&2; exit 255; }}'
+
+
+def script_words(facts: Dict[str, Any]) -> str:
+    """The words that a job's script is called with."""
+    try:
+        return " ".join(map(shlex.quote, shlex.split(str(facts.get("script_words", "")))))
+    except ValueError:
+        return ""  # no utility submits such words
 
 
 def without_execution(script: bytes) -> str:

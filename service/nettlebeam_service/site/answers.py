@@ -6,12 +6,15 @@ handed on as it is. No other module sees the bytes of an answer (tools/texts).
 from __future__ import annotations
 
 import json
-from typing import Any, Dict, List, Optional, Sequence, Set
+import re
+from typing import Any, Dict, List, Mapping, Optional, Sequence, Set
 
 from ..common.identifiers import IDENTIFIER
 from ..common.wire import Reply
 
 NOT_KEPT = 3
+# the identifiers in both listings
+LISTED = re.compile(rb"^(Job Id: )?([0-9]{1,10}\.[A-Za-z0-9-]+)( *)", re.MULTILINE)
 LONG = 1 << 20  # bytes from which on an answer isn't copied out of what came, since a packet may have a gibibyte
 
 
@@ -78,6 +81,17 @@ class Answer:
     def reply(self) -> Reply:
         """The reply that hands it to a client."""
         return Reply(self.status, self._said, self._words)
+
+    def with_names(self, names: Mapping[str, str]) -> Answer:
+        """The same listing with other names of these jobs."""
+
+        def named(found: re.Match[bytes]) -> bytes:
+            """A line's beginning."""
+            front, job, gap = found.groups()
+            name = names.get(job.decode("ascii"))
+            return found[0] if name is None else (front or b"") + name.encode("ascii").ljust(len(job + gap) - 1) + gap[:1]
+
+        return Answer(LISTED.sub(named, self._said), self._words, self.status) if names and not self.status else self
 
     def with_words(self, *words: str) -> Answer:
         """The same with more words beside it, a line each."""

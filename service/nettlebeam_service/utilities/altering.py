@@ -75,6 +75,16 @@ def name_in(options: Options) -> Tuple[Options, Dict[str, str]]:
     return [(letter, name[:LONGEST_NAME] if letter == "N" else argument) for letter, argument in options], {"name": name}
 
 
+def account_in(options: Options) -> Tuple[Options, Dict[str, str]]:
+    """The options without an account that the service keeps, and the fact that has it; of another one that none is kept."""
+    from .submitting import is_account
+
+    account = dict(options).get("A")
+    if account is None or not is_account(account):
+        return options, {"account": ""} if account else {}
+    return [(letter, argument) for letter, argument in options if letter != "A"], {"account": account}
+
+
 def alter(path: str, words: Words, role: Optional[str]) -> Told:
     """Alters jobs: what the site has of them, and behind that what the service keeps."""
     options, operands = words.options, words.operands
@@ -88,7 +98,13 @@ def alter(path: str, words: Words, role: Optional[str]) -> Told:
     if any(letter == "N" for letter, _ in of_site):
         of_site, named = name_in(of_site)
         facts.update(named)
-    older = resource_facts(resources)
+    of_site, account = account_in(of_site) if any(letter == "A" for letter, _ in of_site) else (of_site, {})
+    if account.get("account"):
+        from .submitting import ACCOUNT_KEPT
+
+        facts.update(account)
+        said.append(ACCOUNT_KEPT.format(account["account"]))
+    older = {**resource_facts(resources), **account}
     is_needed = bool(facts or older.get("chunks"))  # else only what was told of older nodes goes away
     facts.update(older)
     plain = as_words(of_site) + resources.words()

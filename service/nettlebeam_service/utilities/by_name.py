@@ -1,5 +1,5 @@
-"""What the utilities qsub, qalter, qhold, qrls, qdel and qstat, and Slurm's sbatch, squeue, scancel and sinfo do, by the name
-that they are called by.
+"""What the utilities qsub, qalter, qhold, qrls, qdel and qstat, and Slurm's sbatch, squeue and the like do, by the name that they
+are called by.
 
 Each asks the service at the socket NETTLEBEAM_SOCKET; without that the site in the directory NETTLEBEAM_DIR, as the user who is
 logged in; without both the only service of this machine. The role is that of NETTLEBEAM_ROLE: `operator` or `admin`, or none."""
@@ -9,7 +9,7 @@ import os
 import sys
 
 OF_SITES = ("qsub", "qalter", "qhold", "qrls", "qdel", "qstat")
-OF_SLURM = ("sbatch", "squeue", "scancel", "sinfo")
+OF_SLURM = ("sbatch", "squeue", "scancel", "sinfo", "sacct", "scontrol", "srun", "salloc")
 
 
 def main(name: str, words: list[str], here: str) -> int:

@@ -1,16 +1,13 @@
 """The directives at the head of a script, with quotes as a shell reads them."""
 from __future__ import annotations
 
-from ..words.options import OPTIONS, Fault, parse
+from ..words.options import FLAGS, OPTIONS, Fault, parse
 
 TYPE_CHECKING = False
 if TYPE_CHECKING:
     from typing import List, Optional, Tuple
 
     Options = List[Tuple[str, Optional[str]]]
-
-
-WITHOUT_ARGUMENTS = "hIVXz"
 
 
 def words_of(text: str) -> List[str]:
@@ -77,5 +74,5 @@ def check_known(letter: str, argument: Optional[str]) -> None:
     if letter in OPTIONS["qsub"]:
         if argument is None:
             raise Fault(f"-{letter} needs an argument")
-    elif letter not in WITHOUT_ARGUMENTS:
+    elif letter not in FLAGS:
         raise Fault(f"there is no option -{letter} here")

@@ -5,7 +5,8 @@ import time
 
 from ..common.small_json import dumps
 from ..words.resources import counts_of
-from .layouts import QUEUE, comment_of, elapsed, hosts_text, long_clock, name_of, plain
+from .help_texts import VERSION
+from .layouts import comment_of, elapsed, hosts_text, long_clock, name_of, plain, queue_of
 
 TYPE_CHECKING = False
 if TYPE_CHECKING:
@@ -19,7 +20,6 @@ if TYPE_CHECKING:
 WIDTH = 78
 HOLDS = "uos"
 SUBMITTERS = (("HOME", "home"), ("LANG", "lang"), ("PATH", "path"), ("SHELL", "shell"), ("WORKDIR", "folder"), ("HOST", "host"))
-VERSION = "nettlebeam"
 
 
 def file_of(job: Job, key: str, letter: str) -> str:
@@ -42,7 +42,7 @@ def variables_of(job: Job) -> Dict[str, str]:
     more = job["more"]
     told = {f"PBS_O_{name}": str(more[key]) for name, key in SUBMITTERS if key in more}
     given = more.get("variables", {})
-    return {**told, "PBS_O_LOGNAME": job["owner"], "PBS_O_QUEUE": QUEUE, **(given if isinstance(given, dict) else {})}
+    return {**told, "PBS_O_LOGNAME": job["owner"], "PBS_O_QUEUE": queue_of(job), **(given if isinstance(given, dict) else {})}
 
 
 def moments_of(job: Job) -> Attributes:
@@ -108,8 +108,9 @@ def attributes_of(job: Job, view: View) -> Attributes:
     owner = f"{job['owner']}@{more['host']}" if more.get("host") else job["owner"]
     found: Attributes = [("Job_Name", name_of(job)), ("Job_Owner", owner)]
     found += used_of(job)
-    found += [("job_state", job["state"]), ("queue", QUEUE), ("server", view.here), ("Checkpoint", "n")]
-    found += [("Account_Name", job["account"])] if job["account"] else []
+    found += [("job_state", job["state"]), ("queue", queue_of(job)), ("server", view.here), ("Checkpoint", "n")]
+    account = more.get("account") or job["account"]
+    found += [("Account_Name", plain(account))] if account else []
     found += [("depend", more["waits"])] if more.get("waits") else []
     found += [("Execution_Time", time.ctime(more["waits_until"]))] if more.get("waits_until") else []
     found += [("Error_Path", file_of(job, "err", "e"))]

@@ -31,6 +31,11 @@ def cut(text: str, width: int) -> str:
     return text if len(text) <= width else f"{text[: width - 1]}*"
 
 
+def queue_of(job: Job) -> str:
+    """The queue of a job; of one that names none that of a site without names of queues."""
+    return plain(str(job["more"].get("queue") or QUEUE))
+
+
 def clock(seconds: int) -> str:
     """Hours and minutes."""
     return f"{seconds // 3600:02}:{seconds % 3600 // 60:02}"
@@ -92,7 +97,7 @@ def default_line(job: Job) -> str:
     """The line of a job in the default listing."""
     used = long_clock(elapsed(job)) if job["begun"] else "0"
     names = f"{cut(job['shown'], 16):<17} {cut(name_of(job), 16):<16} {cut(job['owner'], 16):<17}"
-    return f"{names} {used:>8} {job['state']:1} {QUEUE}\n"
+    return f"{names} {used:>8} {job['state']:1} {queue_of(job)}\n"
 
 
 def head(view: View) -> str:
@@ -122,7 +127,7 @@ def rows(jobs: List[Job], view: View, plan: Dict[str, int]) -> str:
     found: List[str] = []
     for job in jobs:
         last = est_start(plan.get(job["id"], 0)) if is_planned else clock(elapsed(job)) if job["begun"] else NOTHING
-        names = (cut(text, width) for text, width in zip((job["shown"], job["owner"], QUEUE, name_of(job)), widths))
+        names = (cut(text, width) for text, width in zip((job["shown"], job["owner"], queue_of(job), name_of(job)), widths))
         session, tasks = job["more"].get("session", NOTHING), counts_of(job["more"], job["nodes"])[0]
         line = form % (*names, session, job["nodes"], tasks, memory_of(job), clock(job["limit"]), job["state"], last)
         added = more_of(job, view) if has_more else []

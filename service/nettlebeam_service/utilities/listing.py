@@ -12,7 +12,6 @@ if TYPE_CHECKING:
 
 KNOWN = "fFDxaiHrnsu1wtTQqBGM"
 STATE_OF_ARRAY = "B"
-QUEUE = "batch"
 FINISHED = "F"
 UNKNOWN_STATUS, FINISHED_STATUS, NO_QUEUE_STATUS = 153, 35, 170
 NOT_ASKED = 2  # of words that the service takes for none, such as those of an array that isn't known
@@ -116,7 +115,7 @@ def in_span(name: str, jobs: List[Job]) -> List[Job]:
 def named(operands: List[str], jobs: List[Job], view: View) -> Tuple[List[Job], List[str], int]:
     """The jobs of the operands that are shown, what is said of the others, and the status for that."""
     said, status = [], 0
-    by_name = {name: job for job in jobs for name in (job["id"], job["shown"])}
+    by_name = {name: job for job in reversed(jobs) for name in (job["id"], job["shown"])}  # an array goes before its first member
     for operand in operands:
         name = full_name(operand, view)
         found = [by_name[name]] if name in by_name else in_span(name, jobs) if "[" in name else []
@@ -175,22 +174,34 @@ def here_of(path: str) -> str:
     return ask(path, ["site"]).name()
 
 
+def queue_names(path: str, view: View, asked: List[str]) -> List[Optional[str]]:
+    """The queues that operands name, "" for all of them and None for one that isn't known."""
+    from .queues import queues_of
+
+    known = ["", *(queue["name"] for queue in queues_of(path))]
+    pairs = [operand.partition("@")[::2] for operand in asked]
+    return [name if name in known and site in ("", view.here) else None for name, site in pairs]
+
+
 def qstat(path: str, words: Words, role: Optional[str]) -> Told:
     """Lists what is asked for."""
     view, operands = View(known_options(words), here_of(path)), words.operands
-    if any(operand in (QUEUE, f"@{view.here}", f"{QUEUE}@{view.here}") for operand in operands):
-        operands = []  # all that are in the queue
+    asked = [operand for operand in operands if not operand[:1].isdigit()]
+    names = queue_names(path, view, asked) if asked else []
+    if None in names:
+        return Told(NO_QUEUE_STATUS, b"", f"Unknown queue destination {asked[names.index(None)]}")
     if view.has("QqB"):
         from .queues import qstat as list_queues
 
-        return list_queues(path, view, role)
-    queues = [operand for operand in operands if not operand[:1].isdigit()]
-    if queues:
-        return Told(NO_QUEUE_STATUS, b"", f"Unknown queue destination {queues[0]}")
-    operands = [operand.partition("@")[0] for operand in operands]
+        return list_queues(path, view, [name for name in names if name], role)
+    operands = [] if asked else [operand.partition("@")[0] for operand in operands]
     fault, jobs, _ = jobs_of(path, view, operands, role) if operands else (*jobs_for(path, view, [], role), [])
     if fault:
         return fault
+    if asked and "" not in names:
+        from .layouts import queue_of
+
+        jobs = [job for job in jobs if queue_of(job) in names]
     jobs = with_arrays(jobs, view.has("t") or any("[" in it and "[]" not in it for it in operands))
     shown, said, status = named(operands, jobs, view)
     if view.has("f"):

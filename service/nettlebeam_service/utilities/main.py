@@ -15,10 +15,12 @@ TYPE_CHECKING = False
 if TYPE_CHECKING:
     from typing import List, Optional
 
-MORE = ("qselect", "qsig", "qmsg", "qmove", "qrerun", "pbsnodes")
-OF_SLURM = ("sbatch", "squeue", "scancel", "sinfo")
+MORE = ("qselect", "qsig", "qmsg", "qmove", "qrerun", "pbsnodes", "tracejob")
+OF_SLURM = ("sbatch", "squeue", "scancel", "sinfo", "sacct", "scontrol", "srun", "salloc")
 QUEUE = "batch"
-VERSION = "pbs_version = nettlebeam"
+# what the site answers these is told by their status, and by what they say beside it
+ANSWERED = ("qalter", "qhold", "qrls", "qdel", "qsig", "qmsg", "qmove")
+REFUSED = 1, 2
 NO_SITE = "NETTLEBEAM_SOCKET isn't set, and this machine hasn't one service of a site"
 
 
@@ -32,7 +34,7 @@ def alter(path: str, words: Words, role: Optional[str]) -> Told:
 def list_jobs(path: str, words: Words, role: Optional[str]) -> Told:
     """`qstat`: the site's own listings where POSIX's options are given, and those of PBS else."""
     options, operands = words.options, words.operands
-    is_queue = any("@" in operand or operand == QUEUE for operand in operands)
+    is_queue = any("@" in operand or operand == QUEUE or is_named(path, operand) for operand in operands)
     if any(letter != "f" for letter, _ in options) or is_queue:
         from .listing import qstat
 
@@ -44,6 +46,15 @@ def list_jobs(path: str, words: Words, role: Optional[str]) -> Told:
     from .listing import known
 
     return known(path, [f"-{letter}" for letter, _ in options], operands, role)
+
+
+def is_named(path: str, operand: str) -> bool:
+    """Whether a queue has this name; no job has one that begins with a letter."""
+    if not operand[:1].isalpha():
+        return False
+    from .queues import has_queue
+
+    return has_queue(path, operand)
 
 
 def are_living(path: str, operands: List[str]) -> bool:
@@ -66,12 +77,14 @@ def change(path: str, utility: str, words: Words, role: Optional[str]) -> Told:
 def run(utility: str, words: List[str], path: Optional[str]) -> Told:
     """Asks for what the user typed."""
     role = os.environ.get("NETTLEBEAM_ROLE") or None
-    if words == ["--version"]:
-        return Told(0, f"{VERSION}\n".encode(), "")
-    if words == ["--help"]:
-        from .help_texts import usage_of
+    option = words[0] if len(words) == 1 else ""
+    if utility == "sbatch":
+        option = {"-h": "--help", "--usage": "--help", "-V": "--version"}.get(option, option)
+    if option in ("--version", "--help"):
+        from .help_texts import usage_of, version_of
 
-        return Told(0, usage_of(utility).encode(), "")
+        text = usage_of(utility) if option == "--help" else version_of(utility in OF_SLURM)
+        return Told(0, text.encode(), "")
     if utility in MORE:
         from .more_utilities import run as run_more
 
@@ -100,10 +113,18 @@ def run(utility: str, words: List[str], path: Optional[str]) -> Told:
     return told
 
 
+def as_pbs(utility: str, told: Told) -> Told:
+    """What is told, without the site's words on standard output where PBS writes nothing."""
+    is_refused = utility in ("qsub", "qstat") and told.status in REFUSED
+    if os.environ.get("NETTLEBEAM_ANSWERS") or not (is_refused or utility in ANSWERED):
+        return told
+    return Told(told.status, b"", "\n".join(filter(None, (told.words, *told.others_than("done")[1:]))))
+
+
 def main(utility: str, words: List[str]) -> int:
     """A utility."""
     try:
-        told = run(utility, words, find_socket())
+        told = as_pbs(utility, run(utility, words, find_socket()))
         sys.stdout.buffer.write(told.answer)
         sys.stdout.buffer.flush()
     except (Unasked, Fault) as fault:

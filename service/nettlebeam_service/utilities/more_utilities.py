@@ -74,6 +74,10 @@ def run(utility: str, words: List[str], path: Optional[str], role: Optional[str]
         from .selecting import qselect
 
         return qselect(words, path)
+    if utility == "tracejob":
+        from .tracing import tracejob
+
+        return tracejob(path, words, role)
     if utility == "pbsnodes":
         from .pbsnodes import pbsnodes
 

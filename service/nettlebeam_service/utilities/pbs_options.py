@@ -8,6 +8,7 @@ from ..words.dates import moment_of
 from ..words.dependencies import read_depends
 from ..words.options import Fault, naming
 from ..words.ranges import range_text, read_range
+from .other_options import OTHERS
 
 TYPE_CHECKING = False
 if TYPE_CHECKING:
@@ -23,7 +24,6 @@ LONGEST_PATH = 4000
 # what belongs to the machine, the account or the shell that qsub is called by
 NOT_OF_JOBS = ("PWD", "OLDPWD", "SHLVL", "_", "DISPLAY", "TMPDIR", "HOME", "USER", "LOGNAME", "SHELL")
 OUR_OWN = ("PBS_", "NETTLEBEAM_")
-QUEUE = "batch"
 
 
 def path_of(text: str, letter: str) -> str:
@@ -59,13 +59,8 @@ def keep(submission: Submission, text: str) -> None:
 
 
 def queue(submission: Submission, text: str) -> None:
-    """-q: the only queue, or sites to run at."""
-    name, at, site = text.partition("@")
-    chosen = site if at else "" if name == QUEUE else name
-    if at and name not in ("", QUEUE):
-        raise Fault(f"-q {text}: the only queue is {QUEUE}")
-    if chosen:
-        submission.resources.pairs["sites="] = chosen
+    """-q: a queue, or a site to run at, which the service knows."""
+    submission.facts["queue"] = text
 
 
 def shell(submission: Submission, text: str) -> None:
@@ -127,6 +122,8 @@ def more_attributes(submission: Submission, text: str) -> None:
             if not value or len(value) > 4 or not set(value) <= set("01234567"):
                 raise Fault(f"-W umask={value}: no octal number")
             submission.facts["umask"] = value
+        elif name in ("stagein", "stageout"):
+            raise Fault(f"-W {name}: no file is copied for a job here: have the script copy it by cp or scp")
         else:
             submission.say(f"-W {name} is without effect here")
 
@@ -154,24 +151,16 @@ def as_user(submission: Submission, text: str) -> None:
 
 def project(submission: Submission, text: str) -> None:
     """-P: the account, too."""
-    submission.words += ["-A", text]
+    from .submitting import set_account
 
-
-def refuse(what: str) -> Option:
-    """What refuses an option."""
-
-    def tell(submission: Submission, text: str) -> None:
-        """Refuses it."""
-        raise Fault(what)
-
-    return tell
+    set_account(submission, text)
 
 
 BY_LETTER: Dict[str, Option] = {
+    **OTHERS,
     "a": begin_at,
     "c": checkpoint,
     "e": lambda submission, text: submission.facts.update(err=path_of(text, "e")),
-    "I": refuse("-I: there are no interactive jobs here"),
     "J": array,
     "j": join,
     "k": keep,
@@ -185,7 +174,6 @@ BY_LETTER: Dict[str, Option] = {
     "t": array,
     "u": as_user,
     "W": more_attributes,
-    "X": refuse("-X: there is no display for jobs here"),
     "z": lambda submission, text: setattr(submission, "is_silent", True),
 }
 
@@ -203,6 +191,9 @@ def apply_more(submission: Submission, options: List[Tuple[str, Optional[str]]])
                 BY_LETTER[letter](submission, argument or "")
             except Fault as fault:
                 raise naming(submission.option(letter), argument or "", fault) from None
+    for key in ("out", "err") if submission.output_folder else ():
+        if key[0] not in submission.facts.get("keep", ""):
+            submission.facts.setdefault(key, submission.output_folder)
     size = sum(len(os.fsencode(name)) + len(os.fsencode(value)) + 2 for name, value in submission.variables.items())
     if size > MOST_VARIABLES:
         raise Fault(f"the variables have {size} bytes, and at most {MOST_VARIABLES} are taken")
@@ -237,7 +228,7 @@ def split_variables(text: str) -> List[str]:
 def variables_of(submission: Submission, text: str) -> Dict[str, str]:
     """The variables that -v names, or gives values."""
     found: Dict[str, str] = {}
-    for part in split_variables(text):
+    for part in split_variables(text) if text.strip() else ():
         name, mark, value = part.partition("=")
         name = name.strip()
         if not name or "\0" in part:

@@ -10,12 +10,22 @@ from ..words.options import Fault, parse_anywhere
 
 TYPE_CHECKING = False
 if TYPE_CHECKING:
-    from typing import Any, Dict, List, Optional
+    from typing import Any, Dict, List, Optional, Sequence
 
     Node = Dict[str, Any]
 
 KINDS = "alSor"  # of which one is done
-OTHERS = "vCF"  # letters that say how
+OTHERS = "vCFj"  # letters that say how
+# the states that -l names, as Torque has them
+LISTED = {
+    "free": ("free",),
+    "busy": ("job-exclusive",),
+    "down": ("down",),
+    "offline": ("offline",),
+    "active": ("job-exclusive",),
+    "up": ("free", "job-exclusive"),
+    "all": ("free", "job-exclusive", "down", "offline"),
+}
 SUMMARY_HEAD = (
     "                                                        mem       ncpus   nmics   ngpus\n"
     "vnode           state           njobs   run   susp      f/t        f/t     f/t     f/t   jobs\n"
@@ -59,10 +69,10 @@ def objects(nodes: List[Node], server: str) -> str:
     return dumps({"pbs_server": server, "nodes": {node["name"]: attributes_of(node) for node in nodes}}) + "\n"
 
 
-def off_lines(nodes: List[Node]) -> str:
-    """The listing of `-l`: the nodes on which nothing begins, and why."""
-    off = [node for node in nodes if "down" in node["state"] or "offline" in node["state"]]
-    return "".join(f"{node['name']:<20} {node['state']} {node['comment']}\n" for node in off)
+def state_lines(nodes: List[Node], states: Sequence[str]) -> str:
+    """The listing of `-l`: the nodes in some states, without a word for them those on which nothing begins, and why."""
+    found = [node for node in nodes if any(state in node["state"].split(",") for state in states)]
+    return "".join(f"{node['name']:<20} {node['state']} {node['comment']}".rstrip() + "\n" for node in found)
 
 
 def summary(nodes: List[Node]) -> str:
@@ -105,6 +115,9 @@ def pbsnodes(path: str, words: List[str], role: Optional[str]) -> Told:
         raise Fault("give one of -a, -l, -S, -o and -r, or hosts")
     if found.get("F", "json") != "json":
         raise Fault("-F is json here")
+    if kinds == ["l"] and hosts[:1] and hosts[0] in LISTED:
+        told = ask(path, ["nodes-json"], role)
+        return Told(told.status, state_lines(nodes_in(told), LISTED[hosts[0]]).encode(), told.words)
     if kinds and kinds[0] in "or":
         if not hosts:
             raise Fault("name a host")
@@ -122,5 +135,7 @@ def listing(path: str, kind: str, hosts: List[str], is_json: bool, role: Optiona
     if hosts:
         nodes = [node for node in nodes if node["name"] in hosts]
     server = ask(path, ["site"]).name() if is_json else ""
-    text = {"l": off_lines, "S": summary}.get(kind, long_lines)(nodes) if not is_json else objects(nodes, server)
+    text = objects(nodes, server) if is_json else long_lines(nodes)
+    if kind in "lS" and not is_json:
+        text = summary(nodes) if kind == "S" else state_lines(nodes, ("down", "offline"))
     return Told(1 if unknown else 0, text.encode(), "\n".join(f"Node: {host},  Error: Unknown node" for host in unknown))

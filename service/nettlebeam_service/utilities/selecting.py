@@ -6,6 +6,7 @@ import re
 
 from ..common.ask import Told, ask
 from ..words.options import OPTIONS, Fault, naming, seconds_of
+from .listing import state_of
 from .more_utilities import read_words
 
 TYPE_CHECKING = False
@@ -25,8 +26,9 @@ OPERATORS = {
 COMPARED = re.compile(r"(?:\.(eq|ne|ge|gt|le|lt)\.)?([+-]?[0-9]+)\Z")
 RESOURCE = re.compile(r"([a-z]+)(?:=|\.(eq|ne|ge|gt|le|lt)\.)(.+)\Z")
 NUMBERS = {"nodes": "nodes", "walltime": "limit"}
-STATES = "EHQRT"
+STATES = "BEFHMQRSTUWX"  # those of PBS, of which some no job here ever has
 HOLDS = "uos"
+QUEUE = "batch"
 
 
 def compare(text: str, key: str) -> Condition:
@@ -79,11 +81,12 @@ def condition(letter: str, text: str) -> List[Condition]:
     if letter == "p":
         return [compare(text, "priority")]
     if letter == "q":
-        site = text.rpartition("@")[2]
-        return [lambda job: site in job["sites"]]
+        name, _, site = text.partition("@")
+        # a site's name alone is taken for it
+        return [lambda job: name in ("", job.get("queue")) or name in job["sites"], lambda job: not site or site in job["sites"]]
     if letter == "s":
         states = letters(text, STATES, "states")
-        return [lambda job: job["letter"] in states]
+        return [lambda job: job["letter"] in states or (job.get("state") == "W" and "W" in states)]
     users = text.split(",")
     return [lambda job: job["owner"] in users]
 
@@ -102,9 +105,16 @@ def qselect(words: List[str], path: str) -> Told:
     if operands:
         raise Fault("it has no operands")
     wanted = [holds for letter, text in options.items() for holds in named_condition(letter, text)]
-    told = ask(path, ["jobs"])
+    has_more = "q" in options or "A" in options or "W" in options.get("s", "")
+    told = ask(path, ["details", "now"] if has_more else ["jobs"])
     if told.status:
         return told
     jobs = [job for job in told.json_lines() if job["letter"]]
+    for job in jobs if has_more else ():
+        more = job["more"]
+        job["queue"], job["state"] = more.get("queue") or QUEUE, state_of(job)
+        job["account"] = more.get("account") or job["account"]
     names = [job["id"] for job in jobs if all(holds(job) for holds in wanted)]
+    shown = ask(path, ["members"]).json_lines()[0] if names else {}
+    names = [shown.get(name, name) for name in names]  # since the number of an array's first member means all of it
     return Told(0, "".join(f"{name}\n" for name in names).encode(), told.words)

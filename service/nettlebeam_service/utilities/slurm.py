@@ -3,9 +3,11 @@ qsub and qstat."""
 from __future__ import annotations
 
 import os
+import time
 
 from ..common.ask import Told, ask
 from ..words.options import Fault
+from .slurm_options import check, read_options, without_effect
 
 TYPE_CHECKING = False
 if TYPE_CHECKING:
@@ -17,66 +19,13 @@ if TYPE_CHECKING:
     Given = Dict[str, str]
     Options = List[Tuple[str, Optional[str]]]
 
-SHORT: Dict[str, Dict[str, str]] = {
-    "sbatch": {
-        **{"n": "ntasks", "N": "nodes", "c": "cpus-per-task", "t": "time", "J": "job-name", "o": "output", "e": "error"},
-        **{"p": "partition", "M": "clusters", "A": "account", "d": "dependency", "a": "array", "D": "chdir", "H": "hold"},
-        **{"W": "wait", "Q": "quiet", "q": "qos", "C": "constraint"},
-    },
-    "squeue": {"h": "noheader", "o": "format", "j": "jobs", "u": "user", "t": "states", "n": "name", "r": "array"},
-    "scancel": {"u": "user", "n": "name", "t": "state", "s": "signal", "Q": "quiet"},
-    "sinfo": {"h": "noheader", "N": "Node"},
-}
-LONG = {
-    "sbatch": ("parsable", "ntasks-per-node", "wrap", "export", "mail-type", "mail-user"),
-    "squeue": ("me",),
-    "scancel": ("me",),
-    "sinfo": (),
-}
-# those without an argument
-FLAGS = {
-    "sbatch": ("hold", "wait", "quiet", "parsable", "exclusive", "requeue", "no-requeue"),
-    "squeue": ("noheader", "me", "array"),
-    "scancel": ("me", "quiet"),
-    "sinfo": ("noheader", "Node"),
-}
-# nodes are whole here, and no job begins twice
-IDLE = ("mem", "mem-per-cpu", "gres", "gpus", "tmp", "qos", "constraint", "comment", "open-mode")
-IDLE_FLAGS = ("exclusive", "requeue", "no-requeue")
 # what the options of qsub are that may be complained of
 OPTION_NAMES = {"q": "--partition", "N": "--job-name", "A": "--account", "J": "--array", "W": "--dependency", "l": "--clusters"}
 POINTS = {"BEGIN": "b", "END": "e", "FAIL": "a", "TIME_LIMIT": "a", "ALL": "abe", "NONE": ""}
 LONGEST_SECONDS = 10_000_000
+UNITS = {"second": 1, "minute": 60, "hour": 3600, "day": 86_400, "week": 604_800}
+MOMENTS = ("%H:%M", "%H:%M:%S", "%Y-%m-%d", "%Y-%m-%dT%H:%M", "%Y-%m-%dT%H:%M:%S")
 NOT_KNOWN = "Invalid job id specified"
-
-
-def read_options(utility: str, words: List[str]) -> Tuple[Given, List[str]]:
-    """The options by their long names, and the operands, of which the script of an sbatch ends the options."""
-    short, flags, place = SHORT[utility], FLAGS[utility], 0
-    known = (*short.values(), *LONG[utility], *(IDLE + IDLE_FLAGS if utility == "sbatch" else ()))
-    found: Given = {}
-    operands: List[str] = []
-    while place < len(words) and not (operands and utility == "sbatch"):
-        word = words[place]
-        place += 1
-        if not word.startswith("-") or word == "-":
-            operands.append(word)
-            continue
-        if word.startswith("--"):
-            name, mark, value = word[2:].partition("=")
-        else:
-            name, mark, value = short.get(word[1], ""), word[2:], word[2:]
-            while name in flags and value:  # several letters in one word
-                found[name] = ""
-                name, mark, value = short.get(value[0], ""), value[1:], value[1:]
-        if name not in known:
-            raise Fault(f"there is no option {word} here")
-        if not mark and name not in flags:
-            if place == len(words):
-                raise Fault(f"{word} needs an argument")
-            value, place = words[place], place + 1
-        found[name] = value
-    return found, operands + words[place:]
 
 
 def number(given: Given, name: str) -> int:
@@ -109,7 +58,10 @@ def in_script(script: bytes) -> Given:
         text = line.decode("utf-8", "surrogateescape").strip()
         if text.startswith("#SBATCH"):
             try:
-                found.update(read_options("sbatch", words_of(text[len("#SBATCH") :]))[0])
+                options, words = read_options("sbatch", words_of(text[len("#SBATCH") :]))
+                if words:
+                    raise Fault(f"{words[0]} is no option")
+                found.update(options)
             except Fault as fault:
                 raise Fault(f"line {place}: {text}: {fault}") from None
         elif text and not text.startswith("#"):
@@ -165,33 +117,81 @@ def pbs_options(path: str, given: Given, name: str, role: Optional[str]) -> Opti
     found += [("l", f"walltime={seconds(given['time'])}")] if "time" in given else []
     found += [("l", f"sites={given['clusters'].replace(',', '+')}")] if "clusters" in given else []
     found += [("h", None)] if "hold" in given else []
+    found += [("a", moment(given["begin"]))] if "begin" in given else []
     found += [("W", "block=true")] if "wait" in given else []
     if "mail-type" in given:
         kinds = given["mail-type"].split(",")
         if not all(kind in POINTS for kind in kinds):
             raise Fault(f"--mail-type {given['mail-type']}: there are {', '.join(POINTS)}")
         found.append(("m", "".join(POINTS[kind] for kind in kinds) or "n"))
-    return [*found, ("W", f"depend={depends(path, given['dependency'], role)}")] if "dependency" in given else found
+    waits = depends(path, given["dependency"], name, role) if "dependency" in given else ""
+    return [*found, ("W", f"depend={waits}")] if waits else found
 
 
-def depends(path: str, text: str, role: Optional[str]) -> str:
-    """A list of dependencies as qsub has it."""
-    parts = [part.split(":") for part in text.split(",")]
+def moment(text: str) -> str:
+    """A moment as qsub has it: `now+1hour`, `16:00`, `2030-01-20`, `2030-01-20T12:34:00`. Fault if it is another."""
+    front, plus, span = text.partition("+")
+    count = span.rstrip("abcdefghijklmnopqrstuvwxyz")
+    unit = next((size for name, size in UNITS.items() if span[len(count) :] and f"{name}s".startswith(span[len(count) :])), 0)
+    unit = unit or (1 if span == count else 0)
+    there: Optional[float] = None
+    if front == "now" and (not plus or (count.isascii() and count.isdigit() and len(count) < 8 and unit)):
+        there = time.time() + int(count or 0) * unit
+    for form in MOMENTS if there is None else ():
+        try:
+            found = time.strptime(text, form)
+        except ValueError:
+            continue
+        here = time.localtime()
+        is_today = not form.startswith("%Y")
+        date = here[:3] if is_today else found[:3]
+        there = time.mktime((*date, *found[3:6], 0, 0, -1))
+        there += 86_400 if is_today and there <= time.time() else 0
+        break
+    if there is None:
+        raise Fault(f"--begin {text}: there are now+COUNTminutes and the like, HH:MM, YYYY-MM-DD and YYYY-MM-DDTHH:MM:SS")
+    return time.strftime("%Y%m%d%H%M.%S", time.localtime(there))
+
+
+def depends(path: str, text: str, name: str, role: Optional[str]) -> str:
+    """A list of dependencies as qsub has it; nothing if all of it has come true."""
+    from ..words.dependencies import OTHERS
+
+    found: List[str] = []
     try:
-        return ",".join(":".join([kind, *identifiers(path, jobs, role)]) for kind, *jobs in parts)
+        for kind, *jobs in (part.split(":") for part in text.split(",")):
+            if kind == "singleton" and not jobs:
+                found += same_jobs(path, name)
+                continue
+            if kind in OTHERS or any("+" in job for job in jobs):
+                identified = jobs  # refused by its name
+            else:
+                identified = identifiers(path, jobs, role)
+            found.append(":".join([kind, *identified]))
     except Fault as fault:
         raise Fault(f"--dependency {text}: {fault}") from None
+    return ",".join(found)
+
+
+def same_jobs(path: str, name: str) -> List[str]:
+    """A dependency on all jobs of this user that have this name; none if there are none."""
+    from .slurm_listings import user_name
+
+    user = user_name()
+    living = [job for job in ask(path, ["jobs"]).json_lines() if job["letter"]]
+    jobs = [job["id"] for job in living if (job["owner"], job["name"]) == (user, name[:15])]
+    return [":".join(["afterany", *jobs])] if jobs else []
 
 
 def sbatch(given: Given, operands: List[str], words: List[str], path: str, role: Optional[str]) -> Told:
     """`sbatch [options] [script]`."""
-    from .submitting import MOST_ARGUMENTS, Submission, facts, is_name, read_script, send
+    from .submitting import MOST_ARGUMENTS, Submission, facts, is_name, quoted, read_script, send
 
-    words_behind = operands if "wrap" in given else operands[1:]
-    if words_behind:
-        raise Fault(f"{words_behind[0]}: no words are passed on here; call the script by --wrap")
+    if "wrap" in given and operands:
+        raise Fault(f"{operands[0]}: there is no script beside --wrap")
     script = f"#!/bin/sh\n{given['wrap']}\n".encode("utf-8", "surrogateescape") if "wrap" in given else read_script(operands)
     given = {**in_script(script), **given}
+    check(given)
     usual = "wrap" if "wrap" in given else os.path.basename((operands or ["sbatch"])[0])
     name = given.get("job-name", usual if is_name(usual) else "sbatch")
     if "chdir" in given:
@@ -205,8 +205,10 @@ def sbatch(given: Given, operands: List[str], words: List[str], path: str, role:
     submission.has_brackets = False
     submission.option_names = OPTION_NAMES
     submission.facts = {**facts(), "arguments": " ".join(words)[:MOST_ARGUMENTS]}
+    if operands[1:]:
+        submission.facts["script_words"] = " ".join(map(quoted, operands[1:]))
     set_tasks(submission, given)
-    submission.resources.idle += [f"--{option}" for option in given if option in IDLE + IDLE_FLAGS]
+    submission.resources.idle += without_effect(given)
     told = send(path, submission, pbs_options(path, given, name, role), script, role)
     return told if not told.status or "wait" in given else Told(told.status, b"", told.words)
 
@@ -236,9 +238,17 @@ def identifiers(path: str, names: Sequence[str], role: Optional[str]) -> List[st
 
 def run(utility: str, words: List[str], path: str, role: Optional[str]) -> Told:
     """Does what a utility is asked."""
+    if utility in ("srun", "salloc"):
+        from .slurm_jobs import instead
+
+        return instead(utility)
     given, operands = read_options(utility, words)
     if utility == "sbatch":
         return sbatch(given, operands, words, path, role)
+    if utility in ("sacct", "scontrol"):
+        from .slurm_jobs import sacct, scontrol
+
+        return (sacct if utility == "sacct" else scontrol)(given, operands, path, role)
     from .slurm_listings import scancel, sinfo, squeue
 
     return {"squeue": squeue, "scancel": scancel, "sinfo": sinfo}[utility](given, operands, path, role)

@@ -5,9 +5,9 @@ import os
 import sys
 
 from ..common.ask import Told, ask
-from ..words.options import OPTIONS, Fault, parse
+from ..words.options import OPTIONS, Fault, parse, unknown_option
 from ..words.resources import Resources, without_effect
-from .directives import WITHOUT_ARGUMENTS, directives
+from .directives import directives
 
 TYPE_CHECKING = False
 if TYPE_CHECKING:
@@ -18,6 +18,8 @@ if TYPE_CHECKING:
 MOST_BYTES = 16 * 1024 * 1024
 MOST_ARGUMENTS = 2000
 LONGEST_NAME = 15
+LONGEST_ACCOUNT = 63
+ACCOUNT_KEPT = "the account {} is kept by the service: qstat -f shows it, and the site's own listings don't"
 FROM_ENVIRONMENT = (("HOME", "home"), ("LANG", "lang"), ("PATH", "path"), ("SHELL", "shell"), ("TZ", "tz"))
 
 
@@ -30,6 +32,7 @@ class Submission:
         self.said: List[str] = []
         self.resources = Resources()
         self.variables: Dict[str, str] = {}
+        self.output_folder = ""  # of files for which no option names another place
         self.is_blocking = False
         self.is_silent = False
         self.utility = "qsub"
@@ -101,6 +104,23 @@ def name_job(submission: Submission, name: str) -> None:
         submission.say(f"the queue tells the first {LONGEST_NAME} characters of the name {name}")
 
 
+def is_account(text: str) -> bool:
+    """Whether a text is an account as centres have them, though the site takes none of its form."""
+    is_of_site = is_name(text) and len(text) <= LONGEST_NAME
+    has_form = text.isascii() and all(it.isalnum() or it in "_.:/+@-" for it in text)
+    return has_form and 0 < len(text) <= LONGEST_ACCOUNT and not is_of_site
+
+
+def set_account(submission: Submission, text: str) -> None:
+    """Gives the job an account. One that the site doesn't take is kept by the service."""
+    submission.facts.pop("account", None)
+    if not is_account(text):
+        submission.words += ["-A", text]
+        return
+    submission.facts["account"] = text
+    submission.say(ACCOUNT_KEPT.format(text))
+
+
 def apply(submission: Submission, options: Options) -> None:
     """Reads the options; of one that is given twice the last counts, but for lists of resources and variables."""
     last = dict(options)
@@ -112,10 +132,12 @@ def apply(submission: Submission, options: Options) -> None:
 
         apply_more(submission, options)
     for letter in "Ap":
-        if letter in last:
-            submission.words += [f"-{letter}"] if last[letter] is None else [f"-{letter}", str(last[letter])]
-    # the site says that there is none of another letter
-    submission.words += [f"-{letter}" for letter in last if letter not in OPTIONS["qsub"] + WITHOUT_ARGUMENTS]
+        if letter in last and last[letter] is None:
+            submission.words.append(f"-{letter}")
+        elif letter == "p" and letter in last:
+            submission.words += ["-p", str(last["p"])]
+        elif letter in last:
+            set_account(submission, str(last["A"]))
     if "h" in last:
         submission.words.append("-h")
     for letter in "lN":
@@ -152,7 +174,10 @@ def read(words: List[str]) -> Tuple[Submission, Options, bytes]:
 
 
 def submit(path: str, words: List[str], role: Optional[str]) -> Told:
-    """Submits a job with its script."""
+    """Submits a job with its script. What an unknown option's argument is nobody knows, so that nothing is read then."""
+    unknown = unknown_option(words)
+    if unknown:
+        return Told(1, b"usage 2\n", f"usage 2 (UnknownOption): qsub has no option {unknown}")
     submission, options, script = read(words)
     return send(path, submission, options, script, role)
 

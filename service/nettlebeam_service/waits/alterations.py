@@ -17,7 +17,7 @@ from .releasing import Releasing
 
 ONE_JOB = re.compile(f"{JOB}\\Z")
 WAITS = ("depend", "at")
-FIXED = ("arguments", "array", "variables", *WAITS)
+FIXED = ("arguments", "array", "queue", "variables", *WAITS)
 
 
 class Alterations:

@@ -1,21 +1,31 @@
-"""The operands that mean members of arrays: `12[]`, `12[3]`, `12[1-9:2]`, each with its site or without."""
+"""The operands that mean members of arrays: `12[]`, `12[3]`, `12[1-9:2]`, and `12`, which is all of the array, each with its site or
+without."""
 from __future__ import annotations
 
 import re
-from typing import List, Optional, Sequence
+from typing import Dict, List, Optional, Sequence
 
 from ..common.slices import Slices
-from ..site.looks import told_of_many
+from ..site.looks import full_name, told_of_many
 from ..site.lines import NAME, Denied
 from ..site.site import Site
-from ..words.options import Fault
+from ..words.options import Fault, parse
 from ..words.ranges import read_range
 from .groups import Groups
 
 OPERAND = re.compile(rf"([0-9]{{1,10}})\[([0-9,:-]*)\](?:\.({NAME}))?\Z")
 # of these a job that is gone is refused; an array means its other members
 OF_LIVING = ("qalter", "qhold", "qrls", "qdel", "qsig", "qmsg", "alter")
-TAKING = (*OF_LIVING, "qstat", "jobs", "details", "script", "why")
+# in these a number alone means an array, too
+OF_NUMBERS = (*OF_LIVING, "qstat", "details")
+TAKING = (*OF_NUMBERS, "jobs", "script", "why")
+
+
+def first_operand(words: Sequence[str]) -> int:
+    """The place of the first word that names a job."""
+    if words[0] in ("qsig", "details"):
+        return 2  # after a signal, or what is to be listed
+    return len(words) - len(parse(words[0], list(words[1:]))[1])
 
 
 class Arrays:
@@ -25,6 +35,15 @@ class Arrays:
         self.here = here
         self.site = site
         self.groups = groups
+
+    def called(self) -> Dict[str, str]:
+        """What each member of an array is called in listings."""
+        return {job: name for group in self.groups if group.indices for job, name in group.shown_names().items()}
+
+    def all_of(self, word: str) -> Optional[List[str]]:
+        """The members of an array that is named by its number alone."""
+        group = self.groups.array(full_name(word, self.here))
+        return list(group.jobs) if group else None
 
     def members(self, word: str) -> Optional[List[str]]:
         """The jobs that a word means, by its brackets; None where it has none."""
@@ -46,15 +65,21 @@ class Arrays:
 
     async def expanded(self, words: Sequence[str]) -> List[str]:
         """The words with the members in the places of arrays."""
-        if words[0] not in TAKING or not any("[" in word for word in words):
+        has_numbers = words[0] in OF_NUMBERS and any(group.indices for group in self.groups)
+        if words[0] not in TAKING or not (has_numbers or any("[" in word for word in words)):
             return list(words)
-        found, slices = [words[0]], Slices()
-        for word in words[1:]:
+        found: List[str] = [words[0]]
+        slices = Slices()
+        start = first_operand(words) if has_numbers else len(words)
+        for place, word in enumerate(words[1:], 1):
             await slices.rest()
             jobs = self.members(word)
+            is_all = jobs is None and place >= start
+            if is_all:
+                jobs = self.all_of(word)
             if jobs is None:
                 found.append(word)
-            elif words[0] in OF_LIVING and "[]" in word:
+            elif words[0] in OF_LIVING and (is_all or "[]" in word):
                 told = await told_of_many(self.site, jobs)
                 found += [job for job in jobs if job in told and told[job]["letter"]] or jobs
             else:

@@ -16,16 +16,17 @@ from ..common.identifiers import IDENTIFIER
 from ..common.slices import Slices
 from ..site.answers import Answer
 from ..site.lines import Denied
-from ..site.looks import full_name, living, origin_of, seen_by, told_of_many
+from ..site.looks import full_name, jobs_told, living, origin_of, seen_by, told_of_many
 from ..site.site import Site
 from ..site.spool import Spool
 from ..words.dependencies import read_depends
 from ..words.options import Fault, parse
-from ..words.ranges import read_range
+from ..words.ranges import MOST_MEMBERS, read_range
 from .groups import ENTERED, MADE, MAKING, Group, Groups
 
 SERVICE = "service/admin"  # as whom the service sets holds and deletes
 JOBS_OF_LINE = 100
+FEW_MEMBERS = 1000  # of an array for which nobody counts all jobs of the site
 AT_ONCE = 250
 UNDO_GAP = 0.01
 MOST_PAIRS = 20_000  # of jobs and those that they wait for, of one user
@@ -86,9 +87,11 @@ class GroupSubmission:
             await slices.rest()
             number, bracket, rest = word.partition("[")
             name = full_name(word, self.here)
+            group = None if bracket else self.groups.array(name)
             if not bracket and not IDENTIFIER.match(name):
                 raise Denied(f"depend: {word[:40]!r} is no identifier of a job")
-            found.update(dict.fromkeys((kind, job) for job in (self.members_of(number, rest) if bracket else [name])))
+            jobs = self.members_of(number, rest) if bracket else group.jobs if group else [name]
+            found.update(dict.fromkeys((kind, job) for job in jobs))
             if len(found) > MOST_PAIRS:
                 raise Denied(f"depend: more than {MOST_PAIRS} jobs are named")
         names = list(dict.fromkeys(job for _, job in found))
@@ -114,6 +117,9 @@ class GroupSubmission:
     async def submit(self, asker: str, words: Sequence[str], facts: Dict[str, Any], script: bytes) -> Tuple[Answer, List[str]]:
         """Submits a job that waits, or an array; the answer with its identifier, or the first refusal, and the jobs."""
         group = await self.group_for(facts, words)
+        full = await self.without_room(len(group.indices))
+        if full:
+            return full, []
         facts = {**facts, "group": group.key}
         line = " ".join([asker, *words[:1], *([] if group.held else ["-h"]), *words[1:]])
         while not self.may_make.is_set():
@@ -136,6 +142,15 @@ class GroupSubmission:
             self.busy.discard(group.key)
         await self.enter(group)
         return Answer(f"{group.array_id if group.indices else group.jobs[0]}\n".encode("ascii")), group.jobs
+
+    async def without_room(self, members: int) -> Optional[Answer]:
+        """The refusal of a large array for which the site has no room. What is deleted in the middle takes its room, too, until it
+        is retired."""
+        if members <= FEW_MEMBERS:
+            return None
+        left = MOST_MEMBERS - sum(origin_of(job["id"]) == self.here for job in await jobs_told(self.site, []))
+        words = f"refused 14 (SiteFull): {self.here} has room for {left} jobs, and the array has {members}"
+        return Answer(b"refused 14\n", words, 1) if members > left else None
 
     async def submit_all(self, group: Group, line: str, facts: Dict[str, Any], script: bytes) -> Optional[Answer]:
         """Submits all jobs of a group, with their scripts; the first refusal, where there is one."""

@@ -54,6 +54,14 @@ class Group:
         number, _, site = self.jobs[0].partition(".")
         return f"{number}[].{site}"
 
+    def __post_init__(self) -> None:
+        """Prepares what is worked out once for an array, since there may be thousands of members."""
+        self.told: Dict[str, Dict[str, str]] = {}
+
+    def shown_names(self) -> Dict[str, str]:
+        """What its members are called in listings."""
+        return {job: self.array_id.replace("[]", f"[{index}]") for index, job in zip(self.indices, self.jobs)}
+
     @property
     def is_waiting(self) -> bool:
         """Whether something has to come true."""
@@ -72,11 +80,11 @@ class Group:
 
     def added(self, job: str) -> Dict[str, str]:
         """What is told of a job of the group besides its own facts."""
-        if not self.indices or job not in self.jobs:
-            return {}
-        told = {"index": str(self.indices[self.jobs.index(job)]), "array_id": self.array_id}
-        told.update(array=range_text(self.indices, self.most))
-        return {**told, "comment": self.comment} if self.comment else told
+        if len(self.told) != len(self.jobs) or (self.jobs and self.jobs[0] not in self.told):
+            fixed = {"array_id": self.array_id, "array": range_text(self.indices, self.most)} if self.jobs else {}
+            self.told = {member: {"index": str(index), **fixed} for index, member in zip(self.indices, self.jobs)}
+        told = self.told.get(job, {})
+        return {**told, "comment": self.comment} if told and self.comment else dict(told)
 
 
 def group_of(value: Optional[Dict[str, Any]]) -> Optional[Group]:

@@ -9,7 +9,10 @@ if TYPE_CHECKING:
 
 TYPES = ("after", "afterok", "afternotok", "afterany")
 # what PBS has besides, and this doesn't
-OTHERS = ("before", "beforeok", "beforenotok", "beforeany", "on", "runone", "synccount", "syncwith")
+OTHERS = (
+    *("before", "beforeok", "beforenotok", "beforeany", "on", "runone", "synccount", "syncwith"),
+    *("aftercorr", "afterburstbuffer", "expand"),
+)
 ARRAYS = "array"  # Torque has `afterokarray:12[]`
 
 
@@ -23,6 +26,8 @@ def read_depends(text: str) -> List[Tuple[str, str]]:
             raise Fault(f"depend={part}: {kind} can't be had here; there are {', '.join(TYPES)}")
         if plain not in TYPES:
             raise Fault(f"depend={part}: {kind or 'nothing'} is none of {', '.join(TYPES)}")
+        if any("+" in job for job in jobs):
+            raise Fault(f"depend={part}: minutes after a + can't be had here; there is -a, or --begin, with a moment")
         # PBS names a server behind a @
         names = [job.partition("@")[0] for job in jobs]
         if not names or not all(names):

@@ -10,7 +10,7 @@ if TYPE_CHECKING:
 
 # the letters with an argument
 OPTIONS = {
-    "qsub": "AaCceJjklMmNoPpqrStuvW",
+    "qsub": "AabCcDdeFGJjKkLlMmNoPpqRrSTtuvWw",
     "qalter": "AaceJjklMmNoprStuvW",
     "qselect": "AhlNpqsu",
     "qsig": "s",
@@ -19,7 +19,12 @@ OPTIONS = {
     "qhold": "h",
     "qrls": "h",
     "pbsnodes": "vCF",
+    "tracejob": "cfnpw",
 }
+
+
+# those of qsub without one
+FLAGS = "fhInVXxz"
 
 
 class Fault(Exception):
@@ -66,6 +71,20 @@ def parse_front(utility: str, words: List[str]) -> Tuple[Options, List[str], boo
             options.append((letter, argument))
             break
     return options, words[place:], False
+
+
+def unknown_option(words: List[str]) -> str:
+    """The first option of a qsub that is none, as it was typed; nothing if all are known."""
+    place = 0
+    while place < len(words) and words[place].startswith("-") and words[place] not in ("-", "--"):
+        word, place = words[place], place + 1
+        for index, letter in enumerate(word[1:], 2):
+            if letter in OPTIONS["qsub"]:
+                place += word[index:] == ""  # the next word is its argument
+                break
+            if letter not in FLAGS:
+                return word if word.startswith("--") else f"-{letter}"
+    return ""
 
 
 def parse(utility: str, words: List[str]) -> Tuple[Options, List[str]]:

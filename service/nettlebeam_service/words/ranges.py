@@ -7,7 +7,7 @@ TYPE_CHECKING = False
 if TYPE_CHECKING:
     from typing import List, Tuple
 
-MOST_MEMBERS = 1000
+MOST_MEMBERS = 10_000  # as many jobs of a site aren't retired
 GREATEST_INDEX = 999_999
 
 

@@ -11,6 +11,9 @@ WITHOUT_EFFECT = (
     *("ncpus", "mem", "vmem", "pmem", "pvmem", "cput", "pcput", "file"),
     *("place", "nice", "arch", "mpiprocs", "ompthreads"),
 )
+# what names a node, which a plan doesn't look at
+NAMING = ("host", "vnode")
+NO_CHOICE = "no job chooses its nodes here: give a number of nodes"
 LONGEST_NUMBER = 9
 MOST_OF_NODE = 4096
 MOST_LINES = 1_000_000
@@ -49,6 +52,8 @@ class Resources:
         """Adds a list; of a resource given twice the last counts."""
         for pair in text.split(","):
             name, mark, value = pair.partition("=")
+            if name in NAMING:
+                raise Fault(f"-l {pair}: {NO_CHOICE}")
             if name in ("nodes", "select") and mark and not is_number(value):
                 self.chunks = [self.chunk(part, name) for part in value.split("+")]
                 value = str(sum(chunk.nodes for chunk in self.chunks))
@@ -64,14 +69,14 @@ class Resources:
             self.pairs["nodes" + mark if name == "select" else name + mark] = seconds_of(value) if name == "walltime" else value
 
     def chunk(self, text: str, resource: str) -> Chunk:
-        """One chunk: `2:ppn=8`, `2:ncpus=8:mpiprocs=4`, `host7:ppn=2`."""
+        """One chunk: `2:ppn=8`, `2:ncpus=8:mpiprocs=4`, `ncpus=8`."""
         first, *others = text.partition("#")[0].split(":")  # Torque has `#shared` and the like behind
         if not first:
             raise Fault(f"-l {resource}: {text!r} is no number of nodes")
         if not is_number(first) and "=" in first:
             first, others = "1", [first, *others]
         elif not is_number(first):
-            self.ignore(f"the property {first}")
+            raise Fault(f"-l {resource}={text}: {first} is no number of nodes, and {NO_CHOICE}")
         numbers = {"ppn": 0, "ncpus": 0, "mpiprocs": 0, "ompthreads": 0}
         for other in others:
             name, mark, value = other.partition("=")
@@ -79,6 +84,8 @@ class Resources:
                 if not is_number(value) or not 0 < int(value) <= MOST_OF_NODE:
                     raise Fault(f"-l {resource}: {other} is no number from 1 to {MOST_OF_NODE}")
                 numbers[name] = int(value)
+            elif name in NAMING:
+                raise Fault(f"-l {resource}={text}: {NO_CHOICE}")
             elif name and mark:
                 self.ignore(name)
             else:
@@ -88,7 +95,7 @@ class Resources:
         times = numbers["ppn"] or numbers["mpiprocs"] or 1
         processors = numbers["ncpus"] or times
         threads = numbers["ompthreads"] or max(1, processors // times)
-        return Chunk(int(first) if is_number(first) else 1, times, processors, threads)
+        return Chunk(int(first), times, processors, threads)
 
     def words(self) -> List[str]:
         """The option for the site."""
