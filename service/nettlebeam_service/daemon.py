@@ -124,7 +124,7 @@ class Service:
         self.waits = Waits(config, self.site, self.spool, self.runs, log, self.changed)
         self.unheard = Unheard(config.name, self.site, keys.spool, log)
         capacity, needed = Capacity(config.name, self.site, log), self.waits.groups.needed
-        had = (capacity, os.getuid(), self.waits.groups.pairs_of, self.waits.details.read_for)
+        had = (capacity, os.getuid(), self.waits.groups.pairs_of, self.waits.details.read_for, self.waits.arrays.named)
         self.user_limits = UserLimits(config.name, config.clients, self.site, self.spool, *had)
         exchange = Exchange(self.site, self.spool, self.backup)
         eligibility = Eligibility(config.name, self.site)

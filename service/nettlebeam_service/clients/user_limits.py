@@ -23,7 +23,7 @@ from ..site.site import Site
 from ..site.spool import Spool
 from ..waits.group_submission import MOST_PAIRS
 from ..words.options import Fault, parse
-from ..words.ranges import MOST_MEMBERS, read_range
+from ..words.ranges import read_range
 
 # what a request costs, in seconds of the loop
 REQUEST = 0.0003
@@ -140,8 +140,8 @@ def pairs_of(request: Request) -> int:
 
 
 class UserLimits:
-    """The shares of all users of a site. What else is counted it is told: how many jobs a user's jobs wait for, and how many bytes
-    of the accounting words have searched and taken."""
+    """The shares of all users of a site. What else is counted it is told: how many jobs a user's jobs wait for, how many bytes of
+    the accounting words have searched and taken, and how many members of arrays words name."""
 
     def __init__(
         self,
@@ -153,6 +153,7 @@ class UserLimits:
         own: int,
         pairs: Callable[[str], int],
         reading: Callable[[Sequence[str]], Tuple[int, int]],
+        members: Callable[[Sequence[str]], int],
     ):
         self.here = here
         self.keys = keys
@@ -163,6 +164,7 @@ class UserLimits:
         self.pairs = pairs
         self.pairs_under_way: Counts[str] = Counter()
         self.reading = reading
+        self.members = members
         self.jobs = Share(self.count_jobs, JOBS_GAP)
         self.bytes = Share(lambda: asyncio.to_thread(spool.bytes_of_owners, here), BYTES_GAP)
 
@@ -170,7 +172,7 @@ class UserLimits:
         """What a request costs, but for the bytes of its head."""
         words, verb = request.words, request.words[:1]
         cost = REQUEST + BYTE_OF_BODY * (request.size or 0) + WORD * len(words) + PAIR * pairs_of(request)
-        cost += MEMBER * (members_of(request) + MOST_MEMBERS * sum("[" in word for word in words))
+        cost += MEMBER * (members_of(request) + self.members(words))
         if verb == ["alter"]:
             altered = set(words[1:])
             cost += ALTERED * len(altered) + BYTE_OF_BODY * self.spool.bytes_of(list(altered)[:MOST_LOOKED_AT], self.here)

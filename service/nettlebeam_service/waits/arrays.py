@@ -45,6 +45,12 @@ class Arrays:
         group = self.groups.array(full_name(word, self.here))
         return list(group.jobs) if group else None
 
+    def named(self, words: Sequence[str]) -> int:
+        """How many members the arrays have that words name."""
+        parts = (word.partition("[") for word in words[1:])
+        names = (full_name(number + rest.partition("]")[2], self.here) for number, _, rest in parts)
+        return sum(len(group.jobs) for group in map(self.groups.array, names) if group)
+
     def members(self, word: str) -> Optional[List[str]]:
         """The jobs that a word means, by its brackets; None where it has none."""
         found = OPERAND.match(word)
