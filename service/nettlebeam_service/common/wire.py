@@ -27,7 +27,7 @@ OF_OPTIONS = (
 # what a client tells of itself with a qsub; the service passes it to the job, and rests nothing on it
 FACTS = (*OF_CLIENTS, *OF_OPTIONS)
 # those that the node of a job is told
-OF_RUNS = (*OF_CLIENTS, "array_id", "chunks", "err", "index", "interpreter", "join", "keep", "out", "slurm", "variables")
+OF_RUNS = (*OF_CLIENTS, "array", "array_id", "chunks", "err", "index", "interpreter", "join", "keep", "out", "slurm", "variables")
 # those that may be longer than the others
 LISTS = ("depend", "resources", "arguments")
 # what the service of a job's origin adds, for the service where it runs

@@ -60,18 +60,6 @@ def more_exports(nodes: int, facts: Dict[str, Any]) -> Dict[str, str]:
     return told
 
 
-def slurm_exports(job: str, name: str, nodes: int, facts: Dict[str, Any]) -> Dict[str, str]:
-    """The variables of Slurm, for what sbatch has submitted. Those by which an MPI takes Slurm to be there are none of them."""
-    tasks, mark, processors = str(facts.get("slurm", "")).partition("x")
-    if not mark or not tasks.isdigit() or not processors.isdigit():
-        return {}
-    told = {"SLURM_JOB_ID": shown_id(job, facts), "SLURM_JOB_NAME": name, "SLURM_JOB_NUM_NODES": str(nodes)}
-    told.update(SLURM_NTASKS=tasks, SLURM_CPUS_PER_TASK=processors, SLURM_SUBMIT_DIR=str(facts.get("folder", "")))
-    if is_member(facts):
-        told.update(SLURM_ARRAY_JOB_ID=str(facts["array_id"]).replace("[]", ""), SLURM_ARRAY_TASK_ID=str(facts["index"]))
-    return told
-
-
 def variables_text(facts: Dict[str, Any], others: Sequence[str]) -> str:
     """What sets the variables that were given with the job, but for these others, right before its script runs."""
     lines: List[str] = []

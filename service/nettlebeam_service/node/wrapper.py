@@ -12,7 +12,8 @@ import shlex
 from typing import Any, Dict, List, NamedTuple, Sequence
 
 from ..words.resources import read_chunks, times_of
-from .job_files import OF_THE_RUN, interpreter_words, more_exports, placed, shown_id, slurm_exports, variables_text
+from .job_files import OF_THE_RUN, interpreter_words, more_exports, placed, shown_id, variables_text
+from .job_slurm import HOST_FILES, mpi_text, slurm_exports
 from .job_start import UNWRITABLE
 
 PATH = "/usr/local/bin:/usr/bin:/bin"
@@ -55,6 +56,7 @@ TEXT = """\
 {ready}
 PBS_NODEFILE=$nodes
 export PBS_NODEFILE
+{mpi}
 {exports}
 umask {umask}
 {change}
@@ -119,7 +121,7 @@ def exports_of(job: str, order: Order) -> Dict[str, str]:
         "PBS_O_QUEUE": "batch",
         "PBS_QUEUE": "batch",
         **more_exports(order["nodes"], facts),
-        **slurm_exports(job, order["name"], order["nodes"], facts),
+        **slurm_exports(job, order["name"], order["hosts"], facts),
         **named,
     }
 
@@ -158,7 +160,8 @@ def text_of(job: str, order: Order, hosts: bytes, shell: str, script: bytes, way
         umask=umask_of(facts),
         shell="" if script.startswith(b"#!") else shlex.quote(shell),
         without_execution=without_execution(script),
-        variables=variables_text(facts, (*exports, *OF_THE_RUN)),
+        variables=variables_text(facts, (*exports, *OF_THE_RUN, *HOST_FILES)),
+        mpi=mpi_text(),
         interpreter=interpreter_words(facts, order["hosts"][0]),
     )
 
