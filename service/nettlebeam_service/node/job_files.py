@@ -75,9 +75,8 @@ def variables_text(facts: Dict[str, Any], others: Sequence[str]) -> str:
     return "\n".join([f"set -- /usr/bin/env {' '.join(by_env)} \"$@\"" if by_env else ":", *lines])
 
 
-def interpreter_words(facts: Dict[str, Any], home: str) -> str:
-    """What chooses the shell that `-S` names for the home node of a job, by its name among the hosts or its own name, or for all;
-    nothing where it names none."""
+def interpreter_of(facts: Dict[str, Any], home: str) -> List[str]:
+    """The shell that `-S` names for the home node of a job, by its name among the hosts or its own name, or for all."""
     chosen, names = "", [home, socket.gethostname()]
     names += [name.partition(".")[0] for name in names]
     for part in str(facts.get("interpreter", "")).split(","):
@@ -87,7 +86,7 @@ def interpreter_words(facts: Dict[str, Any], home: str) -> str:
         elif at and host in names:
             chosen = path
             break
-    return f'set -- {" ".join(map(shlex.quote, chosen.split()))} "$script"' if chosen.strip() else ":"
+    return chosen.split()
 
 
 def path_word(path: str, job: str, facts: Dict[str, Any]) -> str:
