@@ -122,9 +122,9 @@ def ends_say_why(tally, federation):
 
     tally.same("one that ends by itself", said(qsub(site, folder, script="exit 143\n")), "")
     tally.same("its time", said(running("-l", "walltime=2")), "nettlebeam: walltime 2 exceeded")
-    joined = qsub(site, folder, "-l", "walltime=1", "-j", "oe", script="trap 'exit 0' TERM; while :; do sleep 0.1; done\n")
+    joined = qsub(site, folder, "-l", "walltime=5", "-j", "oe", script="trap 'exit 0' TERM; while :; do sleep 0.1; done\n")
     tally.same("also if its script ends well then", (site.finished(joined), "exceeded" in read_full(site.utility("qstat", "-xf", joined)[1])[joined]["comment"]), (0, True))
-    until(lambda: text_of(folder, f"STDIN.o{joined.split('.')[0]}").endswith("nettlebeam: walltime 1 exceeded\n"), 20, "where errors are the output it is there")
+    until(lambda: text_of(folder, f"STDIN.o{joined.split('.')[0]}").endswith("nettlebeam: walltime 5 exceeded\n"), 20, "where errors are the output it is there")
     job = running()
     site.ask("qdel", job)
     tally.same("its owner", said(job), f"nettlebeam: deleted by {ME}")

@@ -46,6 +46,7 @@ def more_exports(nodes: int, facts: Dict[str, Any]) -> Dict[str, str]:
     lines, times, processors = counts_of(facts, min(nodes, 10_000))
     told = {
         "NCPUS": str(processors),
+        "PBS_GPUFILE": "/dev/null",  # no GPU is counted
         "PBS_NODENUM": "0",
         "PBS_NP": str(lines),
         "PBS_NUM_NODES": str(nodes),
