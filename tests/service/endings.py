@@ -9,9 +9,12 @@ import signal
 from tests.service.cluster import NODE, Cluster
 from tests.service.hangs import read, write
 from tests.service.node_accounts import RULES, SUDOERS, has_program
-from tests.service.nodes import HOSTS, make
-from tests.service.scenes import OPERATOR, OTHER, as_user, is_root
+from tests.service.listings import read_full
+from tests.service.nodes import HOSTS, line_of, make
+from tests.service.pbs import text_of, work_in
+from tests.service.scenes import ME, OPERATOR, OTHER, as_user, is_root
 from tests.service.sites import stat_of, until
+from tests.service.waits import qsub
 
 # a process of the job in a group of its own, as `timeout` makes one
 GROUPS = """for number in 1 2; do
@@ -98,4 +101,53 @@ def hidden_groups(tally, federation):
         end_groups(tally, federation, ["unshare", "-m", hide])
 
 
-SCENES = {it.__name__: it for it in (hanging_stops, sudo_groups, hidden_groups)}
+def ends_say_why(tally, federation):
+    """A job that didn't end by itself says why in its file of errors and in its comment, and one that did says nothing."""
+    cluster = Cluster(federation.folder)
+    site = make(federation, cluster)
+    folder = work_in(federation)
+
+    def said(job):
+        number = job.split(".")[0]
+        until(lambda: site.jobs(job)[job]["finished"], 60, f"{job} ends")
+        text = lambda: text_of(folder, f"STDIN.e{number}")  # noqa: E731
+        comment = read_full(site.utility("qstat", "-xfw", job)[1])[job]["comment"]
+        until(lambda: not comment.startswith("nettlebeam: ") or text().count(comment) == 1 and text().endswith(f"{comment}\n"), 20, f"{job} says {comment} in its file, too")
+        return comment if comment.startswith("nettlebeam: ") else text()
+
+    def running(*words):
+        job = qsub(site, folder, *words, script="exec sleep 300\n")
+        until(lambda: (site.jobs(job)[job]["begun"] and text_of(folder, f"STDIN.e{job.split('.')[0]}") is not None), 30, f"{job} runs")
+        return job
+
+    tally.same("one that ends by itself", said(qsub(site, folder, script="exit 143\n")), "")
+    tally.same("its time", said(running("-l", "walltime=2")), "nettlebeam: walltime 2 exceeded")
+    joined = qsub(site, folder, "-l", "walltime=5", "-j", "oe", script="trap 'exit 0' TERM; while :; do sleep 0.1; done\n")
+    tally.same("also if its script ends well then", (site.finished(joined), "exceeded" in read_full(site.utility("qstat", "-xf", joined)[1])[joined]["comment"]), (0, True))
+    until(lambda: text_of(folder, f"STDIN.o{joined.split('.')[0]}").endswith("nettlebeam: walltime 5 exceeded\n"), 20, "where errors are the output it is there")
+    job = running()
+    site.ask("qdel", job)
+    tally.same("its owner", said(job), f"nettlebeam: deleted by {ME}")
+    if is_root(tally):
+        job = running()
+        site.utility("qdel", job, before=as_user(OTHER))
+        tally.same("an operator, and not who wasn't allowed to", site.utility("qdel", job, before=as_user(OPERATOR), environment={"NETTLEBEAM_ROLE": "operator"})[0], 0)
+        tally.same("who is named", said(job), f"nettlebeam: deleted by {OPERATOR}")
+    lost_ones(tally, cluster, site, running, said)
+
+
+def lost_ones(tally, cluster, site, running, said):
+    """Jobs whose runner, or whose node, is lost."""
+    job = running()
+    (runner,) = glob.glob(f"{cluster.folder}/n*/{job}/runner")
+    with open(runner, encoding="ascii") as file:
+        os.kill(json.load(file)["pid"], signal.SIGKILL)
+    tally.same("its runner", said(job), "nettlebeam: lost: what watched it at n1 was killed")
+    job = running()
+    cluster.switch_off("n1")
+    until(lambda: line_of(site, "n1").startswith("n1 ") and " down " in line_of(site, "n1"), 60, "its node is off")
+    cluster.switch_on("n1")
+    tally.same("its node", said(job), "nettlebeam: lost: n1 was started anew")
+
+
+SCENES = {it.__name__: it for it in (hanging_stops, sudo_groups, hidden_groups, ends_say_why)}

@@ -143,6 +143,7 @@ def pbs_variables(tally, federation):
     tally.same("a variable with anything", told(("-V",), 'printf %s "$MINE"\n', {"MINE": "a'b\"c\n$(id)`id`\\"}), "a'b\"c\n$(id)`id`\\")
     tally.same("-S", told(("-S", "/bin/bash"), 'echo "${BASH_VERSION:+bash}"\n'), "bash\n")
     tally.same("-S of another host", told(("-S", "/bin/bash@elsewhere,/bin/sh"), 'echo "$0" | grep -c script\n'), "1\n")
+    tally.same("no GPU", told((), 'wc -l < "$PBS_GPUFILE"\n'), "0\n")
     names = "PBS_ENVIRONMENT PBS_JOBNAME PBS_QUEUE PBS_O_QUEUE PBS_O_HOST PBS_O_LOGNAME PBS_O_WORKDIR PBS_JOBDIR PBS_TASKNUM NCPUS"
     lines = (told((), "env\n") or "").splitlines()
     tally.same("what it is told", [name for name in names.split() if not any(it.startswith(f"{name}=") for it in lines)], [])

@@ -1,5 +1,6 @@
 """Scenes of the utilities around a job's one start: qselect, qsig, qmsg, qmove, qrerun."""
 import os
+import pwd
 import time
 
 from tests.service.moments import PORT, read_page
@@ -155,4 +156,76 @@ def unheard(tally, federation):
     tally.same("then the job is held there", argonne.jobs(held)[held]["holds"], ["u"])
 
 
-SCENES = {it.__name__: it for it in (signals, messages, choices, unheard)}
+# what an owner's profile may do, and what stands in the job's file of errors then
+PROFILES = {
+    "echo noise; echo more >&2; FROM=profile; PATH=/opt/own:$PATH; export FROM PATH; umask 0; cd /; greet() { echo greeted; }; export -f greet": "",
+    "exit 3": "ended with status 3 before the script",
+    "exec true": "ended with status 0 before the script",
+    "exec false": "ended with status 1 before the script",
+    "PATH=/nowhere": "",
+    "exec 7>&- 8>&- 1>&- 2>&-": "before the script",
+    "trap 'exit 9' EXIT; readonly PATH": "",
+    "set -eu; TMPDIR=/nowhere; IFS=/": "",
+    "if": "",
+}
+SHOWN = 'echo "${FROM:-none} $(umask) $PWD ${PATH%%:*} ${MINE:-none}"; [ -d "$TMPDIR" ]; ls -A "$TMPDIR"; type greet > /dev/null 2>&1 && greet; exit 5\n'
+
+
+def profiles(tally, federation):
+    """Scripts run behind a login shell of their owner; whatever a profile does, each runs once, and its output has nothing of it."""
+    folder = f"{federation.folder}/its"
+    os.mkdir(folder)
+    (site,) = federation.make("argonne:4", jobs=f"start = env HOME={folder}\nleast_uid = 0")
+
+    def profile(text):
+        with open(f"{folder}/.bash_profile", "w", encoding="ascii") as file:
+            file.write(f"{text}\n")
+
+    def ran(script, *words, utility="qsub", said="", **how):
+        job = site.utility(utility, *words, given=f"{script}\necho once >> {folder}/ran\n".replace("exit 5\n\necho", "echo") + "exit 5\n", cwd=folder, **how)[1].split()[-1]
+        tally.same(f"{words}: its status", site.finished(job), 5)
+        number = job.split(".")[0]
+        errors = read(f"{folder}/STDIN.e{number}") if utility == "qsub" else ""
+        tally.same(f"{words}: its errors: {errors}", (said in errors, bool(errors)), (True, bool(said)))
+        tally.same(f"{words}: it ran once", read(f"{folder}/ran"), "once\n")
+        os.remove(f"{folder}/ran")
+        return read(f"{folder}/STDIN.o{number}" if utility == "qsub" else f"{folder}/slurm-{number}.out")
+
+    sets, bash = next(iter(PROFILES)), "#!/bin/bash\n"
+    profile(sets)
+    own = f"profile 0027 {folder} /opt/own none\ngreeted\n"
+    umask = {"before": ["sh", "-c", 'umask 027; exec "$@"', "sh"]}
+    tally.same("#!/bin/bash", ran(bash + SHOWN, **umask), own)
+    tally.same("#!/usr/bin/env bash", ran("#!/usr/bin/env bash\n" + SHOWN, **umask), own)
+    tally.same("-S", ran(SHOWN, "-S", "/bin/bash", **umask), own)
+    if pwd.getpwuid(os.getuid()).pw_shell == "/bin/bash":
+        tally.same("the owner's shell", ran(SHOWN, **umask), own)
+        tally.same("of another program", ran(f"#!/usr/bin/env -S sh\n{SHOWN}", **umask).split()[0], "profile")
+    given = {"environment": {"FROM": "here", "MINE": "m", "PATH": f"/other:{os.environ['PATH']}"}, **umask}
+    tally.same("-V goes before", ran(bash + SHOWN, "-V", **given), f"here 0027 {folder} /other m\ngreeted\n")
+    tally.same("so does -v", ran(bash + SHOWN, "-v", "FROM=v", **given), f"v 0027 {folder} /opt/own none\ngreeted\n")
+    tally.same("sbatch", ran(bash + SHOWN, utility="sbatch", **given), f"here 0027 {folder} /other m\ngreeted\n")
+    for text, said in list(PROFILES.items())[1:]:
+        profile(text)
+        ran(bash + "exit 5\n", "-v", f"AFTER={text}".replace(",", " "), said=said)
+    profile("touch began; sleep 60")
+    job = site.submit("#!/bin/bash\necho ran > never\n", folder=folder)
+    until(lambda: os.path.exists(f"{folder}/began"), 20, "its profile is read")
+    time.sleep(1)  # a bash that is just starting a process may take no notice of a signal
+    site.ask("qdel", job)
+    tally.same("one that is deleted meanwhile doesn't run", (site.finished(job), os.path.exists(f"{folder}/never")), (143, False))
+
+
+def bare(tally, federation):
+    """Without login shells nothing of a profile is read; a shell that is configured runs scripts that name none."""
+    folder = f"{federation.folder}/its"
+    os.mkdir(folder)
+    for name in (".profile", ".bash_profile"):
+        with open(f"{folder}/{name}", "w", encoding="ascii") as file:
+            file.write("FROM=profile; export FROM\n")
+    (site,) = federation.make("argonne:4", jobs=f"start = env HOME={folder}\nleast_uid = 0\nlogin = no\nshell = /bin/sh")
+    job = site.submit('echo "${FROM:-none} ${BASH_VERSION:+bash}"; exit 5\n', folder=folder)
+    tally.same("it runs", (site.finished(job), read(f"{folder}/STDIN.o{job.split('.')[0]}")), (5, "none \n"))
+
+
+SCENES = {it.__name__: it for it in (signals, messages, choices, unheard, profiles, bare)}

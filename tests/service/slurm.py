@@ -1,8 +1,11 @@
-"""A scene of what those use who come from Slurm: sbatch, squeue, scancel and sinfo."""
+"""Scenes of what those use who come from Slurm: sbatch, squeue, scancel and sinfo."""
 import json
+import os
 import re
+import shutil
 import time
 
+from tests.service.node_accounts import has_program
 from tests.service.pbs import text_of, work_in
 from tests.service.scenes import ME
 from tests.service.sites import until
@@ -44,7 +47,7 @@ def slurm(tally, federation):
     told = site.jobs(number)[f"{number}.argonne"]
     tally.same("what it asks for", [told[key] for key in ("name", "nodes", "limit", "sites")], ["tasks", 2, 93780, ["argonne"]])
     site.finished(f"{number}.argonne")
-    wanted = ".argonne tasks 6 2 1\n6\nerror\n"
+    wanted = " tasks 6 2 1\n6\nerror\n"
     tally.same("what it was told, and output and errors in one file", text_of(folder, f"out-tasks-{number}.txt"), wanted)
     job = parsable(site, folder, "-M", "argonne", "-A", "chem", "-c", "3", "--wrap", 'echo "$OMP_NUM_THREADS $MINE"; echo e >&2', "-e", "e.%j", environment={"MINE": "x"})
     site.finished(job)
@@ -193,4 +196,51 @@ def slurm_listings(tally, federation):
     tally.same("qsub -I", site.utility("qsub", "-I")[:2], (2, ""))
 
 
-SCENES = {"slurm": slurm, "slurm_listings": slurm_listings}
+TOLD = """\
+JOBID JOB_ID NNODES JOB_NUM_NODES JOB_NODELIST NODELIST NTASKS NPROCS NTASKS_PER_NODE TASKS_PER_NODE JOB_CPUS_PER_NODE JOB_PARTITION SUBMIT_DIR \
+SUBMIT_HOST JOB_NAME PROCID ARRAY_JOB_ID ARRAY_TASK_ID ARRAY_TASK_MIN ARRAY_TASK_MAX ARRAY_TASK_COUNT"""
+SHOW = "".join(f'echo "{name} ${{SLURM_{name}-none}}"\n' for name in TOLD.split()) + 'echo "NODENAME ${SLURMD_NODENAME-none}"\n'
+# where MPIs start processes; the hosts of the scene can't be reached, so one only says where, and the other is given this host
+MPIS = {
+    "mpirun.openmpi": ("mpirun.openmpi --do-not-launch --display-map true 2> /dev/null | grep 'Data for node'", ["h1 3", "h2 3"]),
+    "mpiexec.hydra": ("mpiexec.hydra -hosts $(hostname) -n 1 true", []),
+}
+
+
+def told_by(tally, site, folder, *words, **how):
+    """What a job that sbatch submits is told."""
+    job = parsable(site, folder, *words, "--wrap", SHOW, **how)
+    number = job.partition(".")[0]
+    tally.same(f"{words}: its status", site.finished(job if "-a" not in words else f"{int(number) + 1}.argonne"), 0)
+    name = f"slurm-{number}_4.out" if "-a" in words else f"slurm-{number}.out"
+    return number, dict(line.split(" ", 1) for line in text_of(folder, name).splitlines())
+
+
+def slurm_variables(tally, federation):
+    """The variables of Slurm in a job of sbatch, and MPIs there, which start processes on all of its hosts without Slurm."""
+    (site,) = federation.make("argonne:4", jobs="hosts = h1 h2 h3 h4")
+    folder = work_in(federation)
+    number, told = told_by(tally, site, folder, "-n", "6", "-N", "2", "-J", "six")
+    own = {"JOBID": number, "JOB_ID": number, "NNODES": "2", "JOB_NUM_NODES": "2", "JOB_NODELIST": "h1,h2", "NODELIST": "h1,h2", "NODENAME": "h1"}
+    own.update(NTASKS="6", NPROCS="6", NTASKS_PER_NODE="3", TASKS_PER_NODE="3(x2)", JOB_CPUS_PER_NODE="3(x2)", JOB_PARTITION="batch", PROCID="0")
+    own.update(SUBMIT_DIR=folder, SUBMIT_HOST=os.uname().nodename, JOB_NAME="six")
+    tally.same("a job", told, {**own, **{name: "none" for name in TOLD.split() if name.startswith("ARRAY")}})
+    number, told = told_by(tally, site, folder, "-a", "2-8:2")
+    tally.same("a member of an array", {name: it for name, it in told.items() if name.startswith("ARRAY") or name == "JOB_ID"}, {
+        "JOB_ID": str(int(number) + 1), "ARRAY_JOB_ID": number, "ARRAY_TASK_ID": "4", "ARRAY_TASK_MIN": "2", "ARRAY_TASK_MAX": "8", "ARRAY_TASK_COUNT": "4",
+    })
+    plain = site.utility("qsub", given="env\n", cwd=folder)[1].strip()
+    tally.same("a job of qsub", (site.finished(plain), "SLURM" in text_of(folder, f"STDIN.o{plain.split('.')[0]}")), (0, False))
+    lines = site.utility("qsub", "-v", "HYDRA_HOST_FILE=x,OMPI_MCA_plm=rsh", given='cmp "$HYDRA_HOST_FILE" "$PBS_NODEFILE" && echo $OMPI_MCA_plm $HYDRA_RMK\n', cwd=folder)[1].strip()
+    tally.same("its host file, and the user's own way", (site.finished(lines), text_of(folder, f"STDIN.o{lines.split('.')[0]}")), (0, "rsh user\n"))
+    as_root = {"OMPI_ALLOW_RUN_AS_ROOT": "1", "OMPI_ALLOW_RUN_AS_ROOT_CONFIRM": "1", "PATH": os.environ["PATH"]}
+    for program, (text, wanted) in MPIS.items():
+        if not has_program(tally, "slurm_variables", shutil.which(program), program, "NETTLEBEAM_NEEDS_MPI"):
+            continue
+        job = parsable(site, folder, "-n", "6", "-N", "2", "--wrap", text, environment=as_root)
+        tally.same(f"{program} runs", site.finished(job), 0)
+        found = re.findall(r"Data for node: (\S+)\s+Num slots: ([0-9]+)", text_of(folder, f"slurm-{job.split('.')[0]}.out"))
+        tally.same(f"{program} has all hosts", [" ".join(pair) for pair in found], wanted)
+
+
+SCENES = {"slurm": slurm, "slurm_listings": slurm_listings, "slurm_variables": slurm_variables}

@@ -43,7 +43,7 @@ class NodeRequests:
 
     def lost(self, user: str, job: str) -> Reply:
         """Somebody says that the node of a job is off. Where it isn't, two jobs will be on it."""
-        why = self.runs.lose(job)
+        why = self.runs.lose(job, user)
         if why:
             return Reply(1, b"", why)
         self.log(f"{job}: {user} says that it is lost")

@@ -159,6 +159,7 @@ class Requests:
         if not self.site.known.changes(request.words):
             return (await self.site.look(line)).reply()
         answer = await self.unheard.with_words(request.words, await self.site.ask(line))
+        self.signals.note(client, request.words, answer)
         if verb == "roster":
             with contextlib.suppress(Stopped):  # the answer is there, and the next child is asked for the roster anyhow
                 await self.site.learn_roster()

@@ -12,7 +12,8 @@ from typing import Any, Dict, NamedTuple, Optional, Sequence
 from ..common.wire import Reply, Request
 from ..jobs.active_runs import Runs
 from ..nodes.link import Answer, NodeFault
-from ..site.looks import Job, told_of
+from ..site.answers import Answer as SiteAnswer
+from ..site.looks import Job, full_name, told_of
 from ..site.lines import JOB, Client, Denied, asker, name_of
 from ..site.site import Site
 
@@ -85,6 +86,13 @@ class Signals:
         if not job["begun"]:
             return Refusal("refused 11", f"{job['id']} hasn't begun")
         return None
+
+    def note(self, client: Client, words: Sequence[str], answer: SiteAnswer) -> None:
+        """Keeps who deleted jobs that run here, which is said of their ends."""
+        names = list(dict.fromkeys(full_name(word, self.name) for word in words[1:] if ONE_JOB.match(word)))
+        for name in answer.is_about_each(names, "done") if words[0] == "qdel" else ():
+            if name in self.runs.all:
+                self.runs.all[name].deleter = name_of(client)
 
     async def signal(self, job: str, number: int) -> Optional[Refusal]:
         """Has a job's runner send a signal to all processes of the job."""

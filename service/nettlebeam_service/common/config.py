@@ -62,7 +62,8 @@ class JobKeys:
     health: float = 300.0
     retry_most: float = 300.0
     cgroup: str = ""
-    shell: str = "/bin/sh"
+    shell: str = ""
+    login: str = "yes"
     elsewhere: str = ""
     mail: Words = ()
     every: float = 10.0
@@ -123,6 +124,7 @@ SECTIONS = {"site": SiteKeys, "clients": ClientKeys, "jobs": JobKeys, "page": Pa
 QUEUES = "queues"
 RUNS = ("yes", "drain", "no")
 COUNTS = ("yes", "no")
+LOGINS = ("yes", "no")
 GREATEST_PORT = 65_535
 
 
@@ -225,6 +227,8 @@ def check_jobs(keys: JobKeys) -> None:
         raise ConfigFault(f"[jobs] hosts: {twice[0]} is there twice")
     if keys.count not in COUNTS:
         raise ConfigFault(f"[jobs] count = {keys.count}: none of {', '.join(COUNTS)}")
+    if keys.login not in LOGINS:
+        raise ConfigFault(f"[jobs] login = {keys.login}: none of {', '.join(LOGINS)}")
     if keys.link and not keys.hosts:
         raise ConfigFault("[jobs] link: name the hosts that it leads to")
     if keys.link and not any("{host}" in word for word in keys.link):

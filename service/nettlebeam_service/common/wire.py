@@ -28,7 +28,7 @@ OF_OPTIONS = (
 FACTS = (*OF_CLIENTS, *OF_OPTIONS)
 # those that the node of a job is told
 OF_RUNS = (
-    *(*OF_CLIENTS, "array_id", "chunks", "err", "index", "interpreter", "join", "keep", "out"),
+    *(*OF_CLIENTS, "array", "array_id", "chunks", "err", "index", "interpreter", "join", "keep", "out"),
     *("queue", "script_words", "slurm", "variables"),
 )
 # those that may be longer than the others

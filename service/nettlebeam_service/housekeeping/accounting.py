@@ -1,6 +1,6 @@
 """Accounting: a line of JSON for each job that is gone, as the site tells it, in a file for each month; no job twice. Of a job that
 ran here it has `used` behind that: the seconds of processors (`cput`), the kilobytes of the greatest of its processes (`mem`), and
-the seconds that it took (`walltime`), as far as its node could tell; of one that the service deleted `comment`, why.
+the seconds that it took (`walltime`), as far as its node could tell; of one that didn't end by itself `comment`, why.
 
     accounting/2026-11.jsonl    the jobs that were recorded in that month
     accounting/recorded         the identifiers of all of them, so that files of months may be moved away, each with the second in

@@ -171,7 +171,8 @@ class Runs:
                 self.spawn(self.start_elsewhere(run, str(state["unrun"]), bool(state.get("of_owner"))))
                 return
             run.node.has_run(run.owner)
-            run.exit = Exit(int(state["status"]), int(state["moment"]), state.get("used"))
+            why = run.why_ended(str(state.get("ended_by", "")))
+            run.exit = Exit(int(state["status"]), int(state["moment"]), state.get("used"), why)
             self.spawn(self.settle(run))
         elif run.may_start_again():
             self.starting.add(run.job)
@@ -179,7 +180,7 @@ class Runs:
         else:
             if run.nonce:
                 self.log(f"{run.job}: at {run.node.shown} it is {what}")
-            run.exit = lost()
+            run.exit = lost(run.why_lost(what))
             self.spawn(self.settle(run))
 
     def doubt_of(self, run: Run, why: str) -> None:
@@ -189,7 +190,7 @@ class Runs:
             self.log(f"{run.job}: it isn't known whether it runs, since {run.node.shown} can't be asked: {why}")
         if run.is_over():
             self.log(f"{run.job}: {run.node.shown} has ended it by now")
-            run.exit = lost()
+            run.exit = lost(f"lost: {run.node.shown} couldn't be asked of it, and its time is over")
 
     # Ends
 
@@ -200,6 +201,9 @@ class Runs:
         self.settling.add(run.job)
         try:
             self.spool.add_exit(run.job, list(run.exit))
+            if run.exit.why:
+                with contextlib.suppress(OSError, ValueError):
+                    await asyncio.to_thread(self.spool.annotate, run.job, {"comment": f"nettlebeam: {run.exit.why}"})
             answer = await self.site.ask(f"finish {run.job} {run.exit.moment} {run.exit.status}")
             self.log(f"{run.job}: ended with status {run.exit.status}: {answer.shown()}")
             self.all.pop(run.job, None)
@@ -210,12 +214,9 @@ class Runs:
             self.settling.discard(run.job)
 
     async def leave(self, run: Run) -> None:
-        """Has a node forget a run that has ended. If it never ran, its owner reads why, as far as that can be written."""
-        why = run.exit.unrun if run.exit else ""
-        if why:
-            text = f"nettlebeam: this job never ran, since {run.node.shown} couldn't start it: {why}"
-            with contextlib.suppress(OSError, ValueError):
-                await asyncio.to_thread(self.spool.annotate, run.job, {"comment": text})
+        """Has a node forget a run that has ended. If it didn't end by itself, its owner reads why, as far as that can be written."""
+        if run.exit and run.exit.why:
+            text = f"nettlebeam: {run.exit.why}"
             await self.ask_aside(run.node, {"ask": "message", "id": run.job, "files": ["err"]}, text.encode())
         await self.ask_aside(run.node, {"ask": "forget", "id": run.job, "nonce": run.nonce})
 
@@ -226,7 +227,7 @@ class Runs:
             del self.heard_ends[next(iter(self.heard_ends))]
         self.heard_ends[job] = moment
 
-    def lose(self, job: str) -> str:
+    def lose(self, job: str, user: str) -> str:
         """Somebody says that a job's node is off: why it isn't believed, or nothing."""
         run = self.all.get(job)
         if run is None:
@@ -234,7 +235,7 @@ class Runs:
         if run.is_watched() or not run.doubt:
             return f"{run.node.shown} answers: the job is ended by qdel"
         self.log(f"{job}: {run.node.shown} is off, as somebody says")
-        run.exit = lost()
+        run.exit = lost(f"lost: {run.node.shown} is off, as {user} says")
         self.spawn(self.settle(run))
         return ""
 

@@ -7,7 +7,9 @@ from dataclasses import dataclass, field
 from typing import Any, Dict, List, NamedTuple, Optional
 
 from ..common.processes import boot
-from ..node.job_runner import LATE_SECONDS
+from ..node.job_runner import LATE_SECONDS, ORDER, OVER
+from ..node.leftovers import KILLED
+from ..node.store import LOST as LOST_STATE
 from ..node.store import WINDOW_SECONDS, boot_time
 from ..nodes.link import NodeLink
 from ..nodes.node import Node
@@ -18,22 +20,18 @@ AGAIN_SECONDS = 120.0  # how long behind its begin a start that didn't reach its
 
 
 class Exit(NamedTuple):
-    """How a script ended: its status, the second, and what it used, if that is known; or why it never ran."""
+    """How a script ended: its status, the second, what it used, if that is known, and what ended it or why it never ran, if it
+    didn't end by itself."""
 
     status: int
     moment: int
     used: Optional[Dict[str, int]] = None
-    unrun: str = ""
+    why: str = ""
 
 
-def lost(unrun: str = "") -> Exit:
+def lost(why: str) -> Exit:
     """The end of a job of which nothing is known, or that never ran."""
-    return Exit(LOST, int(time.time()), None, unrun)
-
-
-def deleted() -> Exit:
-    """The end of a job that was deleted before its script ran."""
-    return Exit(DELETED, int(time.time()))
+    return Exit(LOST, int(time.time()), None, why)
 
 
 @dataclass
@@ -60,6 +58,7 @@ class Run:
     is_looked_after: bool = False
     is_told_to_end: bool = False
     is_unwanted: bool = False  # whether it was deleted before it could be started
+    deleter: str = ""  # who deleted it, if that was here
     doubt: str = ""
 
     def record(self) -> Dict[str, Any]:
@@ -75,6 +74,26 @@ class Run:
     def may_start_again(self) -> bool:
         """Whether this process may have it started by another nonce, since none of the job's was used."""
         return self.is_mine and not self.is_sent and boot_time() - self.began < AGAIN_SECONDS
+
+    def deletion(self) -> Exit:
+        """The end of a job that was deleted before its script ran."""
+        return Exit(DELETED, int(time.time()), None, f"{self.deleted()} before it ran")
+
+    def deleted(self) -> str:
+        """That it was deleted, in words."""
+        return f"deleted by {self.deleter}" if self.deleter else "deleted"
+
+    def why_ended(self, by: str) -> str:
+        """What ended its script, by the node's word for it, in words; nothing if the script ended by itself."""
+        told = {OVER: f"walltime {self.limit} exceeded", ORDER: self.deleted()}
+        return {**told, KILLED: f"lost: what watched it at {self.node.shown} was killed"}.get(by, "")
+
+    def why_lost(self, state: str) -> str:
+        """Why nothing is known of its end, by what its node says of it, in words."""
+        if not self.nonce:
+            return "this job never ran, since its start was never sent"
+        what = "was started anew" if state == LOST_STATE else "knows nothing of it"
+        return f"lost: {self.node.shown} {what}"
 
     def is_watched(self) -> bool:
         """Whether its node tells of its end by the link that is there."""

@@ -19,7 +19,7 @@ from ..site.backup import Backup
 from ..site.spool import Spool
 from .active_runs import Runs
 from .node_reports import NodeReports
-from .run_record import Run, deleted, lost
+from .run_record import Run, lost
 
 MOST_TRIES = 3  # of a start that a node answers to be late
 FRESH_SECONDS = 30.0  # after so many a nonce is asked for anew before it is used
@@ -140,6 +140,7 @@ class Starts:
 
     async def try_others(self, run: Run, why: str, but: Set[str]) -> None:
         """Tries nodes until a start is sent, or the run has an end: but for these, of which each is tried once if there are some."""
+        unrun = f"this job never ran, since {run.node.shown} couldn't start it: {why}"
         while run.may_start_again() and not run.is_unwanted and not run.exit:
             if self.runs.move(run, but):
                 but |= {run.node.name} if but else set()
@@ -149,7 +150,7 @@ class Starts:
             elif but:
                 break
             await asyncio.sleep(LOOK_SECONDS)
-        run.exit = run.exit or (deleted() if run.is_unwanted else lost(why))
+        run.exit = run.exit or (run.deletion() if run.is_unwanted else lost(unrun))
 
     async def try_there(self, run: Run) -> bool:
         """Has a run started by its node; whether a start was sent."""
@@ -191,5 +192,5 @@ class Starts:
             await self.start_again(run)
         else:
             self.log(f"{run.job}: its start didn't reach {run.node.shown}, so it is never started")
-            run.exit = lost()
+            run.exit = lost(f"this job never ran, since its start didn't reach {run.node.shown}")
             await self.runs.settle(run)

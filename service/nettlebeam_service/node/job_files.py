@@ -46,6 +46,7 @@ def more_exports(nodes: int, facts: Dict[str, Any]) -> Dict[str, str]:
     lines, times, processors = counts_of(facts, min(nodes, 10_000))
     told = {
         "NCPUS": str(processors),
+        "PBS_GPUFILE": "/dev/null",  # no GPU is counted
         "PBS_NODENUM": "0",
         "PBS_NP": str(lines),
         "PBS_NUM_NODES": str(nodes),
@@ -57,18 +58,6 @@ def more_exports(nodes: int, facts: Dict[str, Any]) -> Dict[str, str]:
         told["OMP_NUM_THREADS"] = str(chunks[0].threads)
     if is_member(facts):
         told.update(PBS_ARRAYID=facts["index"], PBS_ARRAY_ID=facts["array_id"], PBS_ARRAY_INDEX=facts["index"])
-    return told
-
-
-def slurm_exports(job: str, name: str, nodes: int, facts: Dict[str, Any]) -> Dict[str, str]:
-    """The variables of Slurm, for what sbatch has submitted. Those by which an MPI takes Slurm to be there are none of them."""
-    tasks, mark, processors = str(facts.get("slurm", "")).partition("x")
-    if not mark or not tasks.isdigit() or not processors.isdigit():
-        return {}
-    told = {"SLURM_JOB_ID": shown_id(job, facts), "SLURM_JOB_NAME": name, "SLURM_JOB_NUM_NODES": str(nodes)}
-    told.update(SLURM_NTASKS=tasks, SLURM_CPUS_PER_TASK=processors, SLURM_SUBMIT_DIR=str(facts.get("folder", "")))
-    if is_member(facts):
-        told.update(SLURM_ARRAY_JOB_ID=str(facts["array_id"]).replace("[]", ""), SLURM_ARRAY_TASK_ID=str(facts["index"]))
     return told
 
 
@@ -87,9 +76,8 @@ def variables_text(facts: Dict[str, Any], others: Sequence[str]) -> str:
     return "\n".join([f"set -- /usr/bin/env {' '.join(by_env)} \"$@\"" if by_env else ":", *lines])
 
 
-def interpreter_words(facts: Dict[str, Any], home: str) -> str:
-    """What chooses the shell that `-S` names for the home node of a job, by its name among the hosts or its own name, or for all;
-    nothing where it names none."""
+def interpreter_of(facts: Dict[str, Any], home: str) -> List[str]:
+    """The shell that `-S` names for the home node of a job, by its name among the hosts or its own name, or for all."""
     chosen, names = "", [home, socket.gethostname()]
     names += [name.partition(".")[0] for name in names]
     for part in str(facts.get("interpreter", "")).split(","):
@@ -99,7 +87,7 @@ def interpreter_words(facts: Dict[str, Any], home: str) -> str:
         elif at and host in names:
             chosen = path
             break
-    return f'set -- {" ".join(map(shlex.quote, chosen.split()))} "$script"' if chosen.strip() else ":"
+    return chosen.split()
 
 
 def path_word(path: str, job: str, facts: Dict[str, Any]) -> str:

@@ -14,7 +14,7 @@ import os
 import resource
 import signal
 import time
-from typing import Any, Dict, List, Optional
+from typing import Any, Dict, List, Optional, Tuple
 
 from .job_processes import CLEANING_SECONDS, Script, adopt, boot_time, has_ended_within, note, quietly, tick_of
 from .job_start import ORDERED, Start, await_word, why_unrun
@@ -25,6 +25,7 @@ DELETED = 143
 LEAST_KILLED = 128  # from this status on the owner's shell may have left its folder
 LATE_SECONDS = 30  # how long behind the end of its nonce a script may start
 LONGEST_WAIT = 60.0
+OVER, ORDER = "limit", "order"  # what brings a script's end about, if it isn't the script
 
 
 def overwrite(path: str, value: Dict[str, Any], is_synced: bool = False) -> None:
@@ -120,15 +121,16 @@ def asked_signal() -> Optional[int]:
         return None
 
 
-def wait(script: Script, begun: Start, end: float, grace: float) -> int:
-    """Waits for the script's end, and brings it about at a moment or when SIGTERM comes: a status."""
+def wait(script: Script, begun: Start, end: float, grace: float) -> Tuple[int, str]:
+    """Waits for the script's end, and brings it about at a moment or when SIGTERM comes: a status, and what brought it about."""
     expected = {signal.SIGCHLD, signal.SIGTERM, signal.SIGUSR1}
-    kill = None
+    kill, by = None, ""
     while not script.has_ended():
         script.reap_others()
         begun.listen()
         now = boot_time()
         if kill is None and now >= end:
+            by = by or OVER
             script.signal(signal.SIGTERM)
             kill = now + grace
         elif kill is not None and now >= kill:
@@ -138,13 +140,13 @@ def wait(script: Script, begun: Start, end: float, grace: float) -> int:
         rest = (end if kill is None else kill) - boot_time()
         got = signal.sigtimedwait(expected, min(LONGEST_WAIT, max(0.0, rest)))  # which doesn't count what was suspended
         if got is not None and got.si_signo == signal.SIGTERM and kill is None:
-            end = 0.0
+            end, by = 0.0, ORDER
         elif got is not None and got.si_signo == signal.SIGUSR1:
             number = asked_signal()
             if number is not None:
                 script.signal(number)
                 os.remove("signal")
-    return script.end()
+    return script.end(), by
 
 
 def run_script(run: Dict[str, Any]) -> Dict[str, Any]:
@@ -157,15 +159,17 @@ def run_script(run: Dict[str, Any]) -> Dict[str, Any]:
         begun.close()
     else:
         begun.give_all()
-    status = wait(script, begun, 0.0 if why else end, run["grace"])
+    status, by = wait(script, begun, 0.0 if why else end, run["grace"])
     ended = {"status": status, "used": script.used()}
     script.leave()
     begun.listen()
     if begun.words():
         note(begun.words().decode("utf-8", "replace"))
     if why == ORDERED:
-        return {**ended, "status": DELETED}
-    return {**ended, "status": LOST, **why_unrun(why, begun, status)} if why else ended
+        return {**ended, "status": DELETED, "ended_by": ORDER}
+    if why:
+        return {**ended, "status": LOST, **why_unrun(why, begun, status)}
+    return {**ended, "ended_by": by} if by else ended
 
 
 def write_exit(ended: Dict[str, Any]) -> None:

@@ -13,6 +13,7 @@ from .owner_calls import help_job
 from .store import LEFT, Store
 
 LOST_STATUS = 255
+KILLED = "kill"  # what ended a run: that its runner was killed
 STOP_TRIES = 3
 DYING_SECONDS = 1.0
 
@@ -45,7 +46,7 @@ class Leftovers:
                 if not self.clear(job):
                     self.on_stuck(job)
                     return
-                self.store.end(job, LOST_STATUS)
+                self.store.end(job, LOST_STATUS, ended_by=KILLED)
             finally:
                 os.close(lock)
         except OSError:

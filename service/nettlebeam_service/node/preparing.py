@@ -7,6 +7,7 @@ import secrets
 from typing import Any, Dict
 
 from .leftovers import Leftovers
+from .login_shell import shell_of
 from .settings import NodeKeys, files_of_jobs
 from .shown import let_through, put_shown
 from .store import LEFT, NoRoom, Store
@@ -31,8 +32,8 @@ class Preparing:
         if others:
             return {"answer": "busy", "by": others[0]}
         nodes = nodes_text(order["hosts"], order["facts"])
-        way = Way(self.store.path(job, "own"), f"nettlebeam-{secrets.token_hex(8)}", is_shown)
-        text = os.fsencode(text_of(job, order, nodes, self.keys.shell, script, way))
+        way = Way(self.store.path(job, "own"), f"nettlebeam-{secrets.token_hex(8)}", is_shown, self.keys.login == "yes")
+        text = os.fsencode(text_of(job, order, nodes, shell_of(self.keys.shell, owner.pw_shell), script, way))
         try:
             self.store.check_room(len(text) + len(nodes) + len(script))
             if is_shown:

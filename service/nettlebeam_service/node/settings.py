@@ -7,7 +7,7 @@ import resource
 from dataclasses import asdict, dataclass
 from typing import Any, Dict, Tuple
 
-from ..common.config import ConfigFault, JobKeys, read_section
+from ..common.config import LOGINS, ConfigFault, JobKeys, read_section
 
 CONFIG = "/etc/nettlebeam/node.conf"
 SECTION = "node"
@@ -22,7 +22,8 @@ class NodeKeys:
     start: Words = ()
     stop: Words = ()
     least_uid: int = 1000
-    shell: str = "/bin/sh"
+    shell: str = ""
+    login: str = "yes"
     grace: float = 10.0
     free_bytes: int = 16 * 1024 * 1024
     cgroup: str = ""
@@ -44,6 +45,8 @@ def read_node_keys(path: str) -> NodeKeys:
     if parser.sections() != [SECTION]:
         raise ConfigFault(f"{path}: it has one section, [{SECTION}]")
     keys: NodeKeys = read_section(NodeKeys, SECTION, dict(parser[SECTION]))
+    if keys.login not in LOGINS:
+        raise ConfigFault(f"{path}: login = {keys.login}: none of {', '.join(LOGINS)}")
     return keys
 
 
@@ -61,6 +64,7 @@ def own_node_keys(jobs: JobKeys, folder: str, open_files: int) -> str:
         stop=jobs.stop,
         least_uid=jobs.least_uid,
         shell=jobs.shell,
+        login=jobs.login,
         grace=jobs.grace,
         free_bytes=0,  # the site's own bound stands before it
         cgroup=jobs.cgroup,

@@ -10,7 +10,7 @@
                      runner    the process of the runner
                      started   the process of the script
                      waiting   becomes `going` before the script may run
-                     exit      how the script ended, when, and what it used; or why it hasn't run
+                     exit      how the script ended, when, what it used, and what ended it; or why it hasn't run
                      log       the first of what went wrong before the script had its own files
 
 So a run that has a `nonce` isn't started; one that has none and whose lock is held runs; and where the lock is free no runner is

@@ -265,9 +265,8 @@ class Work:
         return {"answer": "failed", "why": why} if why else {"answer": "done"}
 
     def may_write(self, job: str) -> bool:
-        """Whether a message is for a script that runs, or that never ran."""
-        state = self.store.state(job)
-        return bool(state["state"] == RUNS or "unrun" in state)
+        """Whether a message is for a script that runs, or says why one has ended."""
+        return self.store.state(job)["state"] in (RUNS, ENDED, LOST)
 
     def forget(self, request: Dict[str, Any], body: bytes) -> Answer:
         """Removes what is here of a run that has ended; of another of its name nothing."""

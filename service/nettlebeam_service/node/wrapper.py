@@ -12,7 +12,9 @@ import shlex
 from typing import Any, Dict, List, NamedTuple, Sequence
 
 from ..words.resources import read_chunks, times_of
-from .job_files import OF_THE_RUN, interpreter_words, more_exports, placed, shown_id, slurm_exports, variables_text
+from .job_files import OF_THE_RUN, interpreter_of, more_exports, placed, shown_id, variables_text
+from .job_slurm import HOST_FILES, mpi_text, slurm_exports
+from .login_shell import login_texts, reader_of
 from .job_start import UNWRITABLE
 
 PATH = "/usr/local/bin:/usr/bin:/bin"
@@ -56,6 +58,7 @@ TEXT = """\
 {ready}
 PBS_NODEFILE=$nodes
 export PBS_NODEFILE
+{mpi}
 {exports}
 umask {umask}
 {change}
@@ -67,6 +70,7 @@ then
     cd || cd /
     (: > {out} && : > {err}) || {{ rm -rf "$TMPDIR"; exit {unwritable}; }}
 fi
+{keep}
 echo {word}
 read -r answer && [ "$answer" = go ] || {{ rm -rf "$TMPDIR"; exit 255; }}
 exec < /dev/null >> {out} 2>> {err}
@@ -80,9 +84,11 @@ trap : HUP INT QUIT USR1 USR2 ALRM TERM
 set -- {shell} "$script"
 {without_execution}
 {interpreter}
+{words}
+{login}
 (
-{variables}
-exec "$@" {words}
+{own_variables}
+exec "$@"
 )
 status=$?
 cd /
@@ -120,7 +126,7 @@ def exports_of(job: str, order: Order) -> Dict[str, str]:
         "PBS_O_QUEUE": str(facts.get("queue") or QUEUE),
         "PBS_QUEUE": str(facts.get("queue") or QUEUE),
         **more_exports(order["nodes"], facts),
-        **slurm_exports(job, order["name"], order["nodes"], facts),
+        **slurm_exports(job, order["name"], order["hosts"], facts),
         **named,
     }
 
@@ -137,17 +143,25 @@ def change_of(folder: str) -> str:
 
 
 class Way(NamedTuple):
-    """How an owner's shell gets what the run's folder has: shown there, or carried after the text; and the word that it says."""
+    """How an owner's shell gets what the run's folder has: shown there, or carried after the text; the word that it says; and
+    whether a login shell is before the script."""
 
     own: str
     word: str
     is_shown: bool
+    is_login: bool
 
 
 def text_of(job: str, order: Order, hosts: bytes, shell: str, script: bytes, way: Way) -> str:
     """The text for the shell that runs a job. A script that names its program itself is started by that."""
     facts, exports = order["facts"], exports_of(job, order)
-    carried = 0 if way.is_shown else len(hosts) + len(script)
+    variables = variables_text(facts, (*exports, *OF_THE_RUN, *HOST_FILES))
+    chosen = interpreter_of(facts, order["hosts"][0])
+    keep, login, own_variables = ":", ":", variables
+    if way.is_login:
+        reader = reader_of(chosen or named_words(script), shell)
+        keep, login, own_variables = login_texts(way.word, umask_of(facts), variables, reader)
+    carried = (0 if way.is_shown else len(hosts) + len(script)) + (len(os.fsencode(keep)) if way.is_login else 0)
     return TEXT.format(
         **files_of(job, order),
         is_other=other_than_this(order["owner"]),
@@ -160,8 +174,11 @@ def text_of(job: str, order: Order, hosts: bytes, shell: str, script: bytes, way
         words=script_words(facts),
         shell="" if script.startswith(b"#!") else shlex.quote(shell),
         without_execution=without_execution(script),
-        variables=variables_text(facts, (*exports, *OF_THE_RUN)),
-        interpreter=interpreter_words(facts, order["hosts"][0]),
+        mpi=mpi_text(),
+        keep=keep,
+        login=login,
+        own_variables=own_variables,
+        interpreter=f'set -- {" ".join(map(shlex.quote, chosen))} "$script"' if chosen else ":",
     )
 
 
@@ -179,11 +196,18 @@ def other_than_this(owner: str) -> str:
 
 
 def script_words(facts: Dict[str, Any]) -> str:
-    """The words that a job's script is called with."""
+    """What gives a job's script the words that it is called with."""
     try:
-        return " ".join(map(shlex.quote, shlex.split(str(facts.get("script_words", "")))))
+        words = shlex.split(str(facts.get("script_words", "")))
     except ValueError:
-        return ""  # no utility submits such words
+        words = []  # no utility submits such words
+    return f'set -- "$@" {" ".join(map(shlex.quote, words))}' if words else ":"
+
+
+def named_words(script: bytes) -> List[str]:
+    """The program that a script's first line names, and what stands after it as one word; none if it names none."""
+    line = script.partition(b"\n")[0]
+    return os.fsdecode(line[2:LONGEST_FIRST_LINE]).strip().split(None, 1) if line.startswith(b"#!") else []
 
 
 def without_execution(script: bytes) -> str:
@@ -191,8 +215,7 @@ def without_execution(script: bytes) -> str:
     that is mounted so. The kernel takes what stands behind the program as one word."""
     if not script.startswith(b"#!"):
         return ":"
-    words = os.fsdecode(script.partition(b"\n")[0][2:LONGEST_FIRST_LINE]).strip().split(None, 1)
-    named = " ".join(map(shlex.quote, words))
+    named = " ".join(map(shlex.quote, named_words(script)))
     why = "nothing may be executed in ${script%/*} (noexec), so the script is started by the program that its first line names"
     return f'[ -x "$script" ] || {{ echo "nettlebeam: {why}" >&2; set -- {named} "$script"; }}'
 
