@@ -16,6 +16,7 @@ start = env NODE={host}
 least_uid = 0
 grace = 4
 free_bytes = 65536
+login = no
 """
 SCRIPT = "echo $NODE $PBS_JOBID $(cat $PBS_NODEFILE) >> {ran}\nsleep {seconds}\nexit {status}\n"
 

@@ -106,6 +106,11 @@ def as_told(line):
     return front + "}" if mark else line
 
 
+def with_login(jobs):
+    """The settings of jobs, without a login shell unless they say so: what the profile of who plays this does is no part of a scene."""
+    return jobs if "login = " in jobs else f"login = no\n{jobs}"
+
+
 class ServedSite:
     """A site with its service."""
 
@@ -126,7 +131,7 @@ class ServedSite:
         folder = self.federation.folder
         site = site.format(home=self.home)
         text = CONFIG.format(
-            home=self.home, folder=folder, name=self.name, program=program, jobs=jobs, operators=operators, admins=admins, site=site
+            home=self.home, folder=folder, name=self.name, program=program, jobs=with_login(jobs), operators=operators, admins=admins, site=site
         )
         for peer in (entry.split(":")[0] for entry in roster):
             if peer != self.name and (self.federation.has_links or self.federation.folders):
