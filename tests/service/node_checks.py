@@ -58,7 +58,8 @@ def far_checks(tally, federation):
     status, told = checked(f"{SERVICE}/nettlebeamd", "--check", site.config, ME)
     tally.same("a node whose start fails, and one that can't be asked", (status, f"n1: no job of {ME} would start" in told, "n2: it can't be asked: no route" in told), (2, True, True))
     tally.same("and none that is right", f"n3: no job of {ME}" in told, False)
-    write(site.config, "".join(line for line in read(site.config).splitlines(True) if not line.startswith(("link", "health", "retry"))) + "start = nice -n 5\n")
+    kept = "".join(line for line in read(site.config).splitlines(True) if not line.startswith(("link", "health", "retry")))
+    write(site.config, kept.replace("[jobs]\n", "[jobs]\nstart = nice -n 5\n"))
     status, told = checked(f"{SERVICE}/nettlebeamd", "--check", site.config)
     tally.same(f"a start that changes no user: {told!r}", (status, "[jobs] start = nice -n 5: it has no {user}" in told), (2, True))
 
