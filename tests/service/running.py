@@ -175,7 +175,7 @@ def profiles(tally, federation):
     """Scripts run behind a login shell of their owner; whatever a profile does, each runs once, and its output has nothing of it."""
     folder = f"{federation.folder}/its"
     os.mkdir(folder)
-    (site,) = federation.make("argonne:4", jobs=f"start = env HOME={folder}\nleast_uid = 0\nlogin = yes")
+    (site,) = federation.make("argonne:4", jobs=f"start = env HOME={folder} TMPDIR={folder}\nleast_uid = 0\nlogin = yes")
 
     def profile(text):
         with open(f"{folder}/.bash_profile", "w", encoding="ascii") as file:
